@@ -145,12 +145,11 @@ pub record Steps (p : Place) (n : ℕ) (outcome : Outcome) (q : Place) : Type 0 
   pub steps : StepsTo p n hand outcome q
   pub fits : length q.journal ≤ MAX_ENTRIES
 
--- it hasn't, with memory for the step, so that nothing is changed
+-- it hasn't: one of the outcomes that the step may have, want of memory among them, enters more than there is room for; nothing is changed
 pub record LacksRoom (p : Place) (n : ℕ) : Type 0 where
   pub hand : Hand
   pub in_hand : p.hands n ≡ Some hand
   pub outcome : Outcome
-  pub not_memory : outcome ≢ Ended (replies.Refused refusals.Memory)
   pub further : Place
   pub steps : StepsTo p n hand outcome further
   pub past : MAX_ENTRIES < length further.journal

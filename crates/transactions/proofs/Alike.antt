@@ -1,12 +1,11 @@
 -- Pages with the same statuses and tables show alike.
-use Rattle.std.proofs.Common.{◌≡◌, ◌≢◌, ℕ, ◌<◌, List, [], length, Some, sym, ap, subst, ◌∙◌, arith}
+use Rattle.std.proofs.Common.{◌≡◌, ◌≢◌, ℕ, ◌<◌, List, [], length, Some, sym, ap, subst, ◌∙◌}
 use Rattle.std.proofs.lemmas.List.FromFn.{fill_by_all, length-map-range_with_len}
 use Rattle.block_model.specs.declared.row.RowId.{RowId}
 use Rattle.block_model.specs.DatabaseState.{DatabaseState}
 use Rattle.store_layout.specs.DiskLayout.{DiskLayout}
 use Rattle.page_store.specs.PageMap.{PageMap, block_at}
 use Rattle.heap_rows.specs.Heaps.{relation_of}
-use Rattle.snapshot_core.specs.declared.statuses.Status.{Status}
 use Rattle.snapshot_core.specs.declared.statuses.Status.TheVariants.{Unused}
 use Rattle.row_versions.specs.declared.table.Version.{Version}
 use Rattle.row_versions.specs.StoredVersions.{AreVersions, stored}

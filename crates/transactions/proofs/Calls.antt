@@ -25,11 +25,11 @@ use Rattle.snapshot_core.specs.declared.statuses.Status.TheVariants.{Unused, Beg
 use Rattle.row_versions.specs.declared.table.Version.{Version}
 use Rattle.row_versions.specs.declared.sessions.Open.{Open}
 use Rattle.row_versions.specs.SessionChanges.{ended}
-use Rattle.row_versions.specs.StoredVersions.{AreVersions, IsStored, stored, transaction_of}
+use Rattle.row_versions.specs.StoredVersions.{IsStored, stored, transaction_of}
 use Rattle.row_versions.specs.VisibleState.{all_versions, status_of, visible_state, visible_transaction}
 use Rattle.row_versions.proofs.Begins.{begun_effect, begun_stored, new_open}
 use Rattle.row_versions.proofs.Copies.{Becomes, becomes, get_open, get_visible, rewritten, still_all}
-use Rattle.row_versions.proofs.Ends.{committed_effect, ended_not_begun, ended_stored, rolled_effect}
+use Rattle.row_versions.proofs.Ends.{committed_effect, ended_stored, rolled_effect}
 use Rattle.heap_versions.specs.ShownVersions.{shown_tables}
 use Rattle.heap_versions.proofs.Tables.{own_table}
 use Rattle.tx_table.specs.Durable.{HasPart, IsBefore}

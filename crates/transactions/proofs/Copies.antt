@@ -1,7 +1,7 @@
 -- What a session has in its copy of the tables.
-use Rattle.std.proofs.Common.{◌≡◌, ◌≢◌, Bool, true, false, cond, not, ◌&&◌, ℕ, ◌<◌, List, length, Option, None, Some, refl, sym, ap, subst, ◌∙◌, arith}
+use Rattle.std.proofs.Common.{◌≡◌, ◌≢◌, Bool, true, false, cond, ℕ, ◌<◌, List, length, Option, None, Some, refl, sym, ap, subst, ◌∙◌, arith}
 use Rattle.std.specs.Option.{is_some, option_map}
-use Rattle.std.specs.FinMap.{contains_key, get}
+use Rattle.std.specs.FinMap.{get}
 use Rattle.std.proofs.lemmas.Map.Entries.{option_filter}
 use Rattle.block_model.specs.declared.place.Spot.{Spot}
 use Rattle.block_model.specs.declared.row.Row.{Row}
@@ -11,7 +11,6 @@ use Rattle.store_layout.specs.DiskLayout.{DiskLayout}
 use Rattle.page_layout.specs.PageContents.{Slot}
 use Rattle.page_layout.specs.RowBytes.{StoredRow}
 use Rattle.page_store.specs.PageMap.{PageMap}
-use Rattle.heap_rows.specs.HeapBlocks.{HasBlocks}
 use Rattle.heap_rows.specs.RowPlaces.{slot_at}
 use Rattle.snapshot_core.specs.declared.statuses.Status.{Status}
 use Rattle.snapshot_core.specs.declared.statuses.Status.TheVariants.{Unused}
@@ -20,7 +19,7 @@ use Rattle.row_versions.specs.declared.table.Version.{Version}
 use Rattle.row_versions.specs.declared.sessions.Open.{Open}
 use Rattle.row_versions.specs.StoredVersions.{stored, transaction_of}
 use Rattle.row_versions.specs.VersionsState.{standing_of}
-use Rattle.row_versions.specs.VisibleState.{is_seen, status_of, table_of, visible_state, visible_transaction}
+use Rattle.row_versions.specs.VisibleState.{is_seen, table_of, visible_transaction}
 use Rattle.row_versions.proofs.Stored.{get-table_of, row_of as its_row, stored_id}
 use Rattle.row_versions.proofs.Copies.{get_open, get_visible, is_idle}
 use Rattle.row_versions.proofs.Conflicts.{its_open}
@@ -30,7 +29,7 @@ use Rattle.transactions.specs.GivenStatuses.{given_status, given_statuses}
 use Rattle.transactions.specs.Laws.{IsOfTransactions, IsSeenInCopy}
 use Rattle.transactions.specs.Sessions.{HaveTransactions, IsCopyOf, open_standing}
 use Rattle.transactions.specs.ShowsDatabase.{ShowsDatabase}
-use Rattle.transactions.specs.StoredRows.{StandsAt, StandsOnce, row_of, sees_row}
+use Rattle.transactions.specs.StoredRows.{StandsAt, StandsOnce, sees_row}
 use Rattle.transactions.specs.TransactionsState.{TransactionsState}
 use Rattle.transactions.proofs.Given.{length_given, status_given}
 use Rattle.transactions.proofs.Marks.{row_stored}

@@ -1,5 +1,5 @@
 -- Whose rows count, as transactions begin, end and fail.
-use Rattle.std.proofs.Common.{◌≡◌, ◌≢◌, Bool, true, false, cond, not, ◌&&◌, ◌||◌, eqb, ltb, ℕ, zero, suc, ◌+◌, ◌<◌, List, [], ◌∷◌, length, get_or, set, Option, None, Some, inl, inr, refl, sym, ap, subst, ◌∙◌, arith, eq-eqb, eqb-true}
+use Rattle.std.proofs.Common.{◌≡◌, ◌≢◌, Bool, true, false, cond, not, ◌&&◌, ◌||◌, eqb, ltb, ℕ, zero, suc, ◌+◌, ◌<◌, List, [], ◌∷◌, length, get_or, set, Option, None, Some, inl, inr, refl, sym, ap, subst, ◌∙◌, arith, eq-eqb}
 use Rattle.std.proofs.Math.Bool.{and-false}
 use Rattle.std.specs.List.{list_any}
 use Rattle.std.specs.Ordering.{eq_by_cmp, nat_cmp}
@@ -11,22 +11,21 @@ use Rattle.store_layout.specs.DiskLayout.{DiskLayout}
 use Rattle.page_layout.specs.RowBytes.{StoredRow}
 use Rattle.page_store.specs.PageMap.{PageMap}
 use Rattle.snapshot_core.specs.declared.statuses.Status.{Status}
-use Rattle.snapshot_core.specs.declared.statuses.Status.TheVariants.{Begun, Committed, RolledBack}
-use Rattle.snapshot_core.specs.Visibility.{had_ended, has_done, in_snapshot, is_committed}
+use Rattle.snapshot_core.specs.declared.statuses.Status.TheVariants.{Begun, RolledBack}
+use Rattle.snapshot_core.specs.Visibility.{had_ended, has_done, is_committed}
 use Rattle.row_versions.specs.declared.sessions.Open.{Open}
 use Rattle.row_versions.specs.SessionChanges.{ended, failed_open, with_next_k}
-use Rattle.row_versions.specs.StoredVersions.{IsStored, transaction_of}
-use Rattle.row_versions.proofs.Choices.{same_number}
+use Rattle.row_versions.specs.StoredVersions.{transaction_of}
 use Rattle.row_versions.proofs.Copies.{becomes, same_numbers}
 use Rattle.row_versions.proofs.Ends.{ended_not_begun}
 use Rattle.tx_table.specs.Statuses.{HasStatuses, after_stop, number_limit}
 use Rattle.transactions.specs.CountedRows.{counts, goes_on}
-use Rattle.transactions.specs.GivenStatuses.{given_status, given_statuses}
+use Rattle.transactions.specs.GivenStatuses.{given_status}
 use Rattle.transactions.specs.ShowsDatabase.{ShowsDatabase}
 use Rattle.transactions.specs.StoredRows.{sees_row}
 use Rattle.transactions.specs.TransactionsState.{TransactionsState, next_open, with_begun, with_failed, with_open, with_row_counted}
 use Rattle.transactions.proofs.Given.{ended_stays, given_changed, given_other}
-use Rattle.transactions.proofs.Shown.{IsOpenOne, one_list_shown, open_one, versions_on_pages, whole}
+use Rattle.transactions.proofs.Shown.{IsOpenOne, one_list_shown, open_one, whole}
 
 -- ---- some of a list
 

@@ -1,12 +1,11 @@
 -- A session's transaction that fails.
-use Rattle.std.proofs.Common.{◌≡◌, ℕ, List, set, Option, None, Some, IfSome, refl, sym, ap, subst, ◌∙◌}
+use Rattle.std.proofs.Common.{◌≡◌, ℕ, set, Option, Some, IfSome, refl, ap, subst, ◌∙◌}
 use Rattle.std.specs.FinMap.{get}
 use Rattle.block_model.specs.declared.request.Request.{Request}
 use Rattle.block_model.specs.declared.request.Request.TheVariants as requests
 use Rattle.block_model.specs.declared.request.Tag.{Tag}
 use Rattle.block_model.specs.declared.request.Tag.TheVariants as tags
 use Rattle.block_model.specs.declared.row.Query.{Query}
-use Rattle.block_model.specs.declared.value.Value.{Value}
 use Rattle.block_model.specs.DatabaseState.{DatabaseState, OpenTransaction}
 use Rattle.block_model.specs.RequestEffect as model
 use Rattle.statements.specs.StatementRequests.{request_entry, tagged_entry}

@@ -1,5 +1,5 @@
 -- What a scan found, in order of ids.
-use Rattle.std.proofs.Common.{◌≡◌, ◌≢◌, Bool, true, false, cond, not, ◌&&◌, ◌||◌, T, eqb, ℕ, zero, suc, ◌+◌, ◌<◌, ◌≤◌, List, [], ◌∷◌, ◌++◌, map, length, get_or, Option, None, Some, Ordering, ◌⊎◌, inl, inr, refl, sym, ap, subst, ◌∙◌, arith, eqb-true, All, IsPermutation, IsSorted}
+use Rattle.std.proofs.Common.{◌≡◌, ◌≢◌, Bool, true, false, cond, ◌&&◌, ◌||◌, T, eqb, ℕ, ◌+◌, ◌<◌, ◌≤◌, List, [], ◌∷◌, ◌++◌, map, length, get_or, Option, None, Some, ◌⊎◌, inl, inr, refl, sym, ap, subst, ◌∙◌, arith, eqb-true, All, IsPermutation, IsSorted}
 use Rattle.std.specs.declared.cmp.Ordering.TheVariants.{Less, Equal, Greater}
 use Rattle.std.specs.List.{AllByRecursion, IsDistinct, filter, list_any}
 use Rattle.std.specs.List.Sorted.{IsStrictlySortedBy}
@@ -11,14 +11,13 @@ use Rattle.std.specs.FinMap.Entries.{below_all}
 use Rattle.std.proofs.lemmas.Bool.{false≢true, true≢false}
 use Rattle.std.proofs.lemmas.List.{get_or-map, length-map}
 use Rattle.std.proofs.lemmas.List.Elements.{All-head, All-tail}
-use Rattle.std.proofs.lemmas.List.Sorted.{All-permutation, IsPermutation-cons, IsPermutation-map, IsPermutation-middle, IsPermutation-refl, IsPermutation-sym, IsPermutation-trans, list_any-IsPermutation}
+use Rattle.std.proofs.lemmas.List.Sorted.{IsPermutation-cons, IsPermutation-map, IsPermutation-middle, IsPermutation-refl, IsPermutation-sym, IsPermutation-trans}
 use Rattle.std.proofs.lemmas.Map.Entries.{option_filter}
 use Rattle.std.proofs.lemmas.Map.Keys.{IsDistinct-IsPermutation, IsDistinct-head, IsDistinct-tail, apart_from_distinct, sorted_from_all_adjacent, sorted_head, sorted_tail}
 use Rattle.block_model.specs.declared.place.Spot.{Spot}
 use Rattle.block_model.specs.declared.row.Query.{Query}
 use Rattle.block_model.specs.declared.row.Row.{Row}
 use Rattle.block_model.specs.declared.row.RowId.{RowId}
-use Rattle.block_model.specs.RowMatches.{row_matches}
 use Rattle.block_model.specs.TableState.{id_cmp, id_ties_itself, ids_total}
 use Rattle.page_layout.specs.PageContents.{Slot}
 use Rattle.page_layout.specs.RowBytes.{StoredRow}
@@ -27,11 +26,10 @@ use Rattle.row_versions.specs.declared.table.Version.{Version}
 use Rattle.row_versions.specs.StoredVersions.{stored}
 use Rattle.row_versions.specs.VisibleState.{table_of}
 use Rattle.row_versions.proofs.Choices.{both, same_id}
-use Rattle.row_versions.proofs.Stored.{AreDistinct, distinct-filter, ids, stored-filter, stored_id}
+use Rattle.row_versions.proofs.Stored.{AreDistinct, distinct-filter, ids, stored-filter}
 use Rattle.row_versions.proofs.Among.{puts_new}
 use Rattle.row_versions.proofs.Listed.{AreInOrder, found_rows, rows_by_id, rows_of}
 use Rattle.transactions.specs.FoundRows.{Ascend, IsFoundThere, is_found}
-use Rattle.transactions.specs.StoredRows.{row_of}
 
 -- ---- lists of versions that are found alike
 

@@ -13,3 +13,4 @@ pub mod Found
 pub mod Scans
 pub mod Calls
 pub mod Openings
+pub mod Parts

@@ -2,29 +2,26 @@
 use Rattle.std.proofs.Common.{◌≡◌, ◌≢◌, Bool, true, false, cond, not, ◌&&◌, eqb, ℕ, ◌<◌, List, [], ◌∷◌, ◌++◌, length, set, Option, None, Some, inl, inr, refl, sym, ap, subst, ◌∙◌}
 use Rattle.std.specs.List.{flat_map}
 use Rattle.std.specs.Option.{is_some}
-use Rattle.std.specs.FinMap.{contains_key, get}
+use Rattle.std.specs.FinMap.{contains_key}
 use Rattle.std.proofs.lemmas.Map.Entries.{option_filter}
 use Rattle.block_model.specs.declared.place.Spot.{Spot}
 use Rattle.block_model.specs.declared.request.Request.TheVariants as requests
-use Rattle.block_model.specs.declared.row.RowId.{RowId}
 use Rattle.block_model.specs.DatabaseState.{DatabaseState, OpenTransaction}
 use Rattle.block_model.specs.RequestEffect as model
 use Rattle.statements.specs.StatementRequests.{request_entry}
 use Rattle.store_layout.specs.DiskLayout.{DiskLayout}
-use Rattle.page_layout.specs.PageContents.{Slot}
 use Rattle.page_layout.specs.PageWrites.{marked}
 use Rattle.page_layout.specs.RowBytes.{StoredRow}
 use Rattle.page_store.specs.PageMap.{PageMap}
-use Rattle.heap_rows.specs.HeapBlocks.{HasBlocks}
-use Rattle.heap_rows.specs.RowPlaces.{slot_at, with_slot}
+use Rattle.heap_rows.specs.RowPlaces.{with_slot}
 use Rattle.snapshot_core.specs.declared.statuses.Status.{Status}
 use Rattle.snapshot_core.specs.declared.statuses.Status.TheVariants.{Unused}
 use Rattle.row_versions.specs.declared.table.Version.{Version}
 use Rattle.row_versions.specs.declared.sessions.Open.{Open}
 use Rattle.row_versions.specs.Marks.{conflicts, holds, with_deleter}
 use Rattle.row_versions.specs.SessionChanges.{failed_open}
-use Rattle.row_versions.specs.StoredVersions.{stored, transaction_of}
-use Rattle.row_versions.specs.VisibleState.{is_seen, status_of, visible_state, visible_transaction}
+use Rattle.row_versions.specs.StoredVersions.{stored}
+use Rattle.row_versions.specs.VisibleState.{is_seen, visible_transaction}
 use Rattle.row_versions.proofs.Stored.{AreDistinct, Puts, get-table_of, row_of, stored_after}
 use Rattle.row_versions.proofs.Among.{puts_deleter}
 use Rattle.row_versions.proofs.Copies.{get_open}

@@ -1,18 +1,16 @@
 -- What an opened store shows.
-use Rattle.std.proofs.Common.{◌≡◌, ◌≢◌, Bool, true, false, cond, not, ◌&&◌, eqb, ltb, ltb-false, ℕ, zero, suc, ◌<◌, ◌≤◌, List, [], ◌∷◌, length, map, replicate, Option, None, Some, inl, inr, refl, sym, ap, subst, ◌∙◌, arith}
+use Rattle.std.proofs.Common.{◌≡◌, ◌≢◌, Bool, true, false, cond, not, ◌&&◌, eqb, ltb, ltb-false, ℕ, zero, suc, ◌<◌, List, [], ◌∷◌, length, replicate, Option, None, Some, inl, inr, refl, sym, ap, subst, ◌∙◌, arith}
 use Rattle.std.specs.Cmp.{nat_cmp_total}
-use Rattle.std.specs.FinMap.{empty, get, get-empty, nat_cmp-IsAntisymmetric, same_map}
-use Rattle.std.specs.List.{range_with_len}
+use Rattle.std.specs.FinMap.{empty, get-empty, nat_cmp-IsAntisymmetric, same_map}
 use Rattle.std.specs.Option.{option_map}
 use Rattle.std.specs.Ordering.{nat_cmp}
-use Rattle.std.proofs.lemmas.Bool.{cases_eq, cases_lt, false≢true}
+use Rattle.std.proofs.lemmas.Bool.{cases_eq}
 use Rattle.std.proofs.lemmas.List.{length-replicate, get_or-replicate}
 use Rattle.std.proofs.lemmas.List.FromFn.{fill_by_all}
-use Rattle.block_model.specs.declared.row.RowId.{RowId}
 use Rattle.block_model.specs.DatabaseState.{DatabaseState, initial_state}
 use Rattle.statements.specs.declared.limits.TheConstants.{MAX_SESSIONS}
 use Rattle.store_layout.specs.DiskLayout.{DiskLayout}
-use Rattle.page_layout.specs.PageContents.{IsUnstarted, Slot}
+use Rattle.page_layout.specs.PageContents.{IsUnstarted}
 use Rattle.page_store.specs.PageMap.{PageMap, block_at}
 use Rattle.heap_rows.specs.Heaps.{relation_of}
 use Rattle.heap_rows.specs.HeapBlocks.{HasBlocks}
@@ -21,8 +19,7 @@ use Rattle.snapshot_core.specs.declared.statuses.Status.TheVariants.{Unused, Beg
 use Rattle.snapshot_core.specs.Visibility.{is_committed}
 use Rattle.row_versions.specs.declared.table.Version.{Version}
 use Rattle.row_versions.specs.declared.sessions.Open.{Open}
-use Rattle.row_versions.specs.Marks.{holds}
-use Rattle.row_versions.specs.StoredVersions.{AreVersions, IsKnown, IsStored, stored, transaction_of}
+use Rattle.row_versions.specs.StoredVersions.{IsStored, stored, transaction_of}
 use Rattle.row_versions.specs.VisibleState.{all_versions, is_of_commit, status_of, table_of, visible_sessions, visible_state, visible_transaction}
 use Rattle.row_versions.proofs.Copies.{get_visible}
 use Rattle.row_versions.proofs.Fresh.{empty_state, new_versions}

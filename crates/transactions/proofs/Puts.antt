@@ -1,8 +1,7 @@
 -- A row that a session's transaction puts.
-use Rattle.std.proofs.Common.{◌≡◌, ◌≢◌, ℕ, ◌+◌, ◌<◌, List, [], ◌∷◌, ◌++◌, length, set, Option, None, Some, inl, inr, refl, sym, ap, subst, ◌∙◌, arith}
+use Rattle.std.proofs.Common.{◌≡◌, ◌≢◌, ℕ, ◌+◌, ◌<◌, List, [], ◌∷◌, ◌++◌, length, set, None, Some, inl, inr, refl, sym, ap, subst, ◌∙◌, arith}
 use Rattle.std.specs.List.{flat_map}
 use Rattle.std.proofs.lemmas.Bool.{cases_eq}
-use Rattle.block_model.specs.declared.place.Place.{Place}
 use Rattle.block_model.specs.declared.place.Spot.{Spot}
 use Rattle.block_model.specs.declared.request.Request.TheVariants as requests
 use Rattle.block_model.specs.declared.row.RowId.{RowId}
@@ -16,9 +15,7 @@ use Rattle.page_layout.specs.RowBytes.{StoredRow}
 use Rattle.page_store.specs.PageMap.{PageMap, block_at}
 use Rattle.heap_rows.specs.Heaps.{relation_of, slots_a_page}
 use Rattle.heap_rows.specs.HeapBlocks.{HasBlocks}
-use Rattle.heap_rows.specs.RowPlaces.{FillsSlot, TakesRowAt, new_row, with_row}
-use Rattle.snapshot_core.specs.declared.statuses.Status.{Status}
-use Rattle.snapshot_core.specs.declared.statuses.Status.TheVariants.{Unused}
+use Rattle.heap_rows.specs.RowPlaces.{new_row, with_row}
 use Rattle.row_versions.specs.declared.table.Version.{Version}
 use Rattle.row_versions.specs.declared.sessions.Open.{Open}
 use Rattle.row_versions.specs.SessionChanges.{with_next_k}
@@ -27,7 +24,7 @@ use Rattle.row_versions.proofs.Stored.{AreDistinct, Puts, stored_after}
 use Rattle.row_versions.proofs.Among.{puts_new}
 use Rattle.row_versions.proofs.Copies.{Becomes, rewritten, still_all}
 use Rattle.row_versions.proofs.Puttings.{new_is_absent, new_version, put_effect, put_stored}
-use Rattle.heap_versions.specs.ShownVersions.{shown_tables, version_of, versions_of_table, versions_on}
+use Rattle.heap_versions.specs.ShownVersions.{version_of, versions_of_table, versions_on}
 use Rattle.heap_versions.proofs.Changes.{swaps_put}
 use Rattle.heap_versions.proofs.Puts.{swaps_table}
 use Rattle.heap_versions.proofs.Swaps.{Swaps}

@@ -1,6 +1,6 @@
 -- The rows that a scan found are those that the query finds in the session's copy.
-use Rattle.std.proofs.Common.{◌≡◌, Bool, true, false, ◌&&◌, eqb, ℕ, ◌<◌, List, map, length, Option, None, Some, refl, sym, ap, subst, ◌∙◌, eqb-true, All, IsPermutation, IsSorted}
-use Rattle.std.specs.List.{IsDistinct, filter, list_any}
+use Rattle.std.proofs.Common.{◌≡◌, Bool, true, false, ◌&&◌, eqb, ℕ, ◌<◌, List, map, length, Some, refl, sym, ap, subst, ◌∙◌, eqb-true, All, IsPermutation, IsSorted}
+use Rattle.std.specs.List.{filter, list_any}
 use Rattle.std.specs.Cmp.{eq_by_cmp_equiv}
 use Rattle.std.specs.Ordering.{eq_by_cmp}
 use Rattle.std.specs.FinMap.{get, values}
@@ -34,7 +34,7 @@ use Rattle.tx_table.specs.Statuses.{HasStatuses}
 use Rattle.transactions.specs.FoundRows.{AreFound, IsFoundThere}
 use Rattle.transactions.specs.GivenStatuses.{given_statuses}
 use Rattle.transactions.specs.ShowsDatabase.{ShowsDatabase}
-use Rattle.transactions.specs.StoredRows.{StandsAt, row_of, sees_row}
+use Rattle.transactions.specs.StoredRows.{row_of, sees_row}
 use Rattle.transactions.specs.TransactionsState.{TransactionsState}
 use Rattle.transactions.proofs.Copies.{copy_is, sees_as}
 use Rattle.transactions.proofs.Found.{HasVersion, distinct_found, found_id, row_ids, rows_in_order}

@@ -1,6 +1,5 @@
 -- What is known of pages, numbers and open transactions that show a database.
-use Rattle.std.proofs.Common.{◌≡◌, ◌≢◌, ℕ, ◌+◌, ◌<◌, ◌≤◌, false, true, ltb, List, length, Option, None, Some, refl, sym, ap, subst, ◌∙◌, arith, ltb-false}
-use Rattle.block_model.specs.declared.place.Place.{Place}
+use Rattle.std.proofs.Common.{◌≡◌, ◌≢◌, ℕ, ◌<◌, List, length, Some, sym, ap, subst, ◌∙◌, arith, ltb-false}
 use Rattle.block_model.specs.DatabaseState.{DatabaseState}
 use Rattle.store_layout.specs.DiskLayout.{DiskLayout}
 use Rattle.page_layout.specs.PageContents.{HasSlots, IsUnstarted, Slot}
@@ -9,15 +8,13 @@ use Rattle.heap_rows.specs.Heaps.{form_at, relation_of}
 use Rattle.heap_rows.specs.HeapBlocks.{HasBlocks, slots_of}
 use Rattle.snapshot_core.specs.declared.statuses.Status.{Status}
 use Rattle.snapshot_core.specs.declared.statuses.Status.TheVariants.{Unused, Begun}
-use Rattle.snapshot_core.specs.Visibility.{is_committed}
 use Rattle.row_versions.specs.declared.table.Version.{Version}
 use Rattle.row_versions.specs.declared.sessions.Open.{Open}
-use Rattle.row_versions.specs.Marks.{holds}
-use Rattle.row_versions.specs.StoredVersions.{IsStored, IsUnderWay, transaction_of}
+use Rattle.row_versions.specs.StoredVersions.{IsStored, transaction_of}
 use Rattle.row_versions.specs.VisibleState.{all_versions, status_of, visible_state}
 use Rattle.row_versions.proofs.Sights.{begun_known}
 use Rattle.heap_versions.specs.ShownVersions.{shown_tables}
-use Rattle.tx_table.specs.Statuses.{HasStatuses, number_limit}
+use Rattle.tx_table.specs.Statuses.{HasStatuses}
 use Rattle.tx_table.specs.TxState.{IsOwn}
 use Rattle.tx_table.proofs.Pages.{statuses_one}
 use Rattle.transactions.specs.GivenStatuses.{given_status, given_statuses}

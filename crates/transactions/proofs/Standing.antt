@@ -1,9 +1,9 @@
 -- Where the versions that are stored stand.
-use Rattle.std.proofs.Common.{◌≡◌, ◌≢◌, Bool, true, false, cond, ℕ, zero, suc, ◌+◌, ◌<◌, List, [], ◌∷◌, ◌++◌, length, get_or, set, Option, None, Some, ◌⊎◌, inl, inr, refl, sym, ap, subst, ◌∙◌, arith}
+use Rattle.std.proofs.Common.{◌≡◌, ◌≢◌, Bool, true, false, cond, ℕ, suc, ◌<◌, List, [], ◌∷◌, ◌++◌, length, get_or, set, None, Some, ◌⊎◌, inl, inr, refl, sym, ap, subst, ◌∙◌, arith}
 use Rattle.std.specs.List.{AllByRecursion, flat_map}
 use Rattle.std.specs.Cmp.{eq_by_cmp_equiv}
 use Rattle.std.specs.Ordering.{eq_by_cmp}
-use Rattle.std.proofs.lemmas.Bool.{cases_eq, cases_lt, true≢false}
+use Rattle.std.proofs.lemmas.Bool.{cases_eq, true≢false}
 use Rattle.std.proofs.lemmas.List.{append-nil, get_or-set_same, length-set}
 use Rattle.std.proofs.lemmas.List.Sorted.{IsPermutation-map, IsPermutation-middle}
 use Rattle.std.proofs.lemmas.Map.Keys.{IsDistinct-IsPermutation, IsDistinct-head}
@@ -21,12 +21,11 @@ use Rattle.heap_rows.specs.RowPlaces.{slot_at, with_slot}
 use Rattle.heap_rows.proofs.Spots.{mark_slot}
 use Rattle.heap_rows.proofs.TableBlocks.{one_list}
 use Rattle.row_versions.specs.declared.table.Version.{Version}
-use Rattle.row_versions.specs.StoredVersions.{stored, versions_at}
+use Rattle.row_versions.specs.StoredVersions.{stored}
 use Rattle.row_versions.specs.VisibleState.{all_versions}
 use Rattle.row_versions.proofs.Stored.{AreDistinct, ids}
 use Rattle.heap_versions.specs.ShownVersions.{shown_tables, version_of, versions_in, versions_of_table, versions_on}
 use Rattle.heap_versions.proofs.Changes.{slot_there, swaps_mark}
-use Rattle.heap_versions.proofs.Marks.{stored_there}
 use Rattle.heap_versions.proofs.Puts.{swaps_shown}
 use Rattle.heap_versions.proofs.Swaps.{Swaps, swaps_in}
 use Rattle.heap_versions.proofs.Tables.{shown_at, table_by_blocks}

@@ -1,5 +1,5 @@
 -- how pages, numbers and open transactions show a database, whatever pages they are
-use Rattle.std.specs.Prelude.{◌≡◌, ◌≢◌, ℕ, ◌+◌, ◌<◌, ◌⊎◌, Bool, true, false, not, ◌&&◌, ◌||◌, ◌==◌, List, map, set, length, replicate, Option, None, Some, IsPermutation, IsSorted, if◌then◌else◌}
+use Rattle.std.specs.Prelude.{◌≡◌, ◌≢◌, ℕ, ◌<◌, ◌≤◌, ◌⊎◌, ◌∷◌, [], Bool, true, false, not, ◌&&◌, ◌||◌, ◌==◌, List, map, set, length, replicate, None, Some, IsPermutation, IsSorted}
 use Rattle.std.specs.FinMap as maps
 use Rattle.block_model.specs.declared.place.Spot.{Spot}
 use Rattle.block_model.specs.declared.request.Request.TheVariants as requests
@@ -27,6 +27,7 @@ use Rattle.snapshot_core.specs.Visibility.{had_ended, has_done, is_committed}
 use Rattle.row_versions.specs.declared.sessions.Open.{Open}
 use Rattle.row_versions.specs.SessionChanges.{ended}
 use Rattle.row_versions.specs.StoredVersions.{transaction_of}
+use Rattle.tx_table.specs.Durable.{HasPart}
 use Rattle.tx_table.specs.LeavesRest.{AreStarted}
 use Rattle.tx_table.specs.Statuses.{HasStatuses, number_limit, status_relation}
 use Rattle.tx_table.specs.TxState.{IsNext}
@@ -236,6 +237,13 @@ pub record IsOpened (t : TransactionsState) : Type 0 where
 abbrev pub OpeningIsShown : Type 0
 OpeningIsShown = (layout : DiskLayout) (pages : PageMap) (t now : TransactionsState) (s : DatabaseState) (stored : List Status)
     → ShowsDatabase layout pages t s → HasStatuses layout pages stored → IsNext stored now.tx.next → IsOpened now → ShowsDatabase layout pages now (without_sessions s)
+
+-- What a stop in the midst of a commit leaves, whose status may have been written or not: it isn't done, or all of it is.
+abbrev pub CommitIsWhole : Type 0
+CommitIsWhole = (layout : DiskLayout) (old new : PageMap) (t : TransactionsState) (s : DatabaseState) (session : ℕ) (o : Open)
+    → ShowsDatabase layout old t s → transaction_of t.opens session ≡ Some o → o.failed ≡ false → t.tx.next ≤ number_limit layout
+    → HasPart layout old (o.t ∷ []) status.Committed new → AreStarted layout new
+    → ShowsDatabase layout new t s ⊎ DoesRequest layout new (with_open t session None) s (request_entry session 0 requests.Commit) model.Committed
 
 -- pages on which no transaction has a status and no table has a started page show a new database
 abbrev pub NewIsShown : Type 0

@@ -1,5 +1,5 @@
 -- the sessions' transactions, in the database and as they are open
-use Rattle.std.specs.Prelude.{◌≡◌, ℕ, ◌-◌, ◌^◌, ◌==◌, Option, None, Some, if◌then◌else◌}
+use Rattle.std.specs.Prelude.{◌≡◌, ℕ, ◌-◌, ◌^◌, ◌==◌, Option, None, Some, List, [], ◌∷◌, if◌then◌else◌}
 use Rattle.std.specs.FinMap as map
 use Rattle.block_model.specs.declared.row.RowId.{RowId}
 use Rattle.block_model.specs.DatabaseState.{DatabaseState, OpenTransaction}
@@ -14,6 +14,10 @@ use Rattle.transactions.specs.TransactionsState.{TransactionsState}
 abbrev pub open_standing : Option Open → Standing
 open_standing None = standings.Idle
 open_standing (Some o) = if o.failed then standings.Failed else standings.UnderWay
+
+-- the transactions that a commit of this one commits: none where it has failed
+abbrev pub committed_by : Open → List ℕ
+committed_by o = if o.failed then [] else o.t ∷ []
 
 -- the id of a transaction's next row; its rows are numbered by 32 bits, and the greatest such number is not used
 abbrev pub next_row_of : Open → Option RowId

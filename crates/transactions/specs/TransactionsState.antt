@@ -1,5 +1,5 @@
 -- what the open transactions of all sessions are seen as
-use Rattle.std.specs.Prelude.{◌≡◌, ℕ, ◌+◌, false, List, set, length, Option, None, Some}
+use Rattle.std.specs.Prelude.{◌≡◌, ℕ, ◌+◌, false, List, set, length, Option, Some}
 use Rattle.statements.specs.declared.limits.TheConstants.{MAX_SESSIONS}
 use Rattle.row_versions.specs.declared.sessions.Open.{Open}
 use Rattle.row_versions.specs.SessionChanges.{failed_open, numbers_of, with_next_k}

@@ -1,7 +1,7 @@
 //! How pages, numbers and open transactions show a database. Each law is a fact of every layout and of all pages and states, and
 //! stands in specs/Laws.antt.
 
-ghost use Rattle.transactions.specs.Laws.{BeginCounts, BeginIsUnseen, CommitCounts, ConflictIsShown, CopyIsSeen, CopyStands, EndIsUnseen, FailureCounts, FailureIsShown, FoundIsShown, IdsDiffer, IsOneDatabase, LookIsShown, MarkIsShown, MarkIsUnseen, NewIsShown, NoDeleteIsDone, OpeningIsShown, OthersAreApart, PutCounts, PutIsShown, PutIsUnseen, RefusalIsFailure, RollbackCounts, RowIsOfTransactions, SeenRowCounts, SessionsAreShown, ShowAlike};
+ghost use Rattle.transactions.specs.Laws.{BeginCounts, BeginIsUnseen, CommitCounts, CommitIsWhole, ConflictIsShown, CopyIsSeen, CopyStands, EndIsUnseen, FailureCounts, FailureIsShown, FoundIsShown, IdsDiffer, IsOneDatabase, LookIsShown, MarkIsShown, MarkIsUnseen, NewIsShown, NoDeleteIsDone, OpeningIsShown, OthersAreApart, PutCounts, PutIsShown, PutIsUnseen, RefusalIsFailure, RollbackCounts, RowIsOfTransactions, SeenRowCounts, SessionsAreShown, ShowAlike};
 
 /// Two databases that the same pages and transactions show are one.
 pub fn one_database()
@@ -106,4 +106,9 @@ pub fn an_opening_ends_all()
 /// The pages of a store that was formatted show a new database.
 pub fn a_new_store_shows_nothing()
     ensures { NewIsShown }
+{}
+
+/// A stop in the midst of a commit leaves pages on which it isn't done, or all of it is.
+pub fn a_stopped_commit_is_whole()
+    ensures { CommitIsWhole }
 {}

@@ -14,7 +14,7 @@ pub use laws::{
     a_conflict_is_shown, a_failure_is_shown, a_look_is_shown, a_mark_is_shown,
     a_new_store_shows_nothing, a_put_is_shown, a_refusal_is_a_failure, a_row_is_of_transactions,
     a_row_of_a_copy_stands_once, a_session_has_its_transaction, a_session_sees_its_copy,
-    an_opening_ends_all, ids_of_rows_differ, one_database, other_pages_show_alike,
-    others_see_alike, rows_found_are_what_stands, which_rows_count,
+    a_stopped_commit_is_whole, an_opening_ends_all, ids_of_rows_differ, one_database,
+    other_pages_show_alike, others_see_alike, rows_found_are_what_stands, which_rows_count,
 };
 pub use transactions::Transactions;

@@ -16,7 +16,7 @@ ghost use Rattle.tx_table.specs.LeavesRest.{KeepsUnlessDisk, LeavesRest, NamesSt
 ghost use Rattle.tx_table.specs.Statuses.{HasStatuses, OfStatuses, with_all};
 ghost use Rattle.tx_table.specs.TxState.{IsOver, IsOwn};
 ghost use Rattle.transactions.specs.BeginAnswers.{without_list};
-ghost use Rattle.transactions.specs.Sessions.{next_row_of, open_standing};
+ghost use Rattle.transactions.specs.Sessions.{committed_by, next_row_of, open_standing};
 ghost use Rattle.transactions.specs.ShowsDatabase.{DoesRequest, OfDatabase, ShowsSome};
 ghost use Rattle.transactions.specs.StartAnswers.{FaultNamesStatuses, StartOutcome};
 ghost use Rattle.transactions.specs.TransactionsState.{AreOpen, OfOpen, next_open, with_begun, with_failed, with_open, with_row_counted};
@@ -215,8 +215,8 @@ impl Transactions {
         ensures shown { OnOk result (ShowsSome D.told pages.new self.new) }
         ensures over { IsOver D.told self.new.tx pages.new }
         ensures kept { IfErr result (KeepsUnlessDisk D.told pages.old pages.new) }
-        // At every moment of the call each image opens to what one did before it, or to these.
-        ensures survives { OfOpen self.old session (λ o. Survives D.told (HasPart pages.old.layout pages.old.pages (o.t ∷ []) CommittedStatus) pages.old pages.new) }
+        // At every moment of the call each image opens to what one did before it, or to these: where it has failed, to no others.
+        ensures survives { OfOpen self.old session (λ o. Survives D.told (HasPart pages.old.layout pages.old.pages (committed_by o) CommittedStatus) pages.old pages.new) }
         ensures rest { LeavesRest D.told pages.old pages.new }
         ensures at { IfErr result (NamesStatuses pages.old.layout) }
         ensures outcome { Outcome D.told (Untold D.told pages.old) pages.old pages.new result }
@@ -252,7 +252,7 @@ impl Transactions {
         ensures shown { OnOk result (ShowsSome D.told pages.new self.new) }
         ensures over { IsOver D.told self.new.tx pages.new }
         ensures kept { IfErr result (KeepsUnlessDisk D.told pages.old pages.new) }
-        ensures survives { OfOpen self.old session (λ o. Survives D.told (HasPart pages.old.layout pages.old.pages (o.t ∷ []) CommittedStatus) pages.old pages.new) }
+        ensures survives { OfOpen self.old session (λ o. Survives D.told (HasPart pages.old.layout pages.old.pages (committed_by o) CommittedStatus) pages.old pages.new) }
         ensures rest { LeavesRest D.told pages.old pages.new }
         ensures at { IfErr result (NamesStatuses pages.old.layout) }
         ensures outcome { Outcome D.told (Untold D.told pages.old) pages.old pages.new result }

@@ -6,8 +6,12 @@ mod openings;
 #[cfg(test)]
 mod pages;
 #[cfg(test)]
+mod reads;
+#[cfg(test)]
 mod steps;
 #[cfg(test)]
 mod transactions;
 #[cfg(test)]
 mod trial;
+#[cfg(test)]
+mod watched;

@@ -1,7 +1,8 @@
-use Rattle.std.proofs.Common.{◌≡◌, Option, Some, List, [], ◌∷◌, sym, ap, ◌∙◌}
+use Rattle.std.proofs.Common.{Option, List, sym, ap, ◌∙◌}
 use Rattle.row_versions.specs.declared.sessions.Open.{Open}
 use Rattle.row_versions.specs.StoredVersions.{transaction_of}
 use Rattle.snapshot_core.specs.declared.statuses.Status.TheVariants.{Committed}
+use Rattle.transactions.specs.Sessions.{committed_by}
 use Rattle.transactions.specs.TransactionsState.{TransactionsState}
 use Rattle.transactions.proofs.Calls.{failed_does, no_part}
 use Rattle.transactions.proofs.transactions.Transactions.commit.Goals as goal
@@ -13,7 +14,7 @@ returns-in-Ok-clause-database g c =
     c.if-open_of.true c.in-Ok.ensures.database
 
 pub returns-in-Ok-clause-survives : goal.returns-in-Ok-clause-survives
-returns-in-Ok-clause-survives g c = λ o was. no_part g.D.Disk.told c.args.pages.now c.rollback.new.pages (o.t ∷ []) Committed c.in-Ok.ensures.survives
+returns-in-Ok-clause-survives g c = λ o was. no_part g.D.Disk.told c.args.pages.now c.rollback.new.pages (committed_by o) Committed c.in-Ok.ensures.survives
 
 pub returns-in-Err-clause-survives : goal.returns-in-Err-clause-survives
-returns-in-Err-clause-survives g c = λ o was. no_part g.D.Disk.told c.args.pages.now c.rollback.new.pages (o.t ∷ []) Committed c.in-Err.ensures.survives
+returns-in-Err-clause-survives g c = λ o was. no_part g.D.Disk.told c.args.pages.now c.rollback.new.pages (committed_by o) Committed c.in-Err.ensures.survives

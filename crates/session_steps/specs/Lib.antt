@@ -1,4 +1,0 @@
-pub mod SessionLists
-pub mod StoreCode
-pub mod StoreKept
-pub mod Sessions
