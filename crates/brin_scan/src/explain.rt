@@ -1,6 +1,6 @@
 //! An explain.
 
-ghost use Rattle.std.specs.Prelude.{◌≡◌, ◌+◌, ◌<◌, ◌≤◌, ◌^◌, ◌++◌, [], ◌∷◌, if◌then◌else◌, length, vec_capacity, IfOk, IfErr, OnOk, OnErr};
+ghost use Rattle.std.specs.Prelude.{◌≡◌, ◌≢◌, ◌+◌, ◌<◌, ◌≤◌, ◌^◌, ◌++◌, [], ◌∷◌, if◌then◌else◌, length, vec_capacity, IfOk, IfErr, OnOk, OnErr};
 ghost use Rattle.logged_pages.specs.Survives.{Survives};
 ghost use Rattle.page_store.specs.Keeps.{Keeps, Tells};
 ghost use Rattle.brin_scan.specs.Explains.{ExplainSteps, IsPointOf, ListsBlocks, candidate_blocks};
@@ -72,6 +72,7 @@ impl Explain {
         requires work { IsJudging self.old.judging.stage }
         ensures stepped { IfOk result (λ did. Tells D.told pages.old → ExplainSteps pages.old.layout pages.old.pages self.old.judging self.new.judging did) }
         ensures point { IfOk result (IsPointOf self.old.judging.stage self.new.judging.stage) }
+        ensures begun { OnOk result (self.new.judging.stage ≢ Stage.Extent) }
         ensures blocks { IfOk result (ListsBlocks self.old self.new) }
         ensures scan { IsScanOf pages.old.layout self.new.judging }
         ensures query { self.new.judging.query ≡ self.old.judging.query }

@@ -1,6 +1,6 @@
 //! The scan of a select or a delete.
 
-ghost use Rattle.std.specs.Prelude.{◌≡◌, ◌⊎◌, ◌<◌, ◌≤◌, ◌^◌, ◌++◌, ◌∷◌, [], ℕ, All, None, Some, true, false, length, take, IfErr, IfOk, OnOk, OnErr};
+ghost use Rattle.std.specs.Prelude.{◌≡◌, ◌≢◌, ◌⊎◌, ◌<◌, ◌≤◌, ◌^◌, ◌++◌, ◌∷◌, [], ℕ, All, None, Some, true, false, length, take, IfErr, IfOk, OnOk, OnErr};
 ghost use Rattle.std.specs.List.{list_all};
 ghost use Rattle.block_model.specs.declared.place.Spot.{Spot as AnySpot};
 ghost use Rattle.block_model.specs.declared.row.Row.{Row as AnyRow};
@@ -126,6 +126,7 @@ impl Scan {
         ensures stepped { IfOk result (λ did. Tells D.told pages.old → OfSight pages.old.layout pages.old.pages snapshot.now own tx.now.first (λ sight. FindSteps pages.old.layout pages.old.pages sight self.old self.new did)) }
         ensures rows { OnOk result (OfBlocks D.told pages.old self.old.judging.query.table (λ blocks. OfSight pages.old.layout pages.old.pages snapshot.now own tx.now.first (λ sight. FindsThere sight blocks self.old self.new self.old.next))) }
         ensures point { IfOk result (IsPointIn self.old self.new) }
+        ensures begun { OnOk result (self.new.judging.stage ≢ Stage.Extent) }
         ensures scan { IsFindOf pages.old.layout self.new }
         ensures query { self.new.judging.query ≡ self.old.judging.query }
         ensures remembers { Tells D.told pages.old → OfSight pages.old.layout pages.old.pages snapshot.now own tx.now.first (λ sight. Remembers sight self.new.last) }
@@ -239,6 +240,7 @@ impl Scan {
         ensures stepped { IfOk result (λ did. Tells D.told pages.old → OfSight pages.old.layout pages.old.pages snapshot.now own tx.now.first (λ sight. FindSteps pages.old.layout pages.old.pages sight self.old self.new did)) }
         ensures rows { OnOk result (OfBlocks D.told pages.old self.old.judging.query.table (λ blocks. OfSight pages.old.layout pages.old.pages snapshot.now own tx.now.first (λ sight. FindsThere sight blocks self.old self.new (Some block)))) }
         ensures point { IfOk result (IsPointIn self.old self.new) }
+        ensures begun { OnOk result (self.new.judging.stage ≢ Stage.Extent) }
         ensures judged { self.old.judging.stage ≡ Stage.Judged }
         ensures scan { IsFindOf pages.old.layout self.new }
         ensures query { self.new.judging.query ≡ self.old.judging.query }
@@ -280,6 +282,7 @@ impl Scan {
         ensures found { self.new.found ≡ self.old.found }
         ensures last { self.new.last ≡ self.old.last }
         ensures point { IfOk result (IsPointIn self.old self.new) }
+        ensures begun { OnOk result (self.new.judging.stage ≢ Stage.Extent) }
         ensures scan { IsFindOf pages.old.layout self.new }
         ensures query { self.new.judging.query ≡ self.old.judging.query }
         ensures same { OnErr result (self.new ≡ self.old) }

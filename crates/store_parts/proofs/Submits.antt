@@ -30,7 +30,7 @@ use Rattle.store_parts.specs.HandsInTables.{IsExplainAt, IsSummariseAt, IsTaskOf
 use Rattle.store_parts.specs.ShowsPlace.{IsOfTransaction, IsPlaceOf, ShowsTable}
 use Rattle.store_parts.specs.StoreLaws.{HasHand}
 use Rattle.store_parts.specs.StoreStates.{ShownStore, hand_in}
-use Rattle.store_parts.specs.SubmitLaws.{HasNotBegun, NamedIsShown, SubmittedIsShown}
+use Rattle.store_parts.specs.SubmitLaws.{HasNotBegun, NamedIsShown, NothingIsDropped, SubmittedIsShown}
 use Rattle.store_parts.proofs.Steps.{updated_apart, updated_here}
 use Rattle.store_parts.proofs.Tables.{unlisted}
 
@@ -211,3 +211,21 @@ named_is_shown s p names new shown same = record {
   };
   order = shown.order;
 }
+
+tells_no_drop : (hand : Hand) (account : Account) → TellsSo hand account → account.dropped ≡ []
+tells_no_drop (hands.Begins numbers) account is = ap (λ (a : Account). a.dropped) is
+tells_no_drop hands.Commits account is = ap (λ (a : Account). a.dropped) is
+tells_no_drop hands.RollsBack account is = ap (λ (a : Account). a.dropped) is
+tells_no_drop (hands.Puts number values) account is = ap (λ (a : Account). a.dropped) is
+tells_no_drop (hands.Inserts insert) account is = ap (λ (a : Account). a.dropped) is
+tells_no_drop (hands.Selecting query) account is = ap (λ (a : Account). a.dropped) is
+tells_no_drop (hands.Selects scan) account is = ap (λ (a : Account). a.dropped) is
+tells_no_drop (hands.Deleting query) account is = ap (λ (a : Account). a.dropped) is
+tells_no_drop (hands.Deletes scan) account is = ap (λ (a : Account). a.dropped) is
+tells_no_drop (hands.Marks marking) account is = ap (λ (a : Account). a.dropped) is
+tells_no_drop (hands.Explains explain) account is = ap (λ (a : Account). a.dropped) is
+tells_no_drop (hands.Summarises a) account is = ap (λ (x : Account). x.dropped) is
+
+pub nothing_is_dropped : NothingIsDropped
+nothing_is_dropped None shown account shows = shows.1
+nothing_is_dropped (Some hand) shown account shows = tells_no_drop hand account shows.4

@@ -1,14 +1,15 @@
 -- which place a store shows behind a statement that is taken, and behind a session that is made
-use Rattle.std.specs.Prelude.{◌≡◌, ◌≢◌, ℕ, ◌<◌, List, length, Option, None, Some}
+use Rattle.std.specs.Prelude.{◌≡◌, ◌≢◌, ℕ, ◌<◌, List, [], length, Option, None, Some}
 use Rattle.store_layout.specs.DiskLayout.{DiskLayout}
 use Rattle.brin_scan.specs.declared.stage.Stage.TheVariants as stages
 use Rattle.brin_summarise.specs.declared.course.Standing.TheVariants as standings
 use Rattle.brin_summarise.specs.declared.wish.Wish.TheVariants as wishes
 use Rattle.line_texts.specs.LineTexts.{with_statement}
-use Rattle.line_texts.specs.Place.{Place}
+use Rattle.table_coverage.specs.Accounts.{Account}
+use Rattle.line_texts.specs.Place.{Hand as HandAt, Place}
 use Rattle.store_parts.specs.declared.hand.Hand.{Hand}
 use Rattle.store_parts.specs.declared.hand.Hand.TheVariants as hands
-use Rattle.store_parts.specs.Hands.{statement_of}
+use Rattle.store_parts.specs.Hands.{HandShows, statement_of}
 use Rattle.store_parts.specs.ShowsPlace.{IsPlaceOf}
 use Rattle.store_parts.specs.StoreLaws.{HasHand}
 use Rattle.store_parts.specs.StoreStates.{ShownStore, hand_in}
@@ -29,6 +30,10 @@ HasNotBegun layout hand = ⊥
 abbrev pub SubmittedIsShown : Type 0
 SubmittedIsShown = (s : ShownStore) (p : Place) (n : ℕ) (new : List (Option Hand)) (hand : Hand) → IsPlaceOf s p → hand_in s.hands n ≡ None
     → HasHand s.hands new n (Some hand) → HasNotBegun s.layout hand → IsPlaceOf (record s { hands = new }) (with_statement p n (statement_of hand))
+
+-- no statement in hand, and none behind its reply, has asked for a summary in vain
+abbrev pub NothingIsDropped : Type 0
+NothingIsDropped = (hand : Option Hand) (shown : Option HandAt) (account : Account) → HandShows hand shown account → account.dropped ≡ []
 
 -- sessions have other names, and in hand what they had
 abbrev pub NamedIsShown : Type 0
