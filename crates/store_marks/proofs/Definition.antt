@@ -102,13 +102,6 @@ module _ (p : Place) (n : ℕ) (query : Query) (answers : List Answer) (first : 
 
   -- ---- the journal lacks room
 
-  abbrev of_mark : Outcome → Bool
-  of_mark (Ended (replies.Refused refusals.Memory)) = false
-  of_mark outcome = true
-
-  not_memory : (outcome : Outcome) → of_mark outcome ≡ true → outcome ≢ Ended (replies.Refused refusals.Memory)
-  not_memory outcome mark is = true≢false (sym mark ∙ ap (λ (o : Outcome). of_mark o) is)
-
   same_table : OnlyTurns (p.tables query.table) (p.tables query.table)
   same_table = record {
     rows = record { layout = record { indexes = refl; rows_per_page = refl; heap_limit = refl }; blocks = refl; row = λ b j. refl; counts = λ t. refl };
@@ -128,7 +121,6 @@ module _ (p : Place) (n : ℕ) (query : Query) (answers : List Answer) (first : 
       hand = at;
       in_hand = stands.in_hand;
       outcome = Ended (replies.Deleted (suc k));
-      not_memory = not_memory (Ended (replies.Deleted (suc k))) refl;
       further = place_after p n query.table None v (p.accounts n) (λ t. true) (course after does).journal;
       steps = ends after does v (λ t. true) is turn (task_then n (p.tables query.table) _ ∙ ap (λ (l : List Row). left_at stands.scan (map (λ (r : Row). r.id) l)) is);
       past = subst (λ (l : List Entry). MAX_ENTRIES < length l) (sym (course_is after does).journal) past;
@@ -137,7 +129,6 @@ module _ (p : Place) (n : ℕ) (query : Query) (answers : List Answer) (first : 
       hand = at;
       in_hand = stands.in_hand;
       outcome = Moved points.Mark;
-      not_memory = not_memory (Moved points.Mark) refl;
       further = place_after p n query.table (Some (record at { answers = (course after does).answers })) v (p.accounts n) (λ t. true) (course after does).journal;
       steps = goes_on after does next rest v (λ t. true) is turn (λ rests. marks_or_rests (sym (task_then n (p.tables query.table) _ ∙ ap (λ (l : List Row). left_at stands.scan (map (λ (r : Row). r.id) l)) is) ∙ rests));
       past = subst (λ (l : List Entry). MAX_ENTRIES < length l) (sym (course_is after does).journal) past;
@@ -154,7 +145,6 @@ module _ (p : Place) (n : ℕ) (query : Query) (answers : List Answer) (first : 
           hand = at;
           in_hand = stands.in_hand;
           outcome = Ended (replies.Refused (refusals.Conflict stands.row.id));
-          not_memory = not_memory (Ended (replies.Refused (refusals.Conflict stands.row.id))) refl;
           further = place_after p n query.table None (refused_in n (λ t. false) (p.tables query.table)) (p.accounts n) (λ t. true) (course_met after does).journal;
           steps = conflicts after does (refused_in n (λ t. false) (p.tables query.table)) (λ t. true) refused.0 refused.1;
           past = subst (λ (l : List Entry). MAX_ENTRIES < length l) (sym (course_met_is after does).journal) past;

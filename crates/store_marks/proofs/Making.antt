@@ -431,7 +431,7 @@ module _ {D : Type 0} (told : D → Told) (laws : MarkLaws) (old : Parts D) (pag
       rests_then = ap (λ (rows : List Row). left_at there_last.stands.scan (map (λ (r : Row). r.id) rows)) none_more
 
       pub shown_ended : IsPlaceOf (shown_of (store_of new names (with_hand hands_ n None))) (place_then None names hands_ is tells p shown None)
-      shown_ended = shown_then None names hands_ is tells p shown None refl (λ other there. absurd (none-some other there)) rests_then (λ hand there. absurd (none-some hand there))
+      shown_ended = shown_then None names hands_ is tells p shown None (refl, ap (λ (a : Account). a.dropped) there_last.account) (λ other there. absurd (none-some other there)) rests_then (λ hand there. absurd (none-some hand there))
 
       pub steps_ended : Steps p n (Ended (replies.Deleted (marking.next + 1))) (place_then None names hands_ is tells p shown None)
       steps_ended = record {

@@ -190,7 +190,7 @@ module _ {D : Type 0} (told : D → Told) (laws : ConflictLaws) (old : Parts D) 
           (subst (λ (id : RowId). finite.contains_key at.stands.copy.view id ≡ true) (sym at.its_id) at.in_copy));
       copies = λ m apart. ap (λ (d : DatabaseState). finite.get d.sessions m) (run ∙ sym (ap (λ (r : DatabaseState × Answer). r.0) made.1))
           ∙ copies_stay (database_at p) (request_entry n table (requests.Mark at.row.id)) m apart;
-      hand = subst (λ (h : Option Hand). HandShows h None (p.accounts n)) (sym has_none.own) refl;
+      hand = subst (λ (h : Option Hand). HandShows h None (p.accounts n)) (sym has_none.own) (refl, ap (λ (a : Account). a.dropped) at.account);
       own = λ now there. absurd (none-some now (sym has_none.own ∙ there));
       order = λ index below order. order;
     }

@@ -50,6 +50,7 @@ use Rattle.store_parts.proofs.Places.{step_at_once_is_shown}
 use Rattle.store_parts.proofs.Requests.{copies_stay, one_more_is_legal, one_more_is_run}
 use Rattle.store_parts.proofs.Steps.{one_request}
 use Rattle.store_parts.proofs.Stores.{hand_changes}
+use Rattle.store_parts.proofs.Submits.{nothing_is_dropped}
 use Rattle.store_parts.proofs.Undone.{fit_of_parts, fit_of_stores}
 
 -- the laws that it takes
@@ -180,13 +181,14 @@ module _ {D : Type 0} (laws : Laws) (old new : Parts D) (n : ℕ) (hand : Hand) 
       (λ i block. sym (stays.pages (record { relation = index_relation old.pages.layout index; block = block }) (not_statuses old.pages.layout index)) i) order
 
   -- behind it the session has nothing in hand, and the journal these entries
-  leads : (p : Place) (account : Account) → ShowsDatabase old.pages.layout new.pages.pages new.transactions (serial_run p.opening new.journal.entries) → IsLegal p.opening new.journal.entries
+  leads : (p : Place) (account : Account) → account.dropped ≡ []
+      → ShowsDatabase old.pages.layout new.pages.pages new.transactions (serial_run p.opening new.journal.entries) → IsLegal p.opening new.journal.entries
       → ((m : ℕ) → m ≢ n → finite.get (serial_run p.opening new.journal.entries).sessions m ≡ finite.get (database_at p).sessions m) → LeadsTo before after p n None account
-  leads p account database legal copies = record {
+  leads p account dropped database legal copies = record {
     database = database;
     legal = legal;
     copies = copies;
-    hand = subst (λ (h : Option Hand). HandShows h None account) (sym has_none.own) refl;
+    hand = subst (λ (h : Option Hand). HandShows h None account) (sym has_none.own) (refl, dropped);
     own = λ now there. absurd (none-some now (sym has_none.own ∙ there));
     order = order_kept;
   }
@@ -196,7 +198,7 @@ module _ {D : Type 0} (laws : Laws) (old new : Parts D) (n : ℕ) (hand : Hand) 
       → ((m : ℕ) → m ≢ n → finite.get (serial_run p.opening new.journal.entries).sessions m ≡ finite.get (database_at p).sessions m)
       → IsPlaceOf after (place_at_once p n (counts_of new.transactions restates.later) new.journal.entries)
   shown_then p shown restates database legal copies =
-      laws.shown before after p n restates.later shown others_left at_once restates.has restates.alike restates.few has_none.own (leads p (p.accounts n) database legal copies)
+      laws.shown before after p n restates.later shown others_left at_once restates.has restates.alike restates.few has_none.own (leads p (p.accounts n) (nothing_is_dropped (hand_in hands n) (p.hands n) (p.accounts n) (shown.hands n)) database legal copies)
 
 -- ---- the request
 

@@ -217,7 +217,7 @@ module _ {D : Type 0} (with_laws : BeginLaws) (parts : Parts D) (n : ℕ) (numbe
       let has = with_laws.sessions parts.pages.layout parts.pages.pages parts.transactions (database_at p) shown.database in
       lacks with_laws.laws parts n (hands.Begins numbers) full names hands_ p is shown (request_entry n 0 requests.Begin) (Begun (database_at p).next) (replies.Begun (database_at p).next)
       (begin_only n (database_at p).next numbers p.layout) (begin_answered (database_at p) (has.none n idle))
-      (steps.Begin (subst (λ (next : ℕ). next < numbers_of p.layout) (sym has.next) (subst (λ (layout : DiskLayout). parts.transactions.tx.next < numbers_of layout) (sym shown.layout) some))) refl
+      (steps.Begin (subst (λ (next : ℕ). next < numbers_of p.layout) (sym has.next) (subst (λ (layout : DiskLayout). parts.transactions.tx.next < numbers_of layout) (sym shown.layout) some)))
 
 -- ---- by what the calls ensure
 

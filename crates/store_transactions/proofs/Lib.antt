@@ -3,3 +3,4 @@ pub mod Ending
 pub mod Rooms
 pub mod Beginning
 pub mod Undoing
+pub mod Stopping

@@ -27,14 +27,6 @@ use Rattle.store_parts.specs.StoreStates.{hand_in, store_of}
 use Rattle.store_transactions.proofs.AtOnce.{IsOnly, Laws, in_hand, is_step}
 use Rattle.store_transactions.proofs.Ending.{commit_only, rollback_only, some_open}
 
--- a refusal isn't one of these replies
-abbrev refuses : Outcome → Bool
-refuses (Ended (replies.Refused refusal)) = true
-refuses outcome = false
-
-not_memory : (outcome : Outcome) → refuses outcome ≡ false → outcome ≢ Ended (replies.Refused refusals.Memory)
-not_memory outcome not_one is = true≢false (sym (ap (λ (o : Outcome). refuses o) is) ∙ not_one)
-
 module _ {D : Type 0} (laws : Laws) (parts : Parts D) (n : ℕ) (hand : Hand) (full : MAX_ENTRIES ≤ length parts.journal.entries)
     (names : List (List ℕ)) (hands : List (Option Hand)) (p : Place) (is : hand_in hands n ≡ Some hand) (shown : ShowsPlace (store_of parts names hands) p) where
   shows : HandShows (Some hand) (p.hands n) (p.accounts n)
@@ -43,12 +35,11 @@ module _ {D : Type 0} (laws : Laws) (parts : Parts D) (n : ℕ) (hand : Hand) (f
   past : (e : Entry) → MAX_ENTRIES < length (p.journal ++ e ∷ [])
   past e = omega (arith, full, ap length shown.journal, length-append p.journal (e ∷ []))
 
-  pub lacks : (e : Entry) (answer : Answer) (reply : Reply) → IsOnly n hand e answer reply p.layout → reply_to (database_at p) e ≡ answer → IsAtOnce p (statement_of hand) → refuses (Ended reply) ≡ false → LacksRoom p n
-  lacks e answer reply only answered may fine = record {
+  pub lacks : (e : Entry) (answer : Answer) (reply : Reply) → IsOnly n hand e answer reply p.layout → reply_to (database_at p) e ≡ answer → IsAtOnce p (statement_of hand) → LacksRoom p n
+  lacks e answer reply only answered may = record {
     hand = record { statement = statement_of hand; answers = [] };
     in_hand = in_hand laws n hand e answer reply p only answered may shows;
     outcome = Ended reply;
-    not_memory = not_memory (Ended reply) fine;
     further = place_at_once p n (λ u. true) (p.journal ++ e ∷ []);
     steps = is_step laws n hand e answer reply p only answered may shows (λ u. true);
     past = past e;
@@ -60,10 +51,6 @@ commit_answer : (failed : Bool) → (if failed then RolledBack else Committed) �
 commit_answer true = refl
 commit_answer false = refl
 
-commit_fine : (committed : Bool) → refuses (Ended (if committed then replies.Committed else replies.RolledBack)) ≡ false
-commit_fine true = refl
-commit_fine false = refl
-
 module _ {D : Type 0} (laws : Laws) (sessions : SessionsAreShown) (parts : Parts D) (n : ℕ) (full : MAX_ENTRIES ≤ length parts.journal.entries) where
   commit_answered : (s : DatabaseState) (x : OpenTransaction) → finite.get s.sessions n ≡ Some x → reply_to s (request_entry n 0 requests.Commit) ≡ (if not x.failed then Committed else RolledBack)
   commit_answered s x got = ap (λ (r : DatabaseState × Answer). r.1) (effect_is s (request_entry n 0 requests.Commit) ∙ ap (λ (o : Option OpenTransaction). effect_at o s (request_entry n 0 requests.Commit)) got)
@@ -74,7 +61,7 @@ module _ {D : Type 0} (laws : Laws) (sessions : SessionsAreShown) (parts : Parts
       let own = some_open (transaction_of parts.transactions.opens n) is_open in
       let found = (sessions parts.pages.layout parts.pages.pages parts.transactions (database_at p) shown.database).shown n own.0 own.1 in
       lacks laws parts n hands.Commits full names hands_ p is shown (request_entry n 0 requests.Commit) _ _ (commit_only n (not found.0.failed) p.layout)
-      (commit_answered (database_at p) found.0 found.1) steps.Commit (commit_fine (not found.0.failed))
+      (commit_answered (database_at p) found.0 found.1) steps.Commit
 
   rollback_answered : (s : DatabaseState) (x : OpenTransaction) → finite.get s.sessions n ≡ Some x → reply_to s (request_entry n 0 requests.Rollback) ≡ RolledBack
   rollback_answered s x got = ap (λ (r : DatabaseState × Answer). r.1) (effect_is s (request_entry n 0 requests.Rollback) ∙ ap (λ (o : Option OpenTransaction). effect_at o s (request_entry n 0 requests.Rollback)) got)
@@ -84,4 +71,4 @@ module _ {D : Type 0} (laws : Laws) (sessions : SessionsAreShown) (parts : Parts
       let own = some_open (transaction_of parts.transactions.opens n) is_open in
       let found = (sessions parts.pages.layout parts.pages.pages parts.transactions (database_at p) shown.database).shown n own.0 own.1 in
       lacks laws parts n hands.RollsBack full names hands_ p is shown (request_entry n 0 requests.Rollback) RolledBack replies.RolledBack (rollback_only n p.layout)
-      (rollback_answered (database_at p) found.0 found.1) steps.Rollback refl
+      (rollback_answered (database_at p) found.0 found.1) steps.Rollback

@@ -5,6 +5,7 @@ ghost use Rattle.statements.specs.declared.limits.TheConstants.{MAX_ENTRIES};
 ghost use Rattle.tx_table.specs.Statuses.{number_limit};
 ghost use Rattle.store_parts.specs.StepAnswers.{HasCause};
 ghost use Rattle.store_parts.specs.Stepping.{IsFit, IsShown, LeavesTheOthers, MakesItsStep, StaysFit, StaysUndone};
+ghost use Rattle.store_transactions.specs.Stops.{PassesNothing};
 
 use crate::laws::laws_of_transactions;
 use block_model::{Name, Refusal, Reply, Request, Tag};
@@ -24,6 +25,7 @@ pub fn begin<D: Disk + Drop>(parts: &mut Parts<D>, session: u32, numbers: Vec<u6
     ensures others { LeavesTheOthers D.told parts.old parts.new session (Hand.Begins numbers) result }
     ensures stays { StaysUndone D.told parts.old parts.new session (Hand.Begins numbers) result }
     ensures cause { HasCause D.told parts.old.pages parts.new.pages result }
+    ensures survives { PassesNothing D.told parts.old.pages parts.new.pages }
 {
     match parts.pages.ready() {
         Ok(()) => {}
@@ -61,8 +63,10 @@ fn refused<D: Disk + Drop>(parts: &mut Parts<D>, session: u32, numbers: Vec<u64>
     ensures others { LeavesTheOthers D.told parts.old parts.new session (Hand.Begins numbers) result }
     ensures stays { StaysUndone D.told parts.old parts.new session (Hand.Begins numbers) result }
     ensures cause { HasCause D.told parts.old.pages parts.new.pages result }
+    ensures survives { PassesNothing D.told parts.old.pages parts.new.pages }
 {
     laws_of_transactions();
+    parts.pages.known();
     let number = parts.transactions.tx().next();
     parts.journal.release(ENTRIES_A_BEGIN);
     Stepped::Done(Reply::Refused(Refusal::Full {
@@ -92,8 +96,10 @@ fn no_room<D: Disk + Drop>(parts: &Parts<D>, session: u32, numbers: Vec<u64>) ->
     ensures others { LeavesTheOthers D.told parts.now parts.now session (Hand.Begins numbers) result }
     ensures stays { StaysUndone D.told parts.now parts.now session (Hand.Begins numbers) result }
     ensures cause { HasCause D.told parts.now.pages parts.now.pages result }
+    ensures survives { PassesNothing D.told parts.now.pages parts.now.pages }
 {
     laws_of_transactions();
+    parts.pages.known();
     Stepped::Undone {
         fault: spent(&parts.journal),
         hand: Hand::Begins(numbers),
@@ -112,6 +118,7 @@ fn begin_now<D: Disk + Drop>(parts: &mut Parts<D>, session: u32, numbers: Vec<u6
     ensures others { LeavesTheOthers D.told parts.old parts.new session (Hand.Begins numbers) result }
     ensures stays { StaysUndone D.told parts.old parts.new session (Hand.Begins numbers) result }
     ensures cause { HasCause D.told parts.old.pages parts.new.pages result }
+    ensures survives { PassesNothing D.told parts.old.pages parts.new.pages }
 {
     laws_of_transactions();
     parts.transactions.known();

@@ -7,6 +7,7 @@ ghost use Rattle.transactions.specs.TransactionsState.{OfOpen};
 ghost use Rattle.store_parts.specs.Shares.{open_share};
 ghost use Rattle.store_parts.specs.StepAnswers.{HasCause};
 ghost use Rattle.store_parts.specs.Stepping.{IsFit, IsShown, LeavesTheOthers, MakesItsStep, StaysFit, StaysUndone};
+ghost use Rattle.store_transactions.specs.Stops.{IsSureThen, PassesCommit, PassesNothing};
 
 use crate::laws::laws_of_transactions;
 use block_model::{Reply, Request, Tag};
@@ -47,6 +48,8 @@ pub fn commit<D: Disk + Drop>(parts: &mut Parts<D>, session: u32) -> Stepped
     ensures others { LeavesTheOthers D.told parts.old parts.new session Hand.Commits result }
     ensures stays { StaysUndone D.told parts.old parts.new session Hand.Commits result }
     ensures cause { HasCause D.told parts.old.pages parts.new.pages result }
+    ensures survives { PassesCommit D.told parts.old.transactions session parts.old.pages parts.new.pages }
+    ensures sure { IsSureThen D.told parts.new.pages result }
 {
     match parts.pages.ready() {
         Ok(()) => {}
@@ -73,8 +76,11 @@ fn no_commit<D: Disk + Drop>(parts: &Parts<D>, session: u32) -> Stepped
     ensures others { LeavesTheOthers D.told parts.now parts.now session Hand.Commits result }
     ensures stays { StaysUndone D.told parts.now parts.now session Hand.Commits result }
     ensures cause { HasCause D.told parts.now.pages parts.now.pages result }
+    ensures survives { PassesCommit D.told parts.now.transactions session parts.now.pages parts.now.pages }
+    ensures sure { IsSureThen D.told parts.now.pages result }
 {
     laws_of_transactions();
+    parts.pages.known();
     Stepped::Undone {
         fault: spent(&parts.journal),
         hand: Hand::Commits,
@@ -92,6 +98,8 @@ fn commit_now<D: Disk + Drop>(parts: &mut Parts<D>, session: u32) -> Stepped
     ensures others { LeavesTheOthers D.told parts.old parts.new session Hand.Commits result }
     ensures stays { StaysUndone D.told parts.old parts.new session Hand.Commits result }
     ensures cause { HasCause D.told parts.old.pages parts.new.pages result }
+    ensures survives { PassesCommit D.told parts.old.transactions session parts.old.pages parts.new.pages }
+    ensures sure { IsSureThen D.told parts.new.pages result }
 {
     laws_of_transactions();
     let unneeded = entries_unneeded(&parts.transactions, session);
@@ -117,6 +125,7 @@ pub fn roll_back<D: Disk + Drop>(parts: &mut Parts<D>, session: u32) -> Stepped
     ensures others { LeavesTheOthers D.told parts.old parts.new session Hand.RollsBack result }
     ensures stays { StaysUndone D.told parts.old parts.new session Hand.RollsBack result }
     ensures cause { HasCause D.told parts.old.pages parts.new.pages result }
+    ensures survives { PassesNothing D.told parts.old.pages parts.new.pages }
 {
     match parts.pages.ready() {
         Ok(()) => {}
@@ -143,8 +152,10 @@ fn no_rollback<D: Disk + Drop>(parts: &Parts<D>, session: u32) -> Stepped
     ensures others { LeavesTheOthers D.told parts.now parts.now session Hand.RollsBack result }
     ensures stays { StaysUndone D.told parts.now parts.now session Hand.RollsBack result }
     ensures cause { HasCause D.told parts.now.pages parts.now.pages result }
+    ensures survives { PassesNothing D.told parts.now.pages parts.now.pages }
 {
     laws_of_transactions();
+    parts.pages.known();
     Stepped::Undone {
         fault: spent(&parts.journal),
         hand: Hand::RollsBack,
@@ -162,6 +173,7 @@ fn roll_back_now<D: Disk + Drop>(parts: &mut Parts<D>, session: u32) -> Stepped
     ensures others { LeavesTheOthers D.told parts.old parts.new session Hand.RollsBack result }
     ensures stays { StaysUndone D.told parts.old parts.new session Hand.RollsBack result }
     ensures cause { HasCause D.told parts.old.pages parts.new.pages result }
+    ensures survives { PassesNothing D.told parts.old.pages parts.new.pages }
 {
     laws_of_transactions();
     let unneeded = entries_unneeded(&parts.transactions, session);

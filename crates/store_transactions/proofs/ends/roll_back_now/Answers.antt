@@ -24,7 +24,7 @@ returns-in-Ok g c =
     rolls_back told (record { sessions = laws.sessions; unseen = laws.end_unseen; committed = laws.committed; rolled_back = laws.rolled_back }) old c.rollback.new.pages c.rollback.new.self c.enter.new.self c.release.new.self
     c.args.session c.entries_unneeded-unneeded.result c.requires.ready made.outcome.1 c.rollback.ensures.over c.rollback.ensures.rest made.ended c.requires.room c.entries_unneeded-unneeded.ensures c.enter.ensures.promised c.release.ensures.promised
     c.release.ensures.entries c.requires.fit (fit_of_parts told old c.args.session hands.RollsBack c.requires.fit).in_hand made.database made.statuses c.enter.ensures.entries in
-    record { steps = r.steps; fit = r.fit; others = r.others; stays = r.stays; cause = r.cause }
+    record { steps = r.steps; fit = r.fit; others = r.others; stays = r.stays; cause = r.cause; survives = c.rollback.ensures.survives }
 
 pub returns-in-Err : goal.returns-in-Err
 returns-in-Err g c =
@@ -34,4 +34,4 @@ returns-in-Err g c =
     let r : StepsSo told old new c.args.session hands.RollsBack (stepped.Undone c.fault_of.result hands.RollsBack) =
     refused_by told old new c.args.session hands.RollsBack c.in-Err.error c.fault_of.result c.requires.fit c.rollback.ensures.over c.rollback.ensures.rest.leaves
     (record { transactions = c.in-Err.ensures.same; locks = refl; rights = refl; journal = refl }) c.in-Err.ensures.outcome c.fault_of.ensures in
-    record { steps = r.steps; fit = r.fit; others = r.others; stays = r.stays; cause = r.cause }
+    record { steps = r.steps; fit = r.fit; others = r.others; stays = r.stays; cause = r.cause; survives = c.rollback.ensures.survives }
