@@ -151,8 +151,7 @@ explain_in_hand old new n before after now same apart is = record {
       (new_hand (statements.Explain before.judging.query), refl, ap statements.Explain (sym same), refl, refl);
   own = λ transaction copy hand there. subst (λ (h : Hand). IsOfTransaction transaction copy h) (same_Some (hands.Explains after) hand (sym is ∙ there)) (of_any_copy copy after);
   task = λ blocks stored. subst (λ (h : Option Hand). IsTaskOf old.layout before.judging.query.table blocks new.transactions.tx stored (transaction_of new.transactions.opens n) h
-      (Scans (table_scan old.layout after.judging (explaining now)))) (sym is)
-      (
+      (Scans (table_scan old.layout after.judging (explaining now)))) (sym is) (
         (λ own. (now, sym (begun old.layout after.judging.stage after.judging (explaining now) apart))),
         (λ away. absurd (away (ap (λ (q : Query). q.table) same))),
       );

@@ -99,8 +99,7 @@ module _ (old new : ShownStore) (n : ℕ) (before after : ExplainHand) (left : E
       let turns = turns_there old n before left.there p shown (did.Moved point) after.judging same now point it.1.0 next comes no_prune in
       let in_hand = explain_in_hand old new n before after now same apart is in
       let v : TableState = table_state (pages_show old n before left.there p shown) (task_turned n next here.unseen) in
-      let counts : ℕ → Bool = counts_of new.transactions shown.database.stored in
-      (
+      let counts : ℕ → Bool = counts_of new.transactions shown.database.stored in (
         place_after p n number (Some hand) v account counts new.entries,
         place_shown old new n before left p shown next (Some hand) in_hand account empty turns.0,
         record {
@@ -155,8 +154,7 @@ module _ (old new : ShownStore) (n : ℕ) (before after : ExplainHand) (left : E
         let in_hand = none_in_hand old new n before is in
         let v : TableState = table_state (pages_show old n before left.there p shown) (task_turned n Resting here.unseen) in
         let counts : ℕ → Bool = counts_of new.transactions shown.database.stored in
-        let at_end : (turns.0.step.between).task n ≡ Scans it.1.0.done = ap (λ (x : TableState). x.task n) turns.2 ∙ pick_same n (Scans it.1.0.done) (here.unseen.task n) in
-        (
+        let at_end : (turns.0.step.between).task n ≡ Scans it.1.0.done = ap (λ (x : TableState). x.task n) turns.2 ∙ pick_same n (Scans it.1.0.done) (here.unseen.task n) in (
           place_after p n number None v account counts new.entries,
           place_shown old new n before left p shown Resting None in_hand account empty turns.0,
           record {
