@@ -1,4 +1,4 @@
-use Rattle.std.proofs.Common.{◌≡◌, sym, ap, subst, ◌∙◌}
+use Rattle.std.proofs.Common.{ap, subst, ◌∙◌}
 use Rattle.block_model.specs.declared.reply.Reply.{Reply}
 use Rattle.page_locks.specs.declared.did.Did.{Did}
 use Rattle.brin_scan.specs.Explains.{ExplainHand, IsPointOf}
