@@ -58,7 +58,6 @@ module _ (keep : RunsKeep) (s : ℕ) where
       is_one_more old new (Some s) (Some s) before (Maintains job place range phase) point account goes u at lock kept calls tt
       (steps_alone calls new (Maintains job place range phase) rest (lock_turned (Some s) (task_turned s (Maintains job place range phase) (unnamed_turned (goes u at lock kept).0 u))) (pick_same s (Maintains job place range phase) (u.task s)) refl
       (kept_then old new (Some s) (Some s) before (Maintains job place range phase) point account goes u at lock kept))
-
   steps_alone _ _ _ (NextIndexCall calls next old new before point account goes rest) u at lock kept =
       is_one_more old new (Some s) (Some s) before (Restarts next) point account goes u at lock kept calls tt
       (steps_alone calls new (Restarts next) rest (lock_turned (Some s) (task_turned s (Restarts next) (unnamed_turned (goes u at lock kept).0 u))) (pick_same s (Restarts next) (u.task s)) refl

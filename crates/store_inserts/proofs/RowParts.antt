@@ -71,21 +71,13 @@ use Rattle.store_parts.specs.UndoneLaws.{FitOfParts, FitOfStores, FitsParts, Ste
 use Rattle.store_inserts.proofs.AtIndex.{insert_of}
 use Rattle.store_inserts.proofs.Beside.{leaves_others, over_beside, stays_fit}
 use Rattle.store_inserts.proofs.OnParts.{MachineLeft}
-use Rattle.store_inserts.proofs.Opens.{open_here, open_there}
+use Rattle.store_inserts.proofs.Opens.{next_id, open_here, open_there}
 use Rattle.store_inserts.proofs.Refused.{IsFailing, Refuses}
 use Rattle.store_inserts.proofs.Refusing.{LeftRefused, first_is, refused_fits, refused_others, share_whole, theirs, with_these}
 use Rattle.store_inserts.proofs.RowRefused.{rests_here, row_lacks_room, row_refused}
 use Rattle.store_inserts.proofs.RowStep.{PutsHere, came, row_for, row_goes_on, row_is_done}
 use Rattle.store_inserts.specs.Promised.{unpromised}
 use Rattle.store_inserts.specs.TakenLaws.{RefusalLaws, RowLaws}
-
--- the id of the next row, where there is one
-id_is : (b : Bool) (next id : RowId) → (if b then None else Some next) ≡ Some id → id ≡ next
-id_is true next id is = absurd (none-some id is)
-id_is false next id is = sym (same_Some next id is)
-
-pub next_id : (o : Open) (id : RowId) → next_row_of o ≡ Some id → id ≡ record { t = o.t; k = o.next_k }
-next_id o id is = id_is (o.next_k == 2 ^ 32 - 1) (record { t = o.t; k = o.next_k }) id is
 
 whole_of : (transaction : Option Open) (o : Open) → IsUnderWay transaction → transaction ≡ Some o → o.failed ≡ false
 whole_of transaction o under is = subst IsUnderWay is under

@@ -13,3 +13,4 @@ pub mod Leads
 pub mod Opening
 pub mod Maintenance
 pub mod Submits
+pub mod FewLocks

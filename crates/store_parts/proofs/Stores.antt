@@ -4,11 +4,13 @@ use Rattle.std.proofs.lemmas.Option.{none-some}
 use Rattle.disk_trait.specs.Told.{Told}
 use Rattle.page_locks.specs.LockCounts.{locks_of}
 use Rattle.row_versions.specs.StoredVersions.{transaction_of}
+use Rattle.store_layout.specs.DiskLayout.{DiskLayout}
+use Rattle.row_versions.specs.declared.sessions.Open.{Open}
 use Rattle.store_parts.specs.declared.hand.Hand.{Hand}
 use Rattle.store_parts.specs.HandFits.{FitsHand, locks_held}
 use Rattle.store_parts.specs.Shares.{share_of}
-use Rattle.store_parts.specs.StoreLaws.{FitEverywhere, HandChanges}
-use Rattle.store_parts.specs.StoreStates.{hand_in}
+use Rattle.store_parts.specs.StoreLaws.{FitEverywhere, HandChanges, OthersStayFit}
+use Rattle.store_parts.specs.StoreStates.{hand_at, hand_in}
 
 pub fits_everywhere : {D : Type 0} (told : D → Told) → FitEverywhere told
 fits_everywhere told parts n hand names hands fit is =
@@ -35,4 +37,18 @@ pub hand_changes : HandChanges
 hand_changes hands n was hand is = record {
   own = get_or-set_same hands n hand None (inside hands n was is);
   others = λ m other. get_or-set_other hands n m hand None other;
+}
+
+pub others_stay_fit : {D : Type 0} (told : D → Told) → OthersStayFit told
+others_stay_fit told old new n m other was now leaves same share = record {
+  session = was.session;
+  over = now.over;
+  hand = subst (λ (l : DiskLayout). FitsHand l (transaction_of new.transactions.opens m) (hand_at new m)) (sym leaves.leaves.layout)
+      (subst (λ (o : Option Open). FitsHand old.pages.layout o (hand_at new m)) (sym (leaves.transactions m other))
+      (subst (λ (h : Option Hand). FitsHand old.pages.layout (transaction_of old.transactions.opens m) h) (sym same) was.hand));
+  limit = now.limit;
+  own = subst (λ (h : Option Hand). locks_of new.locks m ≤ locks_held h) (sym same) (subst (λ (k : ℕ). k ≤ locks_held (hand_at old m)) (sym (leaves.locks m other)) was.own);
+  rights = now.rights;
+  entries = now.entries;
+  share = share;
 }

@@ -3,6 +3,8 @@ use Rattle.std.specs.Prelude.{◌≡◌, ◌≢◌, ℕ, zero, suc, ◌+◌, ◌
 use Rattle.row_versions.specs.declared.sessions.Open.{Open}
 use Rattle.row_versions.specs.StoredVersions.{transaction_of}
 use Rattle.store_parts.specs.declared.hand.Hand.{Hand}
+use Rattle.store_parts.specs.declared.limits.TheConstants.{LOCKS_A_SESSION}
+use Rattle.store_parts.specs.HandFits.{locks_held}
 use Rattle.store_parts.specs.Shares.{share_of}
 use Rattle.store_parts.specs.StoreStates.{hand_in}
 
@@ -27,3 +29,7 @@ PromisesStay = (count n promised after : ℕ) (hands now : List (Option Hand)) (
     → ((m : ℕ) → m ≢ n → hand_in now m ≡ hand_in hands m) → ((m : ℕ) → m ≢ n → transaction_of then m ≡ transaction_of opens m)
     → after + share_of (hand_in hands n) (transaction_of opens n) ≡ promised + share_of (hand_in now n) (transaction_of then n)
     → promised ≡ shares_below count hands opens → after ≡ shares_below count now then
+
+-- a statement in hand holds no more page locks than a session may
+abbrev pub FewLocksEach : Type 0
+FewLocksEach = (hand : Option Hand) → locks_held hand ≤ LOCKS_A_SESSION

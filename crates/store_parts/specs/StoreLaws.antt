@@ -1,11 +1,14 @@
 -- what holds of each store that has the same parts and the same statement in hand
-use Rattle.std.specs.Prelude.{◌≡◌, ◌≢◌, ℕ, List, Option, Some}
+use Rattle.std.specs.Prelude.{◌≡◌, ◌≢◌, ◌≤◌, List, Option, Some, ℕ}
 use Rattle.disk_trait.specs.Told.{Told}
 use Rattle.store_parts.specs.declared.hand.Hand.{Hand}
 use Rattle.store_parts.specs.declared.parts.Parts.{Parts}
 use Rattle.store_parts.specs.HandFits.{FitsStore}
 use Rattle.store_parts.specs.Stepping.{IsFit}
-use Rattle.store_parts.specs.StoreStates.{hand_in, store_of, with_hand}
+use Rattle.store_parts.specs.Shares.{share_of}
+use Rattle.store_parts.specs.StepAnswers.{LeavesSessions}
+use Rattle.store_parts.specs.StoreStates.{StoreState, hand_at, hand_in, store_of, with_hand}
+use Rattle.row_versions.specs.StoredVersions.{transaction_of}
 
 -- the session has that in hand then, and each other what it had
 pub record HasHand (old new : List (Option Hand)) (n : ℕ) (hand : Option Hand) : Type 0 where
@@ -19,3 +22,8 @@ HandChanges = (hands : List (Option Hand)) (n : ℕ) (was : Hand) (hand : Option
 abbrev pub FitEverywhere : {D : Type 0} → (D → Told) → Type 0
 FitEverywhere {D} told = (parts : Parts D) (n : ℕ) (hand : Hand) (names : List (List ℕ)) (hands : List (Option Hand)) → IsFit told parts n hand → hand_in hands n ≡ Some hand
     → FitsStore told (store_of parts names hands) n
+
+-- a session stays fit where another one steps, as long as the journal has what it is promised
+abbrev pub OthersStayFit : {D : Type 0} → (D → Told) → Type 0
+OthersStayFit {D} told = (old new : StoreState D) (n m : ℕ) → m ≢ n → FitsStore told old m → FitsStore told new n → LeavesSessions told old new n → hand_at new m ≡ hand_at old m
+    → share_of (hand_at new m) (transaction_of new.transactions.opens m) ≤ new.journal.promised → FitsStore told new m

@@ -1,18 +1,12 @@
 -- the place that a store shows behind a step of an explain
-use Rattle.std.proofs.Common.{◌≡◌, ◌≢◌, ◌⊎◌, inl, inr, ℕ, Bool, ◌<◌, ◌≤◌, List, [], length, Option, None, Some, refl, sym, ap, subst, ◌∙◌}
+use Rattle.std.proofs.Common.{◌≡◌, ◌≢◌, ℕ, Bool, List, Option, None, Some, refl, sym, ap, subst, ◌∙◌}
 use Rattle.std.specs.FinMap as finite
-use Rattle.std.specs.List.{filter, range_with_len}
 use Rattle.std.proofs.lemmas.Option.{none-some, same_Some}
-use Rattle.block_model.specs.declared.place.Place.{Place as PagePlace}
-use Rattle.block_model.specs.declared.reply.Point.{Point}
-use Rattle.block_model.specs.declared.reply.Point.TheVariants as points
-use Rattle.block_model.specs.declared.reply.Reply.TheVariants as replies
 use Rattle.block_model.specs.declared.request.Entry.{Entry}
 use Rattle.block_model.specs.declared.row.Query.{Query}
-use Rattle.block_model.specs.DatabaseState.{DatabaseState, OpenTransaction}
+use Rattle.block_model.specs.DatabaseState.{OpenTransaction}
 use Rattle.block_model.specs.SerialRun.{IsLegal, serial_run}
 use Rattle.page_layout.specs.PageContents.{Slot}
-use Rattle.page_locks.specs.LockHolders.{LockState}
 use Rattle.page_locks.specs.RightHolders.{right_of}
 use Rattle.page_store.specs.PageMap.{PageMap, page_at}
 use Rattle.opened_pages.specs.PageOrder.{IsIndexInOrder}
@@ -29,14 +23,12 @@ use Rattle.transactions.specs.TransactionsState.{TransactionsState}
 use Rattle.index_steps.specs.ShownRows.{shown_by}
 use Rattle.table_coverage.specs.Accounts.{Account, no_account}
 use Rattle.table_coverage.specs.Machines.{Unseen, table_state, task_turned}
-use Rattle.table_coverage.specs.Table.{Resting, Scans, TableScan, TableState, Task}
-use Rattle.table_coverage.specs.TableSteps.{Onward, Scanned, Stays}
+use Rattle.table_coverage.specs.Table.{Resting, Scans, TableState, Task}
 use Rattle.table_coverage.proofs.Views.{pick_other, pick_same}
 use Rattle.brin_scan.specs.declared.stage.Stage.{Stage}
 use Rattle.brin_scan.specs.declared.stage.Stage.TheVariants as stages
 use Rattle.brin_scan.specs.Explains.{ExplainHand, explaining}
 use Rattle.brin_scan.specs.ScanHands.{ScanHand}
-use Rattle.brin_scan.specs.ScanSteps.{account_at, point_at}
 use Rattle.brin_scan.specs.TableScans.{Beside, table_scan, task_of}
 use Rattle.line_texts.specs.Place.{Hand as HandAt, Place, database_at, new_hand}
 use Rattle.store_parts.specs.declared.hand.Hand.{Hand}
@@ -50,7 +42,7 @@ use Rattle.store_parts.specs.StoreStates.{ShownStore, hand_in}
 use Rattle.store_parts.proofs.Leads.{nothing_leaves_slots, same_counts_few}
 use Rattle.store_parts.proofs.Places.{table_step_is_shown}
 use Rattle.store_parts.proofs.Tables.{own_table_goes_on}
-use Rattle.store_upkeep.proofs.ExplainTurns.{ExplainsThere, shows, statement, table, told_is}
+use Rattle.store_upkeep.proofs.ExplainTurns.{ExplainsThere, shows, statement}
 
 -- a step of the explain changed nothing but what the session has in hand
 pub record ExplainLeft (old new : ShownStore) (n : ℕ) (before : ExplainHand) : Type 0 where
@@ -151,8 +143,7 @@ explain_in_hand old new n before after now same apart is = record {
       (new_hand (statements.Explain before.judging.query), refl, ap statements.Explain (sym same), refl, refl);
   own = λ transaction copy hand there. subst (λ (h : Hand). IsOfTransaction transaction copy h) (same_Some (hands.Explains after) hand (sym is ∙ there)) (of_any_copy copy after);
   task = λ blocks stored. subst (λ (h : Option Hand). IsTaskOf old.layout before.judging.query.table blocks new.transactions.tx stored (transaction_of new.transactions.opens n) h
-      (Scans (table_scan old.layout after.judging (explaining now)))) (sym is)
-      (
+      (Scans (table_scan old.layout after.judging (explaining now)))) (sym is) (
         (λ own. (now, sym (begun old.layout after.judging.stage after.judging (explaining now) apart))),
         (λ away. absurd (away (ap (λ (q : Query). q.table) same))),
       );

@@ -1,12 +1,11 @@
 -- a step of an explain, over the parts of a store
-use Rattle.std.proofs.Common.{◌≡◌, ◌≢◌, ℕ, ◌+◌, ◌≤◌, List, length, Option, None, Some, Ok, Err, refl, sym, ap, subst, ◌∙◌, arith}
+use Rattle.std.proofs.Common.{◌≡◌, ◌≢◌, ℕ, ◌+◌, List, length, Option, None, Some, Ok, Err, refl, sym, ap, subst, ◌∙◌, arith}
 use Rattle.disk_trait.specs.Told.{Told}
 use Rattle.block_model.specs.declared.reply.Point.{Point}
 use Rattle.block_model.specs.declared.reply.Point.TheVariants as points
 use Rattle.block_model.specs.declared.reply.Reply.TheVariants as replies
 use Rattle.page_locks.specs.declared.did.Did.{Did}
 use Rattle.page_locks.specs.declared.did.Did.TheVariants as did
-use Rattle.page_locks.specs.LockCounts.{locks_of}
 use Rattle.page_locks.specs.LockHolders.{LockState}
 use Rattle.page_layout.specs.PageContents.{Slot}
 use Rattle.page_store.specs.declared.faults.StoreError.{StoreError}
@@ -30,7 +29,6 @@ use Rattle.brin_scan.specs.ScanAnswers.{IsDamagedAt, ReadOutcome}
 use Rattle.brin_scan.specs.ScanHands.{IsHand, IsJudging, IsScanOf, ScanHand}
 use Rattle.brin_scan.specs.ScanSteps.{point_at}
 use Rattle.brin_scan.specs.TableScans.{Beside, task_of}
-use Rattle.line_texts.specs.Place.{Place}
 use Rattle.statements.specs.declared.statement.Statement.TheVariants as statements
 use Rattle.store_parts.specs.declared.hand.Hand.{Hand}
 use Rattle.store_parts.specs.declared.hand.Hand.TheVariants as hands
@@ -39,7 +37,6 @@ use Rattle.store_parts.specs.declared.hand.Stepped.TheVariants as stepped
 use Rattle.store_parts.specs.declared.parts.Parts.{Parts}
 use Rattle.store_parts.specs.HandFits.{FitsHand, locks_held}
 use Rattle.store_parts.specs.Shares.{share_of}
-use Rattle.store_parts.specs.ShowsPlace.{IsPlaceOf}
 use Rattle.store_parts.specs.StepAnswers.{StaysReady}
 use Rattle.store_parts.specs.StepIs.{hand_after}
 use Rattle.store_parts.specs.Stepping.{IsFit, IsShown, LeavesTheOthers, StaysFit}
@@ -50,7 +47,7 @@ use Rattle.store_parts.proofs.Stores.{hand_changes}
 use Rattle.store_parts.proofs.Undone.{fit_of_parts, fit_of_stores, refused_is_undone}
 use Rattle.store_upkeep.proofs.Explained.{explain_goes_on, explain_is_told}
 use Rattle.store_upkeep.proofs.ExplainShown.{ExplainLeft}
-use Rattle.store_upkeep.proofs.ExplainTurns.{ExplainsThere, JudgedSo, judged, shows}
+use Rattle.store_upkeep.proofs.ExplainTurns.{ExplainsThere, judged, shows}
 
 -- in a table that is kept a scan finds no damage
 abbrev pub NotDamaged : Type 0

@@ -1,51 +1,40 @@
 -- a step of an explain, in a place that the store shows
-use Rattle.std.proofs.Common.{◌≡◌, ◌≢◌, ◌⊎◌, inl, inr, ℕ, suc, ◌+◌, ◌-◌, ◌<◌, ◌≤◌, Bool, true, false, ◌&&◌, List, [], ◌∷◌, ◌++◌, length, get_or, Option, None, Some, refl, sym, ap, subst, ◌∙◌, arith}
-use Rattle.std.specs.Prelude.{IsTrue}
-use Rattle.std.specs.List.{filter, range_with_len}
+use Rattle.std.proofs.Common.{◌≡◌, ◌≢◌, ◌⊎◌, inl, inr, ℕ, Bool, true, false, ◌&&◌, List, Option, None, Some, refl, sym, ap, subst, ◌∙◌}
 use Rattle.std.proofs.lemmas.Bool.{cases_eq}
-use Rattle.std.proofs.lemmas.Option.{none-some, same_Some}
 use Rattle.block_model.specs.declared.reply.Point.{Point}
 use Rattle.block_model.specs.declared.reply.Point.TheVariants as points
-use Rattle.block_model.specs.declared.reply.Reply.TheVariants as replies
 use Rattle.block_model.specs.declared.row.Query.{Query}
 use Rattle.block_model.specs.declared.row.Row.{Row}
 use Rattle.coverage.specs.IndexView.{IndexTuple}
-use Rattle.block_model.specs.RequestEffect.{Answer}
 use Rattle.block_model.specs.RowMatches.{row_matches}
 use Rattle.page_locks.specs.declared.did.Did.{Did}
-use Rattle.page_locks.specs.declared.did.Did.TheVariants as did
-use Rattle.page_layout.specs.PageContents.{Slot}
 use Rattle.heap_rows.specs.Heaps.{kinds_at}
 use Rattle.heap_rows.specs.RowPlaces.{slot_at}
 use Rattle.snapshot_core.specs.declared.statuses.Status.{Status}
-use Rattle.statements.specs.declared.limits.TheConstants.{MAX_ENTRIES}
 use Rattle.statements.specs.declared.statement.Statement.{Statement}
 use Rattle.statements.specs.declared.statement.Statement.TheVariants as statements
 use Rattle.store_layout.specs.DiskLayout.{DiskLayout}
 use Rattle.row_versions.specs.StoredVersions.{transaction_of}
 use Rattle.index_steps.specs.IndexTuples.{are_values}
-use Rattle.index_steps.specs.ShownRows.{row_in, shown_by}
+use Rattle.index_steps.specs.ShownRows.{shown_by}
 use Rattle.table_coverage.specs.Accounts.{Account, no_account}
-use Rattle.table_coverage.specs.InOneIndex.{DoesAt}
-use Rattle.table_coverage.specs.Machines.{ShownTable, Unseen, table_state, task_turned}
-use Rattle.table_coverage.specs.Table.{Resting, Scans, TableScan, TableState, Task, pick}
-use Rattle.table_coverage.specs.TableSteps.{GoesOn, Onward, OnlyTurns, Scanned, Settles, Stays, TaskTurns}
+use Rattle.table_coverage.specs.Machines.{ShownTable, table_state, task_turned}
+use Rattle.table_coverage.specs.Table.{Scans, TableScan, TableState, Task, pick}
+use Rattle.table_coverage.specs.TableSteps.{GoesOn, Onward, Settles, TaskTurns}
 use Rattle.table_coverage.proofs.Views.{pick_other, pick_same}
 use Rattle.brin_scan.specs.declared.stage.Stage.{Stage}
 use Rattle.brin_scan.specs.declared.stage.Stage.TheVariants as stages
-use Rattle.brin_scan.specs.Explains.{ExplainHand, ExplainSteps, JudgesNoneAt, explaining}
+use Rattle.brin_scan.specs.Explains.{ExplainHand, JudgesNoneAt, explaining}
 use Rattle.brin_scan.specs.ScanHands.{IsScanOf, ScanHand}
 use Rattle.brin_scan.specs.ScanSteps.{ScanGoes, account_at, point_at}
-use Rattle.brin_scan.specs.TableScans.{Beside, is_match, table_scan, task_of}
+use Rattle.brin_scan.specs.TableScans.{is_match, table_scan, task_of}
 use Rattle.brin_scan.proofs.FoundRows.{slot_of_row, values_there}
-use Rattle.brin_scan.proofs.Stepping.{onward_turned}
 use Rattle.line_texts.specs.Beginnings.{Begins, IsScanOf as IsScanOfQuery}
-use Rattle.line_texts.specs.Place.{Hand as HandAt, Place, new_hand}
+use Rattle.line_texts.specs.Place.{Place, new_hand}
 use Rattle.store_parts.specs.declared.hand.Hand.{Hand}
 use Rattle.store_parts.specs.declared.hand.Hand.TheVariants as hands
 use Rattle.store_parts.specs.Hands.{HandShows}
 use Rattle.store_parts.specs.HandsInTables.{IsExplainAt, IsTaskOf}
-use Rattle.store_parts.specs.Leaving.{LeavesOthers}
 use Rattle.store_parts.specs.PlacesAfter.{TurnsIn, point_in}
 use Rattle.store_parts.specs.ShowsPlace.{IsPlaceOf, ShowsTable}
 use Rattle.store_parts.specs.StoreStates.{ShownStore, hand_in}

@@ -1,22 +1,19 @@
 -- a step of an explain leads on
-use Rattle.std.proofs.Common.{◌≡◌, ◌≢◌, ◌⊎◌, inl, inr, ℕ, zero, suc, ◌+◌, ◌-◌, ◌<◌, ◌≤◌, Bool, true, false, List, [], ◌∷◌, length, Option, None, Some, refl, sym, ap, subst, ◌∙◌, arith}
+use Rattle.std.proofs.Common.{◌≡◌, ◌≢◌, inl, ℕ, zero, suc, ◌+◌, ◌<◌, ◌≤◌, Bool, true, false, List, [], ◌∷◌, length, Option, None, Some, refl, sym, ap, subst, ◌∙◌, arith}
 use Rattle.std.specs.Prelude.{IsTrue, cond}
 use Rattle.std.specs.List.{filter, range_with_len}
 use Rattle.block_model.specs.declared.reply.Point.{Point}
 use Rattle.block_model.specs.declared.reply.Point.TheVariants as points
-use Rattle.block_model.specs.declared.reply.Reply.{Reply}
 use Rattle.block_model.specs.declared.reply.Reply.TheVariants as replies
 use Rattle.block_model.specs.declared.request.Entry.{Entry}
 use Rattle.page_locks.specs.declared.did.Did.TheVariants as did
-use Rattle.snapshot_core.specs.declared.statuses.Status.{Status}
 use Rattle.statements.specs.declared.limits.TheConstants.{MAX_ENTRIES}
-use Rattle.statements.specs.declared.statement.Statement.TheVariants as statements
 use Rattle.transactions.specs.CountedRows.{counts as counts_of}
 use Rattle.table_coverage.specs.Accounts.{Account, no_account}
 use Rattle.table_coverage.specs.Machines.{table_state, task_turned}
 use Rattle.table_coverage.specs.Table.{Resting, Scans, TableScan, TableState, Task}
 use Rattle.table_coverage.specs.TableCovered.{IsTableKept, JudgesExactly}
-use Rattle.table_coverage.specs.TableSteps.{Onward, Scanned, Stays}
+use Rattle.table_coverage.specs.TableSteps.{Scanned, Stays}
 use Rattle.table_coverage.proofs.TableSeen.{table_between_kept}
 use Rattle.table_coverage.proofs.Views.{pick_same}
 use Rattle.brin_scan.specs.declared.stage.Stage.{Stage}
@@ -26,15 +23,15 @@ use Rattle.brin_scan.specs.ScanHands.{is_candidate}
 use Rattle.brin_scan.specs.ScanSteps.{ScanGoes, account_at, point_at}
 use Rattle.brin_scan.specs.TableScans.{table_scan}
 use Rattle.line_texts.specs.Place.{Hand as HandAt, Place, new_hand}
-use Rattle.line_texts.specs.Requests.{Course, MakesAll, NoneLeft}
-use Rattle.line_texts.specs.StatementSteps.{Ended, MakesAt, Moved, Steps, StepsTo, blocks_given, course_of, reply_after}
+use Rattle.line_texts.specs.Requests.{NoneLeft}
+use Rattle.line_texts.specs.StatementSteps.{Ended, MakesAt, Moved, Steps, StepsTo, blocks_given, course_of}
 use Rattle.store_parts.specs.declared.hand.Hand.TheVariants as hands
 use Rattle.store_parts.specs.PlacesAfter.{place_after}
 use Rattle.store_parts.specs.ShowsPlace.{IsPlaceOf}
 use Rattle.store_parts.specs.StoreStates.{ShownStore, hand_in}
 use Rattle.store_parts.proofs.Steps.{turn_goes_on, turn_replies}
 use Rattle.store_upkeep.proofs.ExplainTurns.{between, hand_is, judged, pages_show, reads, shows, statement, tells_nothing, told_is, turns_there, w}
-use Rattle.store_upkeep.proofs.ExplainShown.{ExplainLeft, explain_in_hand, led, none_in_hand, place_shown}
+use Rattle.store_upkeep.proofs.ExplainShown.{ExplainLeft, explain_in_hand, none_in_hand, place_shown}
 
 -- ---- the candidates lie below the extent
 
@@ -99,8 +96,7 @@ module _ (old new : ShownStore) (n : ℕ) (before after : ExplainHand) (left : E
       let turns = turns_there old n before left.there p shown (did.Moved point) after.judging same now point it.1.0 next comes no_prune in
       let in_hand = explain_in_hand old new n before after now same apart is in
       let v : TableState = table_state (pages_show old n before left.there p shown) (task_turned n next here.unseen) in
-      let counts : ℕ → Bool = counts_of new.transactions shown.database.stored in
-      (
+      let counts : ℕ → Bool = counts_of new.transactions shown.database.stored in (
         place_after p n number (Some hand) v account counts new.entries,
         place_shown old new n before left p shown next (Some hand) in_hand account empty turns.0,
         record {
@@ -155,8 +151,7 @@ module _ (old new : ShownStore) (n : ℕ) (before after : ExplainHand) (left : E
         let in_hand = none_in_hand old new n before is in
         let v : TableState = table_state (pages_show old n before left.there p shown) (task_turned n Resting here.unseen) in
         let counts : ℕ → Bool = counts_of new.transactions shown.database.stored in
-        let at_end : (turns.0.step.between).task n ≡ Scans it.1.0.done = ap (λ (x : TableState). x.task n) turns.2 ∙ pick_same n (Scans it.1.0.done) (here.unseen.task n) in
-        (
+        let at_end : (turns.0.step.between).task n ≡ Scans it.1.0.done = ap (λ (x : TableState). x.task n) turns.2 ∙ pick_same n (Scans it.1.0.done) (here.unseen.task n) in (
           place_after p n number None v account counts new.entries,
           place_shown old new n before left p shown Resting None in_hand account empty turns.0,
           record {

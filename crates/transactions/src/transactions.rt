@@ -1,6 +1,6 @@
 //! The open transactions of the sessions.
 
-ghost use Rattle.std.specs.Prelude.{◌≡◌, ◌+◌, ◌^◌, ◌<◌, ◌≤◌, ◌∷◌, ℕ, [], not, true, None, Some, IsSome, IsSomeAnd, IfOk, IfErr, OnOk, OnErr, replicate, set, take, vec_capacity, false, if◌then◌else◌};
+ghost use Rattle.std.specs.Prelude.{◌≡◌, ◌+◌, ◌^◌, ◌<◌, ◌≤◌, ◌∷◌, ℕ, [], not, true, None, Some, IsSome, IsSomeAnd, IfOk, IfErr, IfSome, OnOk, OnErr, replicate, set, take, vec_capacity, false, if◌then◌else◌};
 ghost use Rattle.block_model.specs.declared.request.Request.TheVariants as requests;
 ghost use Rattle.block_model.specs.RequestEffect.{Begun, Committed, RolledBack};
 ghost use Rattle.statements.specs.declared.limits.TheConstants.{MAX_SESSIONS};
@@ -126,7 +126,8 @@ impl Transactions {
     /// The id of the row that the session's transaction puts next: none where it has put as many as its numbers reach.
     pub fn next_row(&self, session: u32) -> Option<RowId>
         requires { IsSome (transaction_of self.now.opens session) }
-        ensures { OfOpen self.now session (λ o. result ≡ next_row_of o) }
+        ensures id { OfOpen self.now session (λ o. result ≡ next_row_of o) }
+        ensures room { IfSome result (λ id. id.k + 1 < 2 ^ 32) }
     {
         let open = open_of(self.sessions.as_slice(), session);
         if open.next_k == NO_PLACE {

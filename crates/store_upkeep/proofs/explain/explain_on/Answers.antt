@@ -1,4 +1,4 @@
-use Rattle.std.proofs.Common.{◌≡◌, sym, ap, subst, ◌∙◌}
+use Rattle.std.proofs.Common.{ap, subst, ◌∙◌}
 use Rattle.block_model.specs.declared.reply.Reply.{Reply}
 use Rattle.page_locks.specs.declared.did.Did.{Did}
 use Rattle.brin_scan.specs.Explains.{ExplainHand, IsPointOf}
@@ -71,5 +71,5 @@ returns-in-Err-Store g c =
     let so = undone_by g.D.Disk.told c.args.parts.now c.step.new.pages c.args.session c.args.explain c.step.new.self c.requires.fit e.kept
     c.a_kept_table_is_scanned.ensures c.requires.shown c.known.ensures c.in-Err-Store.field-0 c.in-Err-Store.error c.in-Err-Store.field-0-is c.in-Err-Store.ensures.outcome c.undone.result
     (c.undone.ensures ∙ ap (λ (f : StoreFault). stepped.Undone f (hands.Explains c.step.new.self)) c.fault_of.ensures
-        ∙ ap (λ (x : ExplainHand). stepped.Undone (fault_of c.in-Err-Store.error) (hands.Explains x)) c.in-Err-Store.ensures.same) in
+    ∙ ap (λ (x : ExplainHand). stepped.Undone (fault_of c.in-Err-Store.error) (hands.Explains x)) c.in-Err-Store.ensures.same) in
     record { steps = so.steps; fit = so.fit; others = so.others; stays = so.stays; cause = so.cause; survives = e.survives }

@@ -1,0 +1,32 @@
+-- What a stop may leave of a step.
+use Rattle.std.proofs.Common.{◌≡◌, ℕ, Bool, true, false, refl, sym, subst}
+use Rattle.std.specs.Prelude.{if◌then◌else◌}
+use Rattle.block_model.specs.declared.reply.Reply.{Reply}
+use Rattle.block_model.specs.declared.reply.Reply.TheVariants as replies
+use Rattle.disk_trait.specs.Told.{Told}
+use Rattle.logged_pages.specs.Survives.{Survives}
+use Rattle.page_store.specs.PageMap.{View}
+use Rattle.snapshot_core.specs.declared.statuses.Status.TheVariants.{Committed}
+use Rattle.tx_table.specs.Durable.{HasPart, IsBefore, IsDurable}
+use Rattle.tx_table.proofs.Parts.{passed_none}
+use Rattle.transactions.specs.Sessions.{committed_by}
+use Rattle.transactions.specs.TransactionsState.{TransactionsState}
+use Rattle.store_parts.specs.declared.hand.Stepped.TheVariants as stepped
+use Rattle.store_transactions.specs.Stops.{IsSureThen, PassesCommit, PassesNothing}
+
+module _ {D : Type 0} (told : D → Told) (pages : View D) (stays : Survives told (λ pages. ⊥) pages pages) where
+  -- where no call is made
+  pub passes_nothing : PassesNothing told pages pages
+  passes_nothing = passed_none told (IsBefore pages) pages pages stays
+
+  pub passes_no_commit : (t : TransactionsState) (n : ℕ) → PassesCommit told t n pages pages
+  passes_no_commit t n o is = passed_none told (HasPart pages.layout pages.pages (committed_by o) Committed) pages pages stays
+
+-- a commit that is told is one that was made sure
+sure_by : {D : Type 0} (told : D → Told) (new : View D) (committed : Bool) → (committed ≡ true → IsDurable told new) → IsSureThen told new (stepped.Done (if committed then replies.Committed else replies.RolledBack))
+sure_by told new true sure = sure refl
+sure_by told new false sure = tt
+
+pub sure_then : {D : Type 0} (told : D → Told) (new : View D) (committed : Bool) (reply : Reply) → reply ≡ (if committed then replies.Committed else replies.RolledBack) → (committed ≡ true → IsDurable told new)
+    → IsSureThen told new (stepped.Done reply)
+sure_then told new committed reply is sure = subst (λ (r : Reply). IsSureThen told new (stepped.Done r)) (sym is) (sure_by told new committed sure)

@@ -1,0 +1,23 @@
+//! What a begin and the end of a transaction rest on.
+
+ghost use Rattle.transactions.specs.Laws.{BeginCounts, BeginIsUnseen, CommitCounts, EndIsUnseen, RollbackCounts, RowIsOfTransactions, SessionsAreShown};
+
+use transactions::{
+    a_row_is_of_transactions, a_session_has_its_transaction, others_see_alike, which_rows_count,
+};
+
+/// Does nothing; tells its caller which database transactions show, whose rows count, and what others see.
+pub(crate) fn laws_of_transactions()
+    ensures sessions { SessionsAreShown }
+    ensures begin_unseen { BeginIsUnseen }
+    ensures end_unseen { EndIsUnseen }
+    ensures begun { BeginCounts }
+    ensures committed { CommitCounts }
+    ensures rolled_back { RollbackCounts }
+    ensures rows { RowIsOfTransactions }
+{
+    a_row_is_of_transactions();
+    a_session_has_its_transaction();
+    others_see_alike();
+    which_rows_count();
+}
