@@ -1,5 +1,6 @@
 pub mod Points
 pub mod Opens
+pub mod NextRow
 pub mod AtIndex
 pub mod IndexStep
 pub mod StaysHere

@@ -70,8 +70,9 @@ use Rattle.store_parts.specs.StoreStates.{ShownStore, hand_in, shown_of, store_o
 use Rattle.store_parts.specs.UndoneLaws.{FitOfParts, FitOfStores, FitsParts, StepsSo}
 use Rattle.store_inserts.proofs.AtIndex.{insert_of}
 use Rattle.store_inserts.proofs.Beside.{leaves_others, over_beside, stays_fit}
+use Rattle.store_inserts.proofs.NextRow.{next_id}
 use Rattle.store_inserts.proofs.OnParts.{MachineLeft}
-use Rattle.store_inserts.proofs.Opens.{next_id, open_here, open_there}
+use Rattle.store_inserts.proofs.Opens.{open_here, open_there}
 use Rattle.store_inserts.proofs.Refused.{IsFailing, Refuses}
 use Rattle.store_inserts.proofs.Refusing.{LeftRefused, first_is, refused_fits, refused_others, share_whole, theirs, with_these}
 use Rattle.store_inserts.proofs.RowRefused.{rests_here, row_lacks_room, row_refused}

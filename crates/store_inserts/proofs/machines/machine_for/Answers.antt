@@ -1,4 +1,4 @@
-use Rattle.store_inserts.proofs.Opens.{number_next}
+use Rattle.store_inserts.proofs.NextRow.{number_next}
 use Rattle.row_versions.specs.StoredVersions.{transaction_of}
 use Rattle.store_inserts.proofs.machines.machine_for.Goals as goal
 
