@@ -66,7 +66,7 @@ module _ {D : Type 0} (told : D → Told) (old : Parts D) (pages : View D) (n : 
           (subst (λ (map : PageMap). HasBlocks old.pages.layout map table blocks) same (subst (λ (l : DiskLayout). HasBlocks l pages.pages table blocks) keeps.leaves.layout blocks_has)) there its_id
 
   pub still_in_use : (table : ℕ) (hit : Hit) → IsInUse old.pages.layout old.pages.pages table hit.spot → Tells told old.pages → IsInUse pages.layout pages.pages table hit.spot
-  still_in_use table hit use tells = subst (λ (l : DiskLayout). IsInUse l pages.pages table hit.spot) (sym keeps.leaves.layout) (subst (λ (map : PageMap). IsInUse old.pages.layout map table hit.spot) (sym (keeps.pages tells)) use)
+  still_in_use table hit used tells = subst (λ (l : DiskLayout). IsInUse l pages.pages table hit.spot) (sym keeps.leaves.layout) (subst (λ (map : PageMap). IsInUse old.pages.layout map table hit.spot) (sym (keeps.pages tells)) used)
 
   pub behind : (new : Parts D) (answer : Stepped) → old.pages.failed ≡ None → pages.failed ≡ None → StepsSo told mid new n (hands.Marks marking) answer → StepsSo told old new n (hands.Marks marking) answer
   behind new answer ready still steps = steps_behind told old mid new n (hands.Marks marking) answer keeps ready still (record { transactions = refl; locks = refl; rights = refl; journal = refl }) steps

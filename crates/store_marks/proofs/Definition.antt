@@ -54,7 +54,7 @@ module _ (p : Place) (n : ℕ) (query : Query) (answers : List Answer) (first : 
 
   -- the mark is made
   module _ (after : DatabaseState) (does : effect (database_at p) (mark_entry n query.table stands.row) ≡ (after, Marked)) where
-    made : (f : Course) × IsMarked p.opening n query (course_of p at) stands.rows (entries_of first n query stands.row) (replicate k Marked ++ Marked ∷ []) after f
+    pub made : (f : Course) × IsMarked p.opening n query (course_of p at) stands.rows (entries_of first n query stands.row) (replicate k Marked ++ Marked ∷ []) after f
     made = one_mark p.opening n query (course_of p at) stands.copy stands.got stands.rows stands.row stands.more Marked after does first k stands.has stands.left
 
     abbrev pub course : Course
@@ -84,7 +84,7 @@ module _ (p : Place) (n : ℕ) (query : Query) (answers : List Answer) (first : 
 
   -- another one stands in the way
   module _ (after : DatabaseState) (does : effect (database_at p) (mark_entry n query.table stands.row) ≡ (after, Conflict stands.row.id)) where
-    met : (f : Course) × IsMarked p.opening n query (course_of p at) stands.rows (entries_of first n query stands.row) (replicate k Marked ++ Conflict stands.row.id ∷ []) after f
+    pub met : (f : Course) × IsMarked p.opening n query (course_of p at) stands.rows (entries_of first n query stands.row) (replicate k Marked ++ Conflict stands.row.id ∷ []) after f
     met = one_mark p.opening n query (course_of p at) stands.copy stands.got stands.rows stands.row stands.more (Conflict stands.row.id) after does first k stands.has stands.left
 
     abbrev pub course_met : Course

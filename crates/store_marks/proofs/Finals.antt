@@ -40,7 +40,7 @@ use Rattle.store_marks.proofs.Making.{MarkLaws, moves, replies_so}
 use Rattle.store_marks.proofs.Refusing.{ConflictLaws, meets_conflict}
 use Rattle.store_marks.proofs.Standing.{under_way}
 
--- the session has the failed one then
+-- the session has the failed one later
 failed_here : (opens : List (Option Open)) (n : ℕ) (o p : Open) → transaction_of opens n ≡ Some o → transaction_of (set opens n (Some p)) n ≡ Some p
 failed_here [] zero o p is = absurd (none-some o is)
 failed_here [] (suc n) o p is = absurd (none-some o is)
@@ -119,15 +119,15 @@ module _ {D : Type 0} (told : D → Told) (old : Parts D) (n : ℕ) (marking : M
     abbrev now : Parts D
     now = record old { pages = pages; journal = j }
 
-    abbrev then : Marking
-    then = record { query = marking.query; look = None; hits = marking.hits; next = marking.next + 1 }
+    abbrev later : Marking
+    later = record { query = marking.query; look = None; hits = marking.hits; next = marking.next + 1 }
 
-    goes_on_so : (h : Hit) (hs : List Hit) → drop (suc marking.next) marking.hits.items ≡ h ∷ hs → StepsSo told old now n (hands.Marks marking) (stepped.Moved points.Mark (hands.Marks then))
+    goes_on_so : (h : Hit) (hs : List Hit) → drop (suc marking.next) marking.hits.items ≡ h ∷ hs → StepsSo told old now n (hands.Marks marking) (stepped.Moved points.Mark (hands.Marks later))
     goes_on_so h hs more =
         let one_less : length (drop marking.next marking.hits.items) ≡ length (drop (marking.next + 1) marking.hits.items) + 1 =
         omega (arith, length-drop marking.next marking.hits.items, length-drop (marking.next + 1) marking.hits.items, was.in_hand.1.left) in
         let left : marking.next + 1 < length marking.hits.items = omega (arith, ap length more, length-drop (suc marking.next) marking.hits.items) in
-        moved_so told old now n marking then refl (record {
+        moved_so told old now n marking later refl (record {
           fits = fits;
           ready = ready;
           still = still;
@@ -140,7 +140,7 @@ module _ {D : Type 0} (told : D → Told) (old : Parts D) (n : ℕ) (marking : M
           entries = room;
           promised = (λ i. j.promised + share_of (Some (hands.Marks marking)) (own.1 i))
               ∙ mark_promised marking own.0 (length (drop (marking.next + 1) marking.hits.items)) j.promised looked.promised old.journal.promised own.2 one_less mark_promised_ look_promised
-              ∙ (λ i. old.journal.promised + share_of (Some (hands.Marks then)) (sym own.1 i));
+              ∙ (λ i. old.journal.promised + share_of (Some (hands.Marks later)) (sym own.1 i));
           opens = λ m apart. refl;
         }) (moves told laws old pages j n marking hit own.0 was.in_hand.1 own.1 own.2 next free_here marks_own slots_own others entries_now room h hs more)
 
@@ -167,7 +167,7 @@ module _ {D : Type 0} (told : D → Told) (old : Parts D) (n : ℕ) (marking : M
 
     -- by whether one is left
     by_left : (rest : List Hit) → drop (suc marking.next) marking.hits.items ≡ rest → (last : Bool) → (marking.next + 1 == length marking.hits.items) ≡ last
-        → StepsSo told old now n (hands.Marks marking) (if last then stepped.Done (replies.Deleted (marking.next + 1)) else stepped.Moved points.Mark (hands.Marks then))
+        → StepsSo told old now n (hands.Marks marking) (if last then stepped.Done (replies.Deleted (marking.next + 1)) else stepped.Moved points.Mark (hands.Marks later))
     by_left [] is true last = ends_so is
     by_left (h ∷ hs) is false last = goes_on_so h hs is
     by_left (h ∷ hs) is true last = absurd (let same : marking.next + 1 ≡ length marking.hits.items = eqb-true _ _ last in omega (arith, same, ap length is, length-drop (suc marking.next) marking.hits.items))

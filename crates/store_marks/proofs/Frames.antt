@@ -94,12 +94,12 @@ done_so told old new n marking reply left steps = record {
   cause = (left.ready, left.still);
 }
 
-pub moved_so : {D : Type 0} (told : D → Told) (old new : Parts D) (n : ℕ) (marking then : Marking) → then.query ≡ marking.query → LeavesParts told old new n marking (Some (hands.Marks then))
-    → MakesItsStep told old new n (hands.Marks marking) (stepped.Moved points.Mark (hands.Marks then)) → StepsSo told old new n (hands.Marks marking) (stepped.Moved points.Mark (hands.Marks then))
-moved_so told old new n marking then same left steps = record {
+pub moved_so : {D : Type 0} (told : D → Told) (old new : Parts D) (n : ℕ) (marking later : Marking) → later.query ≡ marking.query → LeavesParts told old new n marking (Some (hands.Marks later))
+    → MakesItsStep told old new n (hands.Marks marking) (stepped.Moved points.Mark (hands.Marks later)) → StepsSo told old new n (hands.Marks marking) (stepped.Moved points.Mark (hands.Marks later))
+moved_so told old new n marking later same left steps = record {
   steps = steps;
-  fit = stays_fit told old new n marking (Some (hands.Marks then)) left (stepped.Moved points.Mark (hands.Marks then)) refl;
-  others = leaves_others told old new n marking (Some (hands.Marks then)) left (stepped.Moved points.Mark (hands.Marks then)) refl;
+  fit = stays_fit told old new n marking (Some (hands.Marks later)) left (stepped.Moved points.Mark (hands.Marks later)) refl;
+  others = leaves_others told old new n marking (Some (hands.Marks later)) left (stepped.Moved points.Mark (hands.Marks later)) refl;
   stays = λ names hands_ is. ap (λ (query : Query). statements.Delete query) same;
   cause = (left.ready, left.still);
 }
@@ -124,7 +124,7 @@ pub over_marked : {D : Type 0} (told : D → Told) (tx : TxState) (table : ℕ) 
 over_marked told tx table old new over others = over_kept told tx old new over others.leaves (λ tells block. others.pages tells (record { relation = status_relation; block = block }) (λ is. omega (arith, is)))
 
 -- what is left to mark fits
-pub marking_fits : (layout then : DiskLayout) (own : Option Open) (marking : Marking) → then ≡ layout → IsHandFor layout own (hands.Marks marking) → marking.next + 1 < length marking.hits.items
-    → IsHandFor then own (hands.Marks (record { query = marking.query; look = None; hits = marking.hits; next = marking.next + 1 }))
-marking_fits layout then own marking is fits left = subst (λ (l : DiskLayout). IsHandFor l own (hands.Marks (record { query = marking.query; look = None; hits = marking.hits; next = marking.next + 1 }))) (sym is)
+pub marking_fits : (layout later : DiskLayout) (own : Option Open) (marking : Marking) → later ≡ layout → IsHandFor layout own (hands.Marks marking) → marking.next + 1 < length marking.hits.items
+    → IsHandFor later own (hands.Marks (record { query = marking.query; look = None; hits = marking.hits; next = marking.next + 1 }))
+marking_fits layout later own marking is fits left = subst (λ (l : DiskLayout). IsHandFor l own (hands.Marks (record { query = marking.query; look = None; hits = marking.hits; next = marking.next + 1 }))) (sym is)
     (fits.0, record { look = λ copy none. absurd (none-some copy none); table = fits.1.table; within = fits.1.within; left = left })

@@ -108,13 +108,13 @@ copy_then : (d after : DatabaseState) (n table : ℕ) (id : RowId) (x : OpenTran
 unfolding marked_or
 copy_then d after n table id x got does = by (is_conflict d n x id) (sym (effect_is d (request_entry n table (requests.Mark id)) ∙ ap (λ (o : Option OpenTransaction). effect_at o d (request_entry n table (requests.Mark id))) got) ∙ does)
   where
-    by : (b : Bool) → (if b then (after_failure d n x, Conflict id) else (with_transaction d n (after_mark x id), Marked)) ≡ (after, Marked) → finite.get after.sessions n ≡ Some (after_mark x id)
+    same_number : (n : ℕ) → eq_by_cmp nat_cmp n n ≡ true
+    same_number n = (eq_by_cmp_equiv nat_cmp_total).refl n
+
+    by : (b : Bool) → ◌≡◌ {A = DatabaseState × Answer} (if b then (after_failure d n x, Conflict id) else (with_transaction d n (after_mark x id), Marked)) (after, Marked) → finite.get after.sessions n ≡ Some (after_mark x id)
     by true is = absurd (true≢false (sym (ap (λ (r : DatabaseState × Answer). marked_or r.1) is)))
     by false is = ap (λ (r : DatabaseState × Answer). finite.get r.0.sessions n) (sym is) ∙ finite.get-insert nat_cmp_total d.sessions n (after_mark x id) n
         ∙ ap (λ (b : Bool). cond b (Some (after_mark x id)) (finite.get d.sessions n)) (same_number n)
-
-    same_number : (n : ℕ) → eq_by_cmp nat_cmp n n ≡ true
-    same_number n = (eq_by_cmp_equiv nat_cmp_total).refl n
 
 -- ---- the slots
 
@@ -196,7 +196,7 @@ module _ {D : Type 0} (told : D → Told) (laws : MarkLaws) (old : Parts D) (pag
       conflicts = conflict_free;
     }
 
-    made : DoesRequest s.layout pages.pages s.transactions (database_at p) (request_entry n table (requests.Mark at.row.id)) Marked
+    pub made : DoesRequest s.layout pages.pages s.transactions (database_at p) (request_entry n table (requests.Mark at.row.id)) Marked
     made = laws.mark s.layout s.pages pages.pages s.transactions (database_at p) n table o hit.spot at.row marking_it
         (record { blocks = at.table.blocks; has = at.table.has; there = at.there; marks = has_now; others = λ place apart. others.pages tells place apart })
 
@@ -259,6 +259,7 @@ module _ {D : Type 0} (told : D → Told) (laws : MarkLaws) (old : Parts D) (pag
 
     in_table : IsInTable → StepsInTable n table s after_store
     in_table is_there = record {
+      below = fits.table;
       pages = λ place elsewhere. others.pages tells place (λ same. elsewhere (inl same));
       locks = SameLocks refl;
       rights = λ other apart. refl;
@@ -404,7 +405,7 @@ module _ {D : Type 0} (told : D → Told) (laws : MarkLaws) (old : Parts D) (pag
                 (place_after p n marking.query.table (Some at_then) (v hand_then names hands_ is tells p shown) (p.accounts n) (counts hand_then names hands_ is tells p shown) l)) (sym (longer hand_then names hands_ is tells p shown))
                 (goes_on p n marking.query there.answers (is_first marking.look) marking.next there.stands _ (does hand_then names hands_ is tells p shown) row.0 row.1
                 (v hand_then names hands_ is tells p shown) (counts hand_then names hands_ is tells p shown) row.2 (turn hand_then names hands_ is tells p shown)
-                (λ rests. marks_or_rests (sym (task_then n _ task_now ∙ task_is) ∙ rests)));
+                (λ rests. marks_or_rests (sym (task_then n (plain hand_then names hands_ is tells p shown) task_now ∙ task_is) ∙ rests)));
             fits = room;
           }
         where
@@ -441,7 +442,7 @@ module _ {D : Type 0} (told : D → Told) (laws : MarkLaws) (old : Parts D) (pag
             (subst (λ (l : List Entry). StepsTo p n (record { statement = statements.Delete marking.query; answers = there_last.answers }) (Ended (replies.Deleted (suc marking.next)))
             (place_after p n marking.query.table None (v None names hands_ is tells p shown) (p.accounts n) (counts None names hands_ is tells p shown) l)) (sym (longer None names hands_ is tells p shown))
             (ends p n marking.query there_last.answers (is_first marking.look) marking.next there_last.stands _ (does None names hands_ is tells p shown)
-            (v None names hands_ is tells p shown) (counts None names hands_ is tells p shown) none_more (turn None names hands_ is tells p shown) (task_then n _ _ ∙ rests_then)));
+            (v None names hands_ is tells p shown) (counts None names hands_ is tells p shown) none_more (turn None names hands_ is tells p shown) (task_then n (plain None names hands_ is tells p shown) (left_at there_last.stands.scan (map (λ (r : Row). r.id) there_last.stands.more)) ∙ rests_then)));
         fits = room;
       }
 

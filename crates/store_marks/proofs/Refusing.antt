@@ -161,6 +161,7 @@ module _ {D : Type 0} (told : D → Told) (laws : ConflictLaws) (old : Parts D) 
 
     in_table : StepsInTable n table s then
     in_table = record {
+      below = fits.table;
       pages = λ place elsewhere. refl;
       locks = SameLocks refl;
       rights = λ other apart. refl;

@@ -1,6 +1,6 @@
 //! A mark of a delete.
 
-ghost use Rattle.std.specs.Prelude.{◌≡◌, ◌+◌, ◌<◌, ◌≤◌, ◌++◌, None, Some, IsSome, IfSome, length, slice_get};
+ghost use Rattle.std.specs.Prelude.{◌≡◌, true, false, ◌+◌, ◌<◌, ◌≤◌, ◌++◌, None, Some, IsSome, IfSome, length, slice_get};
 ghost use Rattle.heap_rows.specs.RowPlaces.{IsInUse};
 ghost use Rattle.page_store.specs.Keeps.{Tells};
 ghost use Rattle.row_versions.specs.StoredVersions.{transaction_of};
