@@ -1,26 +1,17 @@
 -- A mark behind the call that tells whether its row is in conflict, which changes no page.
-use Rattle.std.proofs.Common.{◌≡◌, ℕ, ◌<◌, ◌≤◌, Bool, List, length, Option, None, Some, All, refl, sym, ap, ◌∙◌, subst}
-use Rattle.std.specs.Prelude.{IfSome}
+use Rattle.std.proofs.Common.{◌≡◌, ℕ, Bool, length, None, Some, refl, sym, ap, ◌∙◌, subst}
 use Rattle.std.specs.List.{slice_get}
-use Rattle.std.proofs.lemmas.Option.{slice_get_within}
 use Rattle.disk_trait.specs.Told.{Told}
 use Rattle.store_layout.specs.DiskLayout.{DiskLayout}
-use Rattle.page_layout.specs.PageContents.{Slot}
-use Rattle.page_layout.specs.RowBytes.{StoredRow}
 use Rattle.page_store.specs.Keeps.{Keeps, Tells}
 use Rattle.page_store.specs.PageMap.{PageMap, View, block_at}
 use Rattle.heap_rows.specs.HeapBlocks.{HasBlocks}
-use Rattle.heap_rows.specs.RowPlaces.{IsInUse, slot_at}
-use Rattle.snapshot_core.specs.declared.statuses.Status.{Status}
-use Rattle.row_versions.specs.declared.sessions.Open.{Open}
+use Rattle.heap_rows.specs.RowPlaces.{IsInUse}
 use Rattle.row_versions.specs.StoredVersions.{transaction_of}
 use Rattle.tx_table.specs.Kept.{over_kept}
 use Rattle.tx_table.specs.Statuses.{HasStatuses, status_relation}
 use Rattle.tx_table.specs.TxState.{IsOver, TxState}
 use Rattle.transactions.specs.Laws.{CopyStands, SessionsAreShown}
-use Rattle.transactions.specs.StoredRows.{conflicts_with}
-use Rattle.transactions.specs.TransactionsState.{OfOpen}
-use Rattle.store_parts.specs.declared.hand.Hand.{Hand}
 use Rattle.store_parts.specs.declared.hand.Hand.TheVariants as hands
 use Rattle.store_parts.specs.declared.hand.Hit.{Hit}
 use Rattle.store_parts.specs.declared.hand.Marking.{Marking}
@@ -44,17 +35,21 @@ module _ {D : Type 0} (told : D → Told) (old : Parts D) (pages : View D) (n : 
 
   pub still_fit : IsFit told old n (hands.Marks marking) → IsFit told mid n (hands.Marks marking)
   still_fit fits =
-      let was : FitsParts told old n (Some (hands.Marks marking)) = fit_of_parts told old n (hands.Marks marking) fits in
-      (fits.0, fits.1, fits.2, fit_of_stores told mid n (Some (hands.Marks marking)) fits.0 fits.1 (record {
-        session = was.session;
-        over = over_still told old.transactions.tx old.pages pages was.over keeps;
-        in_hand = subst (λ (l : DiskLayout). FitsHand l (transaction_of old.transactions.opens n) (Some (hands.Marks marking))) (sym keeps.leaves.layout) was.in_hand;
-        limit = was.limit;
-        own = was.own;
-        rights = was.rights ∙ ap (λ (l : DiskLayout). length l.schema.tables) (sym keeps.leaves.layout);
-        entries = was.entries;
-        share = was.share;
-      }) fits.2)
+      let was : FitsParts told old n (Some (hands.Marks marking)) = fit_of_parts told old n (hands.Marks marking) fits in (
+        fits.0,
+        fits.1,
+        fits.2,
+        fit_of_stores told mid n (Some (hands.Marks marking)) fits.0 fits.1 (record {
+          session = was.session;
+          over = over_still told old.transactions.tx old.pages pages was.over keeps;
+          in_hand = subst (λ (l : DiskLayout). FitsHand l (transaction_of old.transactions.opens n) (Some (hands.Marks marking))) (sym keeps.leaves.layout) was.in_hand;
+          limit = was.limit;
+          own = was.own;
+          rights = was.rights ∙ ap (λ (l : DiskLayout). length l.schema.tables) (sym keeps.leaves.layout);
+          entries = was.entries;
+          share = was.share;
+        }) fits.2,
+      )
 
   -- what was said of the row holds of the pages then
   pub still_so : (first table : ℕ) (hit : Hit) (own : ℕ) (conflicts : Bool) → HitConflicts told old.pages first table hit own conflicts → HitConflicts told pages first table hit own conflicts
@@ -62,8 +57,8 @@ module _ {D : Type 0} (told : D → Told) (old : Parts D) (pages : View D) (n : 
       let before : Tells told old.pages = sym keeps.leaves.tells ∙ tells in
       let same : pages.pages ≡ old.pages.pages = keeps.pages before in
       so before stored blocks row
-          (subst (λ (map : PageMap). HasStatuses old.pages.layout map stored) same (subst (λ (l : DiskLayout). HasStatuses l pages.pages stored) keeps.leaves.layout has))
-          (subst (λ (map : PageMap). HasBlocks old.pages.layout map table blocks) same (subst (λ (l : DiskLayout). HasBlocks l pages.pages table blocks) keeps.leaves.layout blocks_has)) there its_id
+      (subst (λ (map : PageMap). HasStatuses old.pages.layout map stored) same (subst (λ (l : DiskLayout). HasStatuses l pages.pages stored) keeps.leaves.layout has))
+      (subst (λ (map : PageMap). HasBlocks old.pages.layout map table blocks) same (subst (λ (l : DiskLayout). HasBlocks l pages.pages table blocks) keeps.leaves.layout blocks_has)) there its_id
 
   pub still_in_use : (table : ℕ) (hit : Hit) → IsInUse old.pages.layout old.pages.pages table hit.spot → Tells told old.pages → IsInUse pages.layout pages.pages table hit.spot
   still_in_use table hit used tells = subst (λ (l : DiskLayout). IsInUse l pages.pages table hit.spot) (sym keeps.leaves.layout) (subst (λ (map : PageMap). IsInUse old.pages.layout map table hit.spot) (sym (keeps.pages tells)) used)
@@ -80,5 +75,5 @@ in_use told sessions copies parts n marking hit fits shown ready next tells =
     let own = under_way (transaction_of parts.transactions.opens n) was.in_hand.0 in
     let store = shown tells ready in
     let at : MarksAt (shown_of (store_of parts store.0 store.1)) store.3.0 n marking hit own.0 store.3.1 =
-        marks_at sessions copies (shown_of (store_of parts store.0 store.1)) store.3.0 n marking hit store.2 was.in_hand.1 own.0 own.1 own.2 next store.3.1 in
+    marks_at sessions copies (shown_of (store_of parts store.0 store.1)) store.3.0 n marking hit store.2 was.in_hand.1 own.0 own.1 own.2 next store.3.1 in
     (at.table.blocks, at.row, at.table.has, at.there)

@@ -1,16 +1,14 @@
 -- A mark of a delete in the definition of texts: it goes on, replies or meets a conflict.
-use Rattle.std.proofs.Common.{◌≡◌, ◌≢◌, ◌⊎◌, inl, inr, ℕ, zero, suc, ◌+◌, ◌<◌, ◌≤◌, Bool, true, false, not, ◌&&◌, List, [], ◌∷◌, ◌++◌, length, drop, map, replicate, Option, None, Some, refl, sym, ap, ◌∙◌, subst, arith}
-use Rattle.std.specs.Prelude.{IsTrue, if◌then◌else◌}
+use Rattle.std.proofs.Common.{◌≡◌, ◌≢◌, ℕ, suc, ◌<◌, Bool, true, false, List, [], ◌∷◌, ◌++◌, length, drop, map, replicate, Option, None, Some, refl, sym, ap, ◌∙◌, subst}
+use Rattle.std.specs.Prelude.{if◌then◌else◌}
 use Rattle.std.specs.FinMap as finite
 use Rattle.std.proofs.lemmas.Bool.{true≢false}
 use Rattle.block_model.specs.declared.reply.Point.TheVariants as points
 use Rattle.block_model.specs.declared.reply.Refusal.TheVariants as refusals
-use Rattle.block_model.specs.declared.reply.Reply.{Reply}
 use Rattle.block_model.specs.declared.reply.Reply.TheVariants as replies
 use Rattle.block_model.specs.declared.request.Entry.{Entry}
 use Rattle.block_model.specs.declared.row.Query.{Query}
 use Rattle.block_model.specs.declared.row.Row.{Row}
-use Rattle.block_model.specs.declared.row.RowId.{RowId}
 use Rattle.block_model.specs.DatabaseState.{DatabaseState, OpenTransaction}
 use Rattle.block_model.specs.RequestEffect.{Answer, Conflict, Found, Marked, after_failure, after_mark, effect, effect_at, effect_is, is_conflict, rows_found, with_transaction}
 use Rattle.statements.specs.declared.limits.TheConstants.{MAX_ENTRIES}
@@ -20,9 +18,9 @@ use Rattle.table_coverage.specs.Refusals.{HasConflict}
 use Rattle.table_coverage.specs.Table.{Marks, Resting, TableScan, TableState}
 use Rattle.table_coverage.specs.TableSteps.{OnlyTurns}
 use Rattle.line_texts.specs.Place.{Hand as HandAt, Place, database_at}
-use Rattle.line_texts.specs.Requests.{Course, MakesAll}
-use Rattle.line_texts.specs.StatementSteps.{Ended, LacksRoom, Moved, Outcome, StepsTo, Waits, course_of}
-use Rattle.store_parts.specs.PlacesAfter.{TurnsIn, place_after, point_in, refusal_in}
+use Rattle.line_texts.specs.Requests.{Course}
+use Rattle.line_texts.specs.StatementSteps.{Ended, LacksRoom, Moved, StepsTo, course_of}
+use Rattle.store_parts.specs.PlacesAfter.{TurnsIn, place_after, refusal_in}
 use Rattle.store_parts.specs.RefusalLaws.{refused_in}
 use Rattle.store_parts.proofs.Refusals.{mark_is_refused}
 use Rattle.store_parts.proofs.Steps.{turn_conflicts, turn_goes_on, turn_replies}

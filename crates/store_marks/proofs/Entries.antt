@@ -1,8 +1,7 @@
 -- The entries that a mark of a delete makes, and what they are answered.
-use Rattle.std.proofs.Common.{◌≡◌, ℕ, zero, suc, ◌+◌, Bool, true, false, not, ◌&&◌, List, [], ◌∷◌, ◌++◌, length, drop, replicate, Option, None, Some, refl, sym, ap, ◌∙◌, subst, append_assoc, arith}
+use Rattle.std.proofs.Common.{◌≡◌, ℕ, zero, suc, ◌+◌, Bool, true, false, not, ◌&&◌, List, [], ◌∷◌, ◌++◌, drop, replicate, None, Some, refl, sym, ap, ◌∙◌, subst, append_assoc, arith}
 use Rattle.std.specs.Option.{option_map}
 use Rattle.std.specs.FinMap as maps
-use Rattle.std.proofs.lemmas.Bool.{true≢false}
 use Rattle.block_model.specs.declared.row.Row.{Row}
 use Rattle.block_model.specs.declared.row.RowId.{RowId}
 use Rattle.block_model.specs.declared.row.Query.{Query}
@@ -15,7 +14,7 @@ use Rattle.block_model.specs.SerialRun.{IsLegal, is_legal, is_legal-append, seri
 use Rattle.statements.specs.declared.statement.Statement.{Statement}
 use Rattle.statements.specs.declared.statement.Statement.TheVariants as statements
 use Rattle.statements.specs.StatementRequests.{deleted_reply, look_entry, mark_entry, marks_reply}
-use Rattle.line_texts.specs.Requests.{Course, MakesAll, MakesMark, MakesOne, Enters, First, Further, NoneLeft, OneMore, entered, next_request, row_to_mark}
+use Rattle.line_texts.specs.Requests.{Course, MakesAll, MakesMark, Enters, First, Further, NoneLeft, OneMore, entered, next_request, row_to_mark}
 use Rattle.store_marks.proofs.Copies.{nil-cons, same_head, same_tail}
 
 -- ---- the row to mark next, behind so many marks

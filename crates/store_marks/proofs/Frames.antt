@@ -1,5 +1,5 @@
 -- What a mark leaves of the parts of a store, on any disk.
-use Rattle.std.proofs.Common.{◌≡◌, ◌≢◌, ℕ, suc, ◌+◌, ◌-◌, ◌<◌, ◌≤◌, Bool, false, List, [], ◌∷◌, drop, length, length-drop, length-append, All, Option, None, Some, refl, sym, ap, ◌∙◌, subst, arith}
+use Rattle.std.proofs.Common.{◌≡◌, ◌≢◌, ℕ, ◌+◌, ◌<◌, ◌≤◌, Bool, false, drop, length, length-drop, Option, None, Some, refl, sym, ap, ◌∙◌, subst, arith}
 use Rattle.std.specs.Prelude.{if◌then◌else◌}
 use Rattle.std.proofs.lemmas.Option.{none-some}
 use Rattle.block_model.specs.declared.reply.Point.TheVariants as points
@@ -9,7 +9,7 @@ use Rattle.disk_trait.specs.Told.{Told}
 use Rattle.heap_rows.specs.LeavesOthers.{LeavesOthers}
 use Rattle.page_locks.specs.LockCounts.{locks_of}
 use Rattle.page_locks.specs.LockHolders.{LockState}
-use Rattle.page_store.specs.Keeps.{Leaves, Tells}
+use Rattle.page_store.specs.Keeps.{Leaves}
 use Rattle.page_store.specs.PageMap.{View}
 use Rattle.row_versions.specs.declared.sessions.Open.{Open}
 use Rattle.row_versions.specs.StoredVersions.{transaction_of}
@@ -21,18 +21,15 @@ use Rattle.tx_table.specs.Statuses.{status_relation}
 use Rattle.tx_table.specs.TxState.{IsOver, TxState}
 use Rattle.store_parts.specs.declared.hand.Hand.{Hand}
 use Rattle.store_parts.specs.declared.hand.Hand.TheVariants as hands
-use Rattle.store_parts.specs.declared.hand.Hit.{Hit}
 use Rattle.store_parts.specs.declared.hand.Marking.{Marking}
 use Rattle.store_parts.specs.declared.hand.Stepped.{Stepped}
 use Rattle.store_parts.specs.declared.hand.Stepped.TheVariants as stepped
 use Rattle.store_parts.specs.declared.parts.Parts.{Parts}
-use Rattle.store_parts.specs.HandFits.{FitsHand, IsHandFor, IsMarkingFor, IsUnderWay, locks_held}
-use Rattle.store_parts.specs.Hands.{hits_left, statement_of}
+use Rattle.store_parts.specs.HandFits.{FitsHand, IsHandFor, locks_held}
 use Rattle.store_parts.specs.Shares.{look_share, open_share, share_of}
-use Rattle.store_parts.specs.StepAnswers.{StaysWhereUndone}
 use Rattle.store_parts.specs.StepIs.{hand_after}
 use Rattle.store_parts.specs.Stepping.{IsFit, LeavesTheOthers, MakesItsStep, StaysFit}
-use Rattle.store_parts.specs.StoreStates.{hand_in, store_of, with_hand}
+use Rattle.store_parts.specs.StoreStates.{with_hand}
 use Rattle.store_parts.specs.UndoneLaws.{FitsParts, StepsSo}
 use Rattle.store_parts.proofs.Stores.{hand_changes}
 use Rattle.store_parts.proofs.Undone.{fit_of_parts, fit_of_stores}

@@ -1,5 +1,5 @@
 -- A mark that is made, as a step of its session.
-use Rattle.std.proofs.Common.{◌≡◌, ◌≢◌, ◌⊎◌, inl, inr, ℕ, suc, ◌+◌, ◌<◌, ◌≤◌, ◌==◌, Bool, true, false, cond, not, ◌&&◌, List, [], ◌∷◌, ◌++◌, length, drop, map, replicate, set, All, Option, None, Some, refl, sym, ap, ◌∙◌, subst, arith}
+use Rattle.std.proofs.Common.{◌≡◌, ◌≢◌, ◌⊎◌, inl, inr, ℕ, suc, ◌+◌, ◌<◌, ◌≤◌, Bool, true, false, cond, List, [], ◌∷◌, ◌++◌, length, drop, map, replicate, All, Option, None, Some, refl, sym, ap, ◌∙◌, subst, arith}
 use Rattle.std.specs.Prelude.{IsTrue, if◌then◌else◌}
 use Rattle.std.specs.List.{slice_get}
 use Rattle.std.specs.FinMap as finite
@@ -9,15 +9,13 @@ use Rattle.std.proofs.lemmas.Bool.{cases_eq, true≢false}
 use Rattle.std.proofs.lemmas.List.{length-set}
 use Rattle.std.proofs.lemmas.List.Elements.{All-tail, All-weaker}
 use Rattle.std.proofs.lemmas.Option.{none-some, same_Some}
-use Rattle.block_model.specs.declared.reply.Refusal.TheVariants as refusals
 use Rattle.block_model.specs.declared.reply.Reply.TheVariants as replies
 use Rattle.block_model.specs.declared.request.Entry.{Entry}
 use Rattle.block_model.specs.declared.request.Request.TheVariants as requests
-use Rattle.block_model.specs.declared.row.Query.{Query}
 use Rattle.block_model.specs.declared.row.Row.{Row}
 use Rattle.block_model.specs.declared.row.RowId.{RowId}
 use Rattle.block_model.specs.DatabaseState.{DatabaseState, OpenTransaction}
-use Rattle.block_model.specs.RequestEffect.{Answer, Conflict, Found, Marked, after_failure, after_mark, effect, effect_at, effect_is, is_conflict, rows_found, with_transaction}
+use Rattle.block_model.specs.RequestEffect.{Answer, Conflict, Found, Marked, after_failure, after_mark, effect, effect_at, effect_is, is_conflict, with_transaction}
 use Rattle.block_model.specs.SerialRun.{IsLegal, serial_run}
 use Rattle.disk_trait.specs.Told.{Told}
 use Rattle.block_model.specs.declared.place.Spot.{Spot}
@@ -25,32 +23,28 @@ use Rattle.block_model.specs.declared.reply.Point.TheVariants as points
 use Rattle.page_layout.specs.PageContents.{Slot}
 use Rattle.page_layout.specs.PageWrites.{marked}
 use Rattle.page_layout.specs.RowBytes.{StoredRow}
-use Rattle.heap_rows.specs.HeapBlocks.{HasBlocks, OfBlocks, slots_of}
+use Rattle.heap_rows.specs.HeapBlocks.{HasBlocks, OfBlocks}
 use Rattle.heap_rows.specs.Heaps.{relation_of}
 use Rattle.heap_rows.specs.LeavesOthers.{LeavesOthers as LeavesOtherTables}
 use Rattle.heap_rows.specs.RowPlaces.{ChangesSlot, MarksRow, MarksSlot, slot_at, with_slot}
 use Rattle.opened_pages.specs.PageOrder.{IsIndexInOrder}
-use Rattle.page_store.specs.PageMap.{View, page_at}
+use Rattle.page_store.specs.PageMap.{View}
 use Rattle.store_layout.specs.DiskLayout.{DiskLayout}
-use Rattle.index_contents.specs.IndexContents.{contents, index_page, relation_of as index_relation}
-use Rattle.index_steps.specs.IndexTuples.{index_at}
+use Rattle.index_contents.specs.IndexContents.{relation_of as index_relation}
 use Rattle.index_steps.specs.ShownRows.{row_in, rows_in}
-use Rattle.std.specs.Global.{Vec}
 use Rattle.page_store.specs.Keeps.{Tells}
 use Rattle.snapshot_core.specs.declared.statuses.Status.{Status}
 use Rattle.statements.specs.declared.limits.TheConstants.{MAX_ENTRIES}
 use Rattle.statements.specs.declared.statement.Statement.TheVariants as statements
 use Rattle.statements.specs.StatementRequests.{request_entry}
 use Rattle.row_versions.specs.declared.sessions.Open.{Open}
-use Rattle.row_versions.specs.SessionChanges.{failed_open}
 use Rattle.row_versions.specs.StoredVersions.{transaction_of}
 use Rattle.transactions.specs.CountedRows.{counts as counts_of}
 use Rattle.transactions.specs.Laws.{CopyStands, IsMarking, MarkIsShown, MarkIsUnseen, SessionsAreShown}
-use Rattle.transactions.specs.StoredRows.{MarksRowAt, StandsAt, conflicts_with}
+use Rattle.transactions.specs.StoredRows.{conflicts_with}
 use Rattle.transactions.specs.ShowsDatabase.{DoesRequest, ShowsDatabase}
 use Rattle.table_coverage.specs.Accounts.{Account}
-use Rattle.table_coverage.specs.Machines.{ShownTable, Unseen, table_state, task_turned}
-use Rattle.table_coverage.specs.Refusals.{HasConflict}
+use Rattle.table_coverage.specs.Machines.{ShownTable, table_state, task_turned}
 use Rattle.table_coverage.specs.TableSteps.{OnlyTurns}
 use Rattle.table_coverage.specs.Table.{Marks, Resting, TableScan, TableState, Task, pick}
 use Rattle.table_coverage.proofs.Views.{pick_other, pick_same}
@@ -69,12 +63,11 @@ use Rattle.store_parts.specs.Hands.{HandShows, hits_left, ids_of}
 use Rattle.store_parts.specs.HandsInTables.{IsMarkingAt, IsTaskOf, table_in}
 use Rattle.store_parts.specs.JournalState.{JournalState}
 use Rattle.store_parts.specs.Leaving.{CountsFew, LeadsTo, LeavesOthers, RowsStay, SameLocks, SlotsStay, StepsInTable}
-use Rattle.store_parts.specs.PlacesAfter.{TurnsIn, place_after}
-use Rattle.store_parts.specs.ShowsPlace.{IsLeftToMark, IsOfTransaction, IsPlaceOf, ShowsTable}
-use Rattle.store_parts.specs.Stepping.{IsFit, MakesItsStep}
+use Rattle.store_parts.specs.PlacesAfter.{place_after}
+use Rattle.store_parts.specs.ShowsPlace.{IsOfTransaction, IsPlaceOf, ShowsTable}
+use Rattle.store_parts.specs.Stepping.{MakesItsStep}
 use Rattle.store_parts.specs.StoreLaws.{HasHand}
 use Rattle.store_parts.specs.StoreStates.{ShownStore, hand_in, shown_of, store_of, with_hand}
-use Rattle.store_parts.specs.UndoneLaws.{FitsParts}
 use Rattle.store_parts.proofs.Leads.{mark_leaves_slots}
 use Rattle.store_parts.proofs.Slots.{marked_slot}
 use Rattle.store_parts.proofs.Places.{table_step_is_shown}
@@ -83,7 +76,7 @@ use Rattle.store_parts.proofs.Stores.{hand_changes}
 use Rattle.store_parts.proofs.Tables.{own_table_goes_on, same_contents, shown_alike}
 use Rattle.store_marks.specs.HitConflicts.{HitConflicts}
 use Rattle.store_marks.specs.Looks.{look_entries}
-use Rattle.store_marks.proofs.Definition.{StandsAtMark, answers_are, course, course_is, ends, goes_on}
+use Rattle.store_marks.proofs.Definition.{answers_are, course, course_is, ends, goes_on}
 use Rattle.store_marks.proofs.Entries.{entries_of, legal_mark}
 use Rattle.store_marks.proofs.Hits.{first_of, hits_from}
 use Rattle.store_marks.proofs.Turns.{IsMarkTurn, at_task, left_at, mark_turns, task_then}

@@ -1,6 +1,5 @@
 -- A mark that meets a conflict, as a step of its session.
-use Rattle.std.proofs.Common.{◌≡◌, ◌≢◌, ◌⊎◌, inl, inr, ℕ, ◌+◌, ◌<◌, ◌≤◌, ◌==◌, Bool, true, false, not, ◌&&◌, List, [], ◌∷◌, ◌++◌, length, map, set, Option, None, Some, refl, sym, ap, ◌∙◌, subst, arith}
-use Rattle.std.specs.Prelude.{IsTrue}
+use Rattle.std.proofs.Common.{◌≡◌, ◌≢◌, ℕ, ◌≤◌, ◌==◌, Bool, true, false, not, ◌&&◌, List, [], ◌∷◌, ◌++◌, length, map, Option, None, Some, refl, sym, ap, ◌∙◌, subst}
 use Rattle.std.specs.List.{slice_get}
 use Rattle.std.specs.FinMap as finite
 use Rattle.std.proofs.lemmas.List.{get_or-set_other}
@@ -9,7 +8,6 @@ use Rattle.block_model.specs.declared.reply.Refusal.TheVariants as refusals
 use Rattle.block_model.specs.declared.reply.Reply.TheVariants as replies
 use Rattle.block_model.specs.declared.request.Entry.{Entry}
 use Rattle.block_model.specs.declared.request.Request.TheVariants as requests
-use Rattle.block_model.specs.declared.row.Query.{Query}
 use Rattle.block_model.specs.declared.row.Row.{Row}
 use Rattle.block_model.specs.declared.row.RowId.{RowId}
 use Rattle.block_model.specs.DatabaseState.{DatabaseState}
@@ -27,13 +25,12 @@ use Rattle.row_versions.specs.StoredVersions.{transaction_of}
 use Rattle.transactions.specs.CountedRows.{counts as counts_of}
 use Rattle.transactions.specs.Laws.{ConflictIsShown, CopyStands, FailureCounts, IsMarking, SessionsAreShown}
 use Rattle.transactions.specs.ShowsDatabase.{DoesRequest, ShowsDatabase}
-use Rattle.transactions.specs.TransactionsState.{TransactionsState, with_failed}
+use Rattle.transactions.specs.TransactionsState.{with_failed}
 use Rattle.table_coverage.specs.Accounts.{Account}
-use Rattle.table_coverage.specs.Machines.{Unseen, table_state, task_turned}
+use Rattle.table_coverage.specs.Machines.{Unseen, task_turned}
 use Rattle.table_coverage.specs.Refusals.{HasConflict}
-use Rattle.table_coverage.specs.Table.{Marks, Resting, TableState, Task, pick}
+use Rattle.table_coverage.specs.Table.{Resting, TableState}
 use Rattle.table_coverage.proofs.Views.{pick_other, pick_same}
-use Rattle.index_steps.specs.ShownRows.{shown_by}
 use Rattle.line_texts.specs.Place.{Place, database_at}
 use Rattle.line_texts.specs.Requests.{Course}
 use Rattle.line_texts.specs.StatementSteps.{Ended, Steps, StepsTo, course_of}
@@ -47,14 +44,13 @@ use Rattle.store_parts.specs.HandFits.{IsMarkingFor}
 use Rattle.store_parts.specs.Hands.{HandShows}
 use Rattle.store_parts.specs.HandsInTables.{IsTaskOf, table_in}
 use Rattle.store_parts.specs.JournalState.{JournalState}
-use Rattle.store_parts.specs.Leaving.{CountsFew, LeadsTo, LeavesOthers, SameLocks, SlotsStay, StepsInTable}
+use Rattle.store_parts.specs.Leaving.{CountsFew, LeadsTo, LeavesOthers, SameLocks, StepsInTable}
 use Rattle.store_parts.specs.PlacesAfter.{TurnsIn, place_after, refusal_in}
 use Rattle.store_parts.specs.RefusalLaws.{CountsNoMore, refused_in}
 use Rattle.store_parts.specs.ShowsPlace.{IsPlaceOf, ShowsTable}
-use Rattle.store_parts.specs.Stepping.{IsFit, MakesItsStep}
+use Rattle.store_parts.specs.Stepping.{MakesItsStep}
 use Rattle.store_parts.specs.StoreLaws.{HasHand}
 use Rattle.store_parts.specs.StoreStates.{ShownStore, hand_in, shown_of, store_of, with_hand}
-use Rattle.store_parts.specs.UndoneLaws.{FitsParts}
 use Rattle.store_parts.proofs.Leads.{failure_counts_no_more, fewer_counts_few, nothing_leaves_slots}
 use Rattle.store_parts.proofs.Places.{table_step_is_shown}
 use Rattle.store_parts.proofs.Refusals.{mark_is_refused}
@@ -63,7 +59,7 @@ use Rattle.store_parts.proofs.Stores.{hand_changes}
 use Rattle.store_parts.proofs.Tables.{own_table_goes_on}
 use Rattle.store_marks.specs.HitConflicts.{HitConflicts}
 use Rattle.store_marks.specs.Looks.{look_entries}
-use Rattle.store_marks.proofs.Definition.{StandsAtMark, conflicts, course_met, course_met_is}
+use Rattle.store_marks.proofs.Definition.{conflicts, course_met, course_met_is}
 use Rattle.store_marks.proofs.Entries.{entries_of, legal_mark}
 use Rattle.store_marks.proofs.Standing.{MarksAt, entries_are, is_first, marks_at}
 

@@ -1,35 +1,28 @@
 -- Where a delete stands that marks, as the parts of a store show it.
-use Rattle.std.proofs.Common.{◌≡◌, ◌≢◌, ℕ, zero, suc, ◌+◌, ◌<◌, ◌≤◌, Bool, true, false, List, [], ◌∷◌, ◌++◌, length, length-append, drop, map, replicate, Option, None, Some, All, refl, sym, ap, ◌∙◌, subst, append_assoc, arith}
+use Rattle.std.proofs.Common.{◌≡◌, ℕ, suc, ◌+◌, Bool, true, false, List, [], ◌∷◌, ◌++◌, length, drop, map, Option, None, Some, All, refl, sym, ap, ◌∙◌, subst, append_assoc}
 use Rattle.std.specs.Prelude.{IsTrue}
 use Rattle.std.specs.List.{slice_get}
 use Rattle.std.specs.Option.{is_some}
 use Rattle.std.specs.FinMap as finite
 use Rattle.std.proofs.lemmas.List.{append-nil}
 use Rattle.std.proofs.lemmas.List.Elements.{All-head}
-use Rattle.std.proofs.lemmas.Option.{same_Some}
 use Rattle.block_model.specs.declared.request.Entry.{Entry}
 use Rattle.block_model.specs.declared.request.Request.TheVariants as requests
 use Rattle.block_model.specs.declared.row.Query.{Query}
 use Rattle.block_model.specs.declared.row.Row.{Row}
 use Rattle.block_model.specs.declared.row.RowId.{RowId}
-use Rattle.block_model.specs.DatabaseState.{DatabaseState, OpenTransaction}
-use Rattle.block_model.specs.RequestEffect.{Answer, Found, Marked, after_mark, rows_found}
-use Rattle.store_layout.specs.DiskLayout.{DiskLayout}
-use Rattle.page_layout.specs.PageContents.{Slot}
+use Rattle.block_model.specs.DatabaseState.{OpenTransaction}
+use Rattle.block_model.specs.RequestEffect.{Answer, after_mark, rows_found}
 use Rattle.page_layout.specs.RowBytes.{StoredRow}
 use Rattle.heap_rows.specs.RowPlaces.{slot_at}
-use Rattle.snapshot_core.specs.declared.statuses.Status.{Status}
-use Rattle.statements.specs.declared.limits.TheConstants.{MAX_ENTRIES}
-use Rattle.statements.specs.declared.statement.Statement.TheVariants as statements
 use Rattle.statements.specs.StatementRequests.{look_entry, request_entry}
 use Rattle.row_versions.specs.declared.sessions.Open.{Open}
 use Rattle.row_versions.specs.StoredVersions.{transaction_of}
-use Rattle.tx_table.specs.TxState.{TxState}
 use Rattle.transactions.specs.Laws.{CopyStands, SessionsAreShown}
 use Rattle.transactions.specs.Sessions.{IsCopyOf}
 use Rattle.table_coverage.specs.Accounts.{no_account}
-use Rattle.table_coverage.specs.Table.{Marks, TableScan, TableState, Task}
-use Rattle.line_texts.specs.Place.{Hand as HandAt, Place, database_at}
+use Rattle.table_coverage.specs.Table.{Marks, TableState}
+use Rattle.line_texts.specs.Place.{Place, database_at}
 use Rattle.store_parts.specs.declared.hand.Hand.{Hand}
 use Rattle.store_parts.specs.declared.hand.Hand.TheVariants as hands
 use Rattle.store_parts.specs.declared.hand.Hit.{Hit}

@@ -1,16 +1,13 @@
 -- A mark as a turn of its delete in the table.
-use Rattle.std.proofs.Common.{◌≡◌, ◌≢◌, ◌⊎◌, inl, inr, ℕ, Bool, List, [], ◌∷◌, Option, None, Some, refl, sym, ap, ◌∙◌, subst}
+use Rattle.std.proofs.Common.{◌≡◌, ◌≢◌, inl, inr, ℕ, List, [], ◌∷◌, Some, refl, sym, ◌∙◌}
 use Rattle.block_model.specs.declared.reply.Point.TheVariants as points
 use Rattle.block_model.specs.declared.row.Query.{Query}
 use Rattle.block_model.specs.declared.row.RowId.{RowId}
-use Rattle.statements.specs.declared.statement.Statement.{Statement}
 use Rattle.statements.specs.declared.statement.Statement.TheVariants as statements
-use Rattle.table_coverage.specs.Accounts.{Account}
 use Rattle.table_coverage.specs.InOneIndex.{DoesAt}
 use Rattle.table_coverage.specs.Table.{Marks, Resting, TableScan, TableState, Task, pick}
-use Rattle.table_coverage.specs.TableSteps.{Does, GoesOn, HasStep, Marked, MarksRow, OnlyTurns, SameIndexes, SameRows, Settles, Stays, TaskTurns}
+use Rattle.table_coverage.specs.TableSteps.{GoesOn, Marked, MarksRow, OnlyTurns, Settles, Stays, TaskTurns}
 use Rattle.table_coverage.proofs.Views.{pick_same, pick_there}
-use Rattle.line_texts.specs.Beginnings.{IsIn}
 use Rattle.line_texts.specs.Place.{Place}
 use Rattle.store_parts.specs.PlacesAfter.{TurnsIn, point_in}
 use Rattle.store_parts.proofs.Steps.{machine_turns}

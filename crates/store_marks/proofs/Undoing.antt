@@ -1,5 +1,5 @@
 -- Steps that aren't done.
-use Rattle.std.proofs.Common.{◌≡◌, ℕ, ◌≤◌, List, length, Option, None, Some, refl, sym, subst, arith}
+use Rattle.std.proofs.Common.{◌≡◌, ℕ, List, length, Option, None, Some, refl, sym, subst, arith}
 use Rattle.disk_trait.specs.Told.{Told}
 use Rattle.page_store.specs.declared.faults.StoreError.{StoreError}
 use Rattle.page_store.specs.Keeps.{Leaves, Untold}

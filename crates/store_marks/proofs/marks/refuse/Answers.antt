@@ -1,4 +1,4 @@
-use Rattle.std.proofs.Common.{ap, ◌∙◌, length, length-append, arith}
+use Rattle.std.proofs.Common.{◌∙◌}
 use Rattle.store_marks.proofs.Finals.{refuses_so}
 use Rattle.store_marks.proofs.Lacking.{more_entries}
 use Rattle.store_marks.proofs.marks.refuse.Goals as goal
