@@ -1,0 +1,14 @@
+pub mod Copies
+pub mod Entries
+pub mod Hits
+pub mod Turns
+pub mod Definition
+pub mod Standing
+pub mod Refusing
+pub mod Making
+pub mod Frames
+pub mod Finals
+pub mod Undoing
+pub mod Lacking
+pub mod Behind
+pub mod Judging

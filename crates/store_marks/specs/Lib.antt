@@ -1,0 +1,2 @@
+pub mod HitConflicts
+pub mod Looks
