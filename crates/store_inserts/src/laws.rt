@@ -8,8 +8,8 @@ use store_parts::{
     the_own_table_goes_on,
 };
 use transactions::{
-    a_failure_is_shown, a_put_is_shown, a_refusal_is_a_failure,
-    a_session_has_its_transaction, other_pages_show_alike, others_see_alike, which_rows_count,
+    a_failure_is_shown, a_put_is_shown, a_refusal_is_a_failure, a_session_has_its_transaction,
+    other_pages_show_alike, others_see_alike, which_rows_count,
 };
 
 /// What a step in an index, the put of a row and a refusal are in the place that the store shows. Does nothing.
