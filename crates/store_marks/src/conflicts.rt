@@ -1,6 +1,7 @@
 //! Whether another transaction keeps the session's from deleting a row.
 
 ghost use Rattle.std.specs.Prelude.{◌≡◌, ◌<◌, List, None, Some, IsSome, length, IfOk};
+ghost use Rattle.logged_pages.specs.Survives.{Survives};
 ghost use Rattle.page_layout.specs.PageContents.{Slot};
 ghost use Rattle.page_layout.specs.RowBytes.{StoredRow};
 ghost use Rattle.page_store.specs.Keeps.{Keeps, Tells, Untold};
@@ -11,6 +12,7 @@ ghost use Rattle.heap_rows.specs.RowPlaces.{IsInUse, slot_at};
 ghost use Rattle.row_versions.specs.Marks.{holds};
 ghost use Rattle.row_versions.specs.StoredVersions.{transaction_of};
 ghost use Rattle.snapshot_core.specs.declared.statuses.Status.{Status as AnyStatus};
+ghost use Rattle.tx_table.specs.Durable.{IsBefore};
 ghost use Rattle.transactions.specs.TransactionsState.{OfOpen};
 ghost use Rattle.store_marks.specs.HitConflicts.{HitConflicts};
 
@@ -33,11 +35,13 @@ pub(crate) fn hit_conflicts<D: Disk + Drop>(
 ) -> Result<bool, StoreError>
     requires open { IsSome (transaction_of transactions.now.opens session) }
     requires ready { pages.old.failed ≡ None }
+    requires stays { Survives D.told (λ passed. ⊥) pages.old pages.old }
     requires table { table < length pages.old.layout.schema.tables }
     requires block { hit.spot.block < pages.old.layout.sizes.heap_blocks }
     requires used { Tells D.told pages.old → IsInUse pages.old.layout pages.old.pages table hit.spot }
     ensures conflicts { IfOk result (λ conflicts. OfOpen transactions.now session (λ o. HitConflicts D.told pages.old transactions.now.tx.first table hit o.t conflicts)) }
     ensures kept { Keeps D.told pages.old pages.new }
+    ensures survives { Survives D.told (IsBefore pages.old) pages.old pages.new }
     ensures outcome { Outcome D.told (Untold D.told pages.old) pages.old pages.new result }
 {
     let own = transactions.open(session).t;

@@ -2,9 +2,11 @@
 
 ghost use Rattle.std.specs.Prelude.{◌≡◌, true, false, ◌+◌, ◌<◌, ◌≤◌, ◌++◌, None, Some, IsSome, IfSome, length, slice_get};
 ghost use Rattle.heap_rows.specs.RowPlaces.{IsInUse};
+ghost use Rattle.logged_pages.specs.Survives.{Survives};
 ghost use Rattle.page_store.specs.Keeps.{Tells};
 ghost use Rattle.row_versions.specs.StoredVersions.{transaction_of};
 ghost use Rattle.statements.specs.declared.limits.TheConstants.{MAX_ENTRIES};
+ghost use Rattle.tx_table.specs.Durable.{IsBefore};
 ghost use Rattle.transactions.specs.TransactionsState.{OfOpen};
 ghost use Rattle.store_marks.specs.HitConflicts.{HitConflicts};
 ghost use Rattle.store_marks.specs.Looks.{look_entries, stepped_behind};
@@ -28,6 +30,8 @@ pub fn mark<D: Disk + Drop>(parts: &mut Parts<D>, session: u32, marking: Marking
     ensures others { LeavesTheOthers D.told parts.old parts.new session (Hand.Marks marking) result }
     ensures stays { StaysUndone D.told parts.old parts.new session (Hand.Marks marking) result }
     ensures cause { HasCause D.told parts.old.pages parts.new.pages result }
+    // At every moment of the step an image opens to what one did before it, or to the pages as they were.
+    ensures survives { Survives D.told (IsBefore parts.old.pages) parts.old.pages parts.new.pages }
 {
     laws_of_transactions();
     match parts.pages.ready() {
@@ -126,6 +130,7 @@ fn refuse<D: Disk + Drop>(parts: &mut Parts<D>, session: u32, marking: Marking) 
     ensures others { LeavesTheOthers D.told parts.old parts.new session (Hand.Marks marking) result }
     ensures stays { StaysUndone D.told parts.old parts.new session (Hand.Marks marking) result }
     ensures cause { HasCause D.told parts.old.pages parts.new.pages result }
+    ensures pages { parts.new.pages ≡ parts.old.pages }
 {
     laws_of_transactions();
     let hit = next_hit(&marking);
@@ -152,6 +157,7 @@ fn mark_hit<D: Disk + Drop>(parts: &mut Parts<D>, session: u32, marking: Marking
     ensures others { LeavesTheOthers D.told parts.old parts.new session (Hand.Marks marking) result }
     ensures stays { StaysUndone D.told parts.old parts.new session (Hand.Marks marking) result }
     ensures cause { HasCause D.told parts.old.pages parts.new.pages result }
+    ensures survives { Survives D.told (IsBefore parts.old.pages) parts.old.pages parts.new.pages }
 {
     laws_of_transactions();
     let hit = next_hit(&marking);

@@ -6,6 +6,7 @@ use Rattle.row_versions.specs.declared.sessions.Open.{Open}
 use Rattle.store_layout.specs.DiskLayout.{DiskLayout}
 use Rattle.tx_table.specs.Statuses.{HasStatuses, shown_status}
 use Rattle.tx_table.specs.TxState.{TxState}
+use Rattle.tx_table.proofs.Parts.{before_then}
 use Rattle.store_marks.proofs.Judging.{by_status}
 use Rattle.store_marks.proofs.conflicts.hit_conflicts.Goals as goal
 
@@ -20,3 +21,9 @@ returns-in-Ok-status-clause-conflicts g c = λ o opened tells stored blocks row 
     (λ is. c.if-hit-own.false (ap (λ (i : RowId). i.t) (sym its_id) ∙ is ∙ sym own_is)) (λ is. c.if-deleter-own.false (deleter_is ∙ is ∙ sym own_is)) (λ is. c.if-deleter-eq0.false (deleter_is ∙ is))
     (c.in-Ok-status.ensures.shown (kept.leaves.tells ∙ tells) stored has_now ∙ ap (λ (t : TxState). shown_status t.first stored c.in-Ok.deleter) c.tx.ensures
     ∙ ap (shown_status c.args.transactions.now.tx.first stored) deleter_is) c.holds.ensures
+
+pub returns-in-Ok-status-clause-survives : goal.returns-in-Ok-status-clause-survives
+returns-in-Ok-status-clause-survives g c = before_then g.D.Disk.told c.args.pages.now c.deleter_of.new.pages c.status.new.pages c.deleter_of.ensures.kept c.deleter_of.ensures.survives c.status.ensures.survives
+
+pub returns-in-Err-status-clause-survives : goal.returns-in-Err-status-clause-survives
+returns-in-Err-status-clause-survives g c = before_then g.D.Disk.told c.args.pages.now c.deleter_of.new.pages c.status.new.pages c.deleter_of.ensures.kept c.deleter_of.ensures.survives c.status.ensures.survives

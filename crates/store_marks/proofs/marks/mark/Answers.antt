@@ -1,6 +1,10 @@
 use Rattle.std.proofs.Common.{Option, refl, sym, ◌∙◌, subst}
 use Rattle.std.specs.Prelude.{IfSome}
 use Rattle.heap_rows.specs.RowPlaces.{IsInUse}
+use Rattle.logged_pages.specs.Survives.{Survives}
+use Rattle.page_store.specs.PageMap.{View}
+use Rattle.tx_table.specs.Durable.{IsBefore}
+use Rattle.tx_table.proofs.Parts.{before_then, passed_none}
 use Rattle.store_parts.specs.declared.hand.Hand.TheVariants as hands
 use Rattle.store_parts.specs.declared.hand.Hit.{Hit}
 use Rattle.store_parts.specs.declared.parts.Parts.{Parts}
@@ -32,14 +36,28 @@ returns-in-Ok-true g c =
     let made = c.refuse.ensures in
     let r = behind g.D.Disk.told c.args.parts.now c.hit_conflicts.new.pages c.args.session c.args.marking c.hit_conflicts.ensures.kept c.refuse.new.parts c.refuse.result c.in-Ok.ensures.outcome.0 c.in-Ok-true.ensures.outcome.1
     (record { steps = made.steps; fit = made.fit; others = made.others; stays = made.stays; cause = made.cause }) in
-    record { steps = r.steps; fit = r.fit; others = r.others; stays = r.stays; cause = r.cause }
+    record {
+      steps = r.steps;
+      fit = r.fit;
+      others = r.others;
+      stays = r.stays;
+      cause = r.cause;
+      survives = subst (λ (new : View _). Survives g.D.Disk.told (IsBefore c.args.parts.now.pages) c.args.parts.now.pages new) (sym made.pages) c.hit_conflicts.ensures.survives;
+    }
 
 pub returns-in-Ok-false : goal.returns-in-Ok-false
 returns-in-Ok-false g c =
     let made = c.mark_hit.ensures in
     let r = behind g.D.Disk.told c.args.parts.now c.hit_conflicts.new.pages c.args.session c.args.marking c.hit_conflicts.ensures.kept c.mark_hit.new.parts c.mark_hit.result c.in-Ok.ensures.outcome.0 c.in-Ok-false.ensures.outcome.1
     (record { steps = made.steps; fit = made.fit; others = made.others; stays = made.stays; cause = made.cause }) in
-    record { steps = r.steps; fit = r.fit; others = r.others; stays = r.stays; cause = r.cause }
+    record {
+      steps = r.steps;
+      fit = r.fit;
+      others = r.others;
+      stays = r.stays;
+      cause = r.cause;
+      survives = before_then g.D.Disk.told c.args.parts.now.pages c.hit_conflicts.new.pages c.mark_hit.new.parts.pages c.hit_conflicts.ensures.kept c.hit_conflicts.ensures.survives made.survives;
+    }
 
 pub returns-in-Err-hit_conflicts-clause-fit : goal.returns-in-Err-hit_conflicts-clause-fit
 returns-in-Err-hit_conflicts-clause-fit g c =

@@ -22,7 +22,7 @@ returns-in-Ok g c =
     (record { sessions = laws.sessions; copies = laws.copies; mark = laws.mark; unseen = laws.unseen }) c.mark.new.pages c.enter_look.new.journal c.enter.new.self c.open.result.now.t c.requires.free
     (λ o is. ap (λ (x : Open). x.t) (same_Some _ _ (sym c.open.ensures ∙ is))) c.in-Ok.ensures.outcome.1 c.in-Ok.ensures.marked c.in-Ok.ensures.slots c.mark.ensures.others c.enter_look.ensures.entries c.enter_look.ensures.promised
     c.enter.ensures.entries c.enter.ensures.promised (more_entries c.args.marking.look c.args.session _ _ _ _ c.requires.room c.enter.ensures.entries c.enter_look.ensures.entries) c.behind.result c.behind.ensures in
-    record { steps = r.steps; fit = r.fit; others = r.others; stays = r.stays; cause = r.cause }
+    record { steps = r.steps; fit = r.fit; others = r.others; stays = r.stays; cause = r.cause; survives = c.mark.ensures.survives }
 
 pub returns-in-Err : goal.returns-in-Err
 returns-in-Err g c =
@@ -32,4 +32,4 @@ returns-in-Err g c =
     refused_by told old (record old { pages = c.mark.new.pages }) c.args.session (hands.Marks c.args.marking) c.in-Err.error c.fault_of.result c.requires.fit
     (over_marked told old.transactions.tx c.args.marking.query.table old.pages c.mark.new.pages (fit_of_parts told old c.args.session (hands.Marks c.args.marking) c.requires.fit).over c.mark.ensures.others)
     c.mark.ensures.others.leaves (record { transactions = refl; locks = refl; rights = refl; journal = refl }) c.in-Err.ensures.outcome c.fault_of.ensures in
-    record { steps = r.steps; fit = r.fit; others = r.others; stays = r.stays; cause = r.cause }
+    record { steps = r.steps; fit = r.fit; others = r.others; stays = r.stays; cause = r.cause; survives = c.mark.ensures.survives }

@@ -1,4 +1,4 @@
-use Rattle.std.proofs.Common.{◌∙◌}
+use Rattle.std.proofs.Common.{refl, ◌∙◌}
 use Rattle.store_marks.proofs.Finals.{refuses_so}
 use Rattle.store_marks.proofs.Lacking.{more_entries}
 use Rattle.store_marks.proofs.marks.refuse.Goals as goal
@@ -10,4 +10,4 @@ returns g c =
     (record { sessions = laws.sessions; copies = laws.copies; conflict = laws.conflict; counts = laws.failed }) c.enter_look.new.journal c.enter.new.self c.release.new.self c.fail.new.self c.hits_left-left.result
     c.requires.conflict c.enter_look.ensures.entries c.enter_look.ensures.promised c.enter.ensures.entries c.enter.ensures.promised c.release.ensures.entries c.release.ensures.promised c.hits_left-left.ensures c.fail.ensures
     (more_entries c.args.marking.look c.args.session _ _ _ _ c.requires.room (c.release.ensures.entries ∙ c.enter.ensures.entries) c.enter_look.ensures.entries) in
-    record { steps = r.steps; fit = r.fit; others = r.others; stays = r.stays; cause = r.cause }
+    record { steps = r.steps; fit = r.fit; others = r.others; stays = r.stays; cause = r.cause; pages = refl }
