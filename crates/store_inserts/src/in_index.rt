@@ -3,6 +3,8 @@
 ghost use Rattle.std.specs.Prelude.{◌≡◌, ℕ, ◌+◌, ◌<◌, ◌≤◌, ◌∷◌, ◌++◌, [], Some, length, slice_get, IfSome, IsSome};
 ghost use Rattle.block_model.specs.declared.request.Request.TheVariants as requests;
 ghost use Rattle.index_steps.specs.ShownTable.{indexes_of};
+ghost use Rattle.logged_pages.specs.Survives.{Survives};
+ghost use Rattle.tx_table.specs.Durable.{IsBefore};
 ghost use Rattle.line_texts.specs.Names.{index_name};
 ghost use Rattle.page_locks.specs.LockChanges.{GivesAll};
 ghost use Rattle.page_locks.specs.LockCounts.{AddsAtMost, locks_of};
@@ -46,6 +48,7 @@ pub fn insert_on<D: Disk + Drop>(
     ensures others { LeavesTheOthers D.told parts.old parts.new session (Hand.Inserts insert) result }
     ensures stays { StaysUndone D.told parts.old parts.new session (Hand.Inserts insert) result }
     ensures cause { HasCause D.told parts.old.pages parts.new.pages result }
+    ensures survives { Survives D.told (IsBefore parts.old.pages) parts.old.pages parts.new.pages }
     ensures spare { IfSome spare.new (IsInsertFor parts.old.pages.layout) }
 {
     steps_of_an_insert();

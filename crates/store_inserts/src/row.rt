@@ -2,6 +2,8 @@
 
 ghost use Rattle.std.specs.Prelude.{◌≡◌, ◌+◌, ◌^◌, ◌<◌, ◌≤◌, ◌∷◌, ◌++◌, [], None, Some, length, IfSome, IsSome, IsSomeAnd};
 ghost use Rattle.block_model.specs.declared.request.Request.TheVariants as requests;
+ghost use Rattle.logged_pages.specs.Survives.{Survives};
+ghost use Rattle.tx_table.specs.Durable.{IsBefore};
 ghost use Rattle.line_texts.specs.Names.{table_name};
 ghost use Rattle.page_locks.specs.LockChanges.{GivesAll};
 ghost use Rattle.page_locks.specs.LockCounts.{AddsAtMost, locks_of};
@@ -50,6 +52,7 @@ pub fn put_row<D: Disk + Drop>(
     ensures others { LeavesTheOthers D.told parts.old parts.new session (Hand.Puts table values) result }
     ensures stays { StaysUndone D.told parts.old parts.new session (Hand.Puts table values) result }
     ensures cause { HasCause D.told parts.old.pages parts.new.pages result }
+    ensures survives { Survives D.told (IsBefore parts.old.pages) parts.old.pages parts.new.pages }
     ensures spare { IfSome spare.new (IsInsertFor parts.old.pages.layout) }
 {
     steps_of_an_insert();
@@ -107,6 +110,7 @@ fn first_step<D: Disk + Drop>(
     ensures others { LeavesTheOthers D.told (unpromised parts.old) parts.new session (Hand.Puts insert.row.table insert.row.values) result }
     ensures stays { StaysUndone D.told (unpromised parts.old) parts.new session (Hand.Puts insert.row.table insert.row.values) result }
     ensures cause { HasCause D.told parts.old.pages parts.new.pages result }
+    ensures survives { Survives D.told (IsBefore parts.old.pages) parts.old.pages parts.new.pages }
     ensures spare { IfSome spare.new (IsInsertFor parts.old.pages.layout) }
 {
     steps_of_an_insert();

@@ -32,6 +32,9 @@ use Rattle.line_texts.specs.Names.{index_name}
 use Rattle.brin_insert.proofs.Tasks.{number_there}
 use Rattle.store_parts.specs.declared.parts.Parts.{Parts}
 use Rattle.store_parts.specs.HandFits.{IsOwnRow}
+use Rattle.logged_pages.specs.Survives.{Survives}
+use Rattle.tx_table.specs.Durable.{IsBefore}
+use Rattle.tx_table.proofs.Parts.{passed_none}
 use Rattle.store_inserts.proofs.AtIndex.{insert_of, kept_at_index}
 use Rattle.store_inserts.proofs.Beside.{at_no_status, at_work_of, over_beside, own_of, past_room, under_way}
 use Rattle.store_inserts.proofs.OnParts.{done_so, full_so, moved_so, none_left, number_at, spent_so, waited_there, waits_so}
@@ -48,7 +51,7 @@ returns-in-Err g c =
     let fits = c.an_undone_step_changes_nothing.ensures.parts parts c.args.session hand c.requires.fit in
     let so : StepsSo g.D.Disk.told parts parts c.args.session hand c.undone.result = subst (λ (a : Stepped). StepsSo g.D.Disk.told parts parts c.args.session hand a) (sym is)
     (c.an_undone_step_changes_nothing.ensures.refused parts parts c.args.session hand c.in-Err.error c.requires.fit fits.over (leaves_same g.D.Disk.told parts.pages) (record { transactions = refl; locks = refl; rights = refl; journal = refl }) c.in-Err.ensures.outcome) in
-    record { steps = so.steps; fit = so.fit; others = so.others; stays = so.stays; cause = so.cause; spare = c.requires.spare }
+    record { steps = so.steps; fit = so.fit; others = so.others; stays = so.stays; cause = so.cause; spare = c.requires.spare; survives = passed_none g.D.Disk.told (IsBefore parts.pages) parts.pages parts.pages c.ready.ensures.stays }
 
 -- the step may be made
 
@@ -94,7 +97,7 @@ returns-in-Ok-Moved g c =
     (record { others = c.step.ensures.others; order = c.step.ensures.order; leaves = c.step.ensures.locks; counts = c.step.ensures.counts; made = c.step.ensures.made; row = c.step.ensures.same_row; ready = (outcome.0, outcome.1) })
     c.steps_of_an_insert.ensures.index c.in-Ok-Moved.point (rw c.in-Ok-Moved.field-0-is at c.in-Ok-Moved.ensures.stepped) (rw c.in-Ok-Moved.field-0-is at c.in-Ok-Moved.ensures.left) c.in-Ok-Moved.ensures.placed
     (c.in-Ok-Moved.ensures.own (laws.parts parts c.args.session hand c.requires.fit).own) in
-    record { steps = so.steps; fit = so.fit; others = so.others; stays = so.stays; cause = so.cause; spare = c.requires.spare }
+    record { steps = so.steps; fit = so.fit; others = so.others; stays = so.stays; cause = so.cause; spare = c.requires.spare; survives = c.step.ensures.survives }
 
 -- it is done
 
@@ -112,7 +115,7 @@ returns-in-Ok-Finished g c =
     (record { others = c.step.ensures.others; order = c.step.ensures.order; leaves = c.step.ensures.locks; counts = c.step.ensures.counts; made = c.step.ensures.made; row = c.step.ensures.same_row; ready = (outcome.0, outcome.1) })
     c.steps_of_an_insert.ensures.index c.in-Ok-Finished.field-0-0 (rw c.in-Ok-Finished.field-0-is at c.in-Ok-Finished.ensures.stepped) c.in-Ok-Finished.ensures.placed
     (none_left after (rw c.in-Ok-Finished.field-0-is at c.in-Ok-Finished.ensures.left) c.step.new.locks c.args.session (c.in-Ok-Finished.ensures.own (laws.parts parts c.args.session hand c.requires.fit).own))) in
-    record { steps = so.steps; fit = so.fit; others = so.others; stays = so.stays; cause = so.cause; spare = subst (λ (o : Option Insert). IfSome o (IsInsertFor parts.pages.layout)) (sym c.answered.ensures.spare) c.step.ensures.made }
+    record { steps = so.steps; fit = so.fit; others = so.others; stays = so.stays; cause = so.cause; spare = subst (λ (o : Option Insert). IfSome o (IsInsertFor parts.pages.layout)) (sym c.answered.ensures.spare) c.step.ensures.made; survives = c.step.ensures.survives }
 
 -- it waits
 
@@ -130,7 +133,7 @@ returns-in-Ok-Blocked g c =
     (rw c.in-Ok-Blocked.field-0-is at c.in-Ok-Blocked.ensures.stepped) (rw c.in-Ok-Blocked.field-0-is at c.in-Ok-Blocked.ensures.left) c.in-Ok-Blocked.ensures.placed (rw c.in-Ok-Blocked.field-0-is at c.in-Ok-Blocked.ensures.blocked)
     (c.in-Ok-Blocked.ensures.own fits.own) c.index-index.result c.index-index.ensures c.page_waited_for.result
     (waited_there parts.pages.layout c.layout.result.now (c.layout.ensures ∙ c.step.ensures.others.leaves.layout) c.index-index.result c.in-Ok-Blocked.held.page.block c.page_waited_for.result c.page_waited_for.ensures.among) in
-    record { steps = so.steps; fit = so.fit; others = so.others; stays = so.stays; cause = so.cause; spare = c.requires.spare }
+    record { steps = so.steps; fit = so.fit; others = so.others; stays = so.stays; cause = so.cause; spare = c.requires.spare; survives = c.step.ensures.survives }
 
 pub unreachable-requires : goal.unreachable-requires
 unreachable-requires g c = rw c.in-Ok-NoRight.field-0-is at c.in-Ok-NoRight.ensures.left
@@ -162,7 +165,7 @@ returns-then-not-fits g c =
     c.steps_of_an_insert.ensures.index c.steps_of_an_insert.ensures.refusal c.in-Err-Full.field-0-0 c.in-Err-Full.number (rw c.in-Err-Full.field-0-is at c.in-Err-Full.ensures.full)
     c.in-Err-Full.ensures.same_place c.in-Err-Full.ensures.still_left c.in-Err-Full.ensures.stays c.in-Err-Full.ensures.same_stage (rw c.in-Err-Full.field-0-is at c.in-Err-Full.ensures.at_full) c.in-Err-Full.ensures.kept
     (length parts.journal.entries) refl full) in
-    record { steps = so.steps; fit = so.fit; others = so.others; stays = so.stays; cause = so.cause; spare = c.requires.spare }
+    record { steps = so.steps; fit = so.fit; others = so.others; stays = so.stays; cause = so.cause; spare = c.requires.spare; survives = c.step.ensures.survives }
 
 -- it has room, and the insert is refused
 
@@ -230,7 +233,7 @@ returns-else-not-fits g c =
     c.steps_of_an_insert.ensures.refusal c.in-Err-Full.field-0-0 c.in-Err-Full.number (rw c.in-Err-Full.field-0-is at c.in-Err-Full.ensures.full) c.in-Err-Full.ensures.kept
     later.transactions later.locks later.journal own.own refused (subst (λ (l : LockState). GivesAll (holder l) (holder later.locks) c.args.session) same_locks c.full_index-reply.ensures.given)
     (own_of (transaction_of parts.transactions.opens c.args.session) fits.in_hand.0 c.args.insert.row.id.t fits.in_hand.4 own.own own.is) c.full_index-reply.result reply_is) in
-    record { steps = so.steps; fit = so.fit; others = so.others; stays = so.stays; cause = so.cause; spare = c.step.ensures.made }
+    record { steps = so.steps; fit = so.fit; others = so.others; stays = so.stays; cause = so.cause; spare = c.step.ensures.made; survives = subst (λ (q : Parts _). Survives g.D.Disk.told (IsBefore c.args.parts.now.pages) c.args.parts.now.pages q.pages) (sym c.full_index-reply.ensures.rest) c.step.ensures.survives }
 
 -- the pages refuse it
 
@@ -259,4 +262,4 @@ returns-in-Err-Store g c =
     subst (λ (a : Stepped). StepsSo g.D.Disk.told parts (record parts { pages = c.step.new.pages; locks = c.drop_all.new.self }) c.args.session hand a) (sym is)
     (undone_so g.D.Disk.told c.one_hand_changes.ensures laws.stores parts c.step.new.pages c.drop_all.new.self parts.journal c.args.session hand (hands.Inserts after) undone c.in-Err-Store.error
     (rw c.in-Err-Store.field-0-is at c.in-Err-Store.ensures.outcome)) in
-    record { steps = so.steps; fit = so.fit; others = so.others; stays = so.stays; cause = so.cause; spare = c.requires.spare }
+    record { steps = so.steps; fit = so.fit; others = so.others; stays = so.stays; cause = so.cause; spare = c.requires.spare; survives = c.step.ensures.survives }

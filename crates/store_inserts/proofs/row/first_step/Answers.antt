@@ -35,6 +35,8 @@ use Rattle.store_parts.specs.declared.parts.Parts.{Parts}
 use Rattle.store_parts.specs.StoreFaults.{fault_of}
 use Rattle.store_parts.specs.UndoneLaws.{StepsSo}
 use Rattle.store_inserts.specs.Promised.{unpromised}
+use Rattle.logged_pages.specs.Survives.{Survives}
+use Rattle.tx_table.specs.Durable.{IsBefore}
 use Rattle.store_inserts.proofs.Beside.{over_beside, under_way}
 use Rattle.store_inserts.proofs.OnParts.{none_left}
 use Rattle.store_inserts.proofs.Refusing.{LeftRefused, LeftUndone, share_whole, undone_so}
@@ -142,7 +144,7 @@ returns-in-Ok-Moved g c =
       room = let room = c.requires.fits in omega (arith, room);
     })
     c.steps_of_an_insert.ensures.row c.in-Ok-Moved.point (rw c.in-Ok-Moved.field-0-is at c.in-Ok-Moved.ensures.stepped) (rw c.in-Ok-Moved.field-0-is at c.in-Ok-Moved.ensures.left) c.in-Ok-Moved.ensures.placed (c.in-Ok-Moved.ensures.own none)) in
-    record { steps = so.steps; fit = so.fit; others = so.others; stays = so.stays; cause = so.cause; spare = c.requires.spare }
+    record { steps = so.steps; fit = so.fit; others = so.others; stays = so.stays; cause = so.cause; spare = c.requires.spare; survives = subst (λ (q : Parts _). Survives g.D.Disk.told (IsBefore c.args.parts.now.pages) c.args.parts.now.pages q.pages) (sym c.enter_row.ensures.rest) c.step.ensures.survives }
 
 -- it is done
 
@@ -176,7 +178,7 @@ returns-in-Ok-Finished g c =
     })
     c.steps_of_an_insert.ensures.row c.in-Ok-Finished.field-0-0 (rw c.in-Ok-Finished.field-0-is at c.in-Ok-Finished.ensures.stepped) c.in-Ok-Finished.ensures.placed
     (none_left after (rw c.in-Ok-Finished.field-0-is at c.in-Ok-Finished.ensures.left) c.step.new.locks c.args.session (c.in-Ok-Finished.ensures.own none)))) in
-    record { steps = so.steps; fit = so.fit; others = so.others; stays = so.stays; cause = so.cause; spare = subst (λ (o : Option Insert). IfSome o (IsInsertFor parts.pages.layout)) (sym c.answered.ensures.spare) c.step.ensures.made }
+    record { steps = so.steps; fit = so.fit; others = so.others; stays = so.stays; cause = so.cause; spare = subst (λ (o : Option Insert). IfSome o (IsInsertFor parts.pages.layout)) (sym c.answered.ensures.spare) c.step.ensures.made; survives = subst (λ (q : Parts _). Survives g.D.Disk.told (IsBefore c.args.parts.now.pages) c.args.parts.now.pages q.pages) (sym c.enter_row-in-Ok-Finished.ensures.rest) c.step.ensures.survives }
 
 -- no place is left
 
@@ -217,7 +219,7 @@ returns-in-Err-Full g c =
     refused (subst (λ (l : LockState). GivesAll (holder l) (holder later.locks) c.args.session) same_locks c.full_table-reply.ensures.given) c.in-Err-Full.ensures.kept (outcome.0, outcome.1) refl c.in-Err-Full.number
     (λ tells blocks has. subst (λ (t : Task). IsInsertFull c.args.session c.args.insert.at (shown_by parts.pages.layout parts.pages.pages parts.locks c.args.insert.row.table blocks) t c.in-Err-Full.number) (ap (λ (place : Option Spot). task_at parts.pages.layout c.args.insert place) c.requires.nowhere) (says.1 tells blocks has))
     c.full_table-reply.result reply_is) in
-    record { steps = so.steps; fit = so.fit; others = so.others; stays = so.stays; cause = so.cause; spare = c.step.ensures.made }
+    record { steps = so.steps; fit = so.fit; others = so.others; stays = so.stays; cause = so.cause; spare = c.step.ensures.made; survives = subst (λ (q : Parts _). Survives g.D.Disk.told (IsBefore c.args.parts.now.pages) c.args.parts.now.pages q.pages) (sym c.full_table-reply.ensures.rest) c.step.ensures.survives }
 
 -- the pages refuse it
 
@@ -247,4 +249,4 @@ returns-in-Err-Store g c =
     subst (λ (a : Stepped). StepsSo g.D.Disk.told (unpromised parts) new c.args.session hand a) (sym is)
     (undone_so g.D.Disk.told c.one_hand_changes.ensures laws.stores (unpromised parts) c.step.new.pages c.drop_all.new.self c.release-in-Err-Store.new.self c.args.session hand hand undone c.in-Err-Store.error
     (rw c.in-Err-Store.field-0-is at c.in-Err-Store.ensures.outcome)) in
-    record { steps = so.steps; fit = so.fit; others = so.others; stays = so.stays; cause = so.cause; spare = c.step.ensures.made }
+    record { steps = so.steps; fit = so.fit; others = so.others; stays = so.stays; cause = so.cause; spare = c.step.ensures.made; survives = c.step.ensures.survives }

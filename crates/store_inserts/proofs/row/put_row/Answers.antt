@@ -29,6 +29,9 @@ use Rattle.store_parts.specs.StoreFaults.{fault_of}
 use Rattle.store_parts.specs.Stepping.{IsFit, IsShown}
 use Rattle.store_parts.specs.UndoneLaws.{StepsSo}
 use Rattle.store_inserts.specs.Promised.{unpromised}
+use Rattle.logged_pages.specs.Survives.{Survives}
+use Rattle.tx_table.specs.Durable.{IsBefore}
+use Rattle.tx_table.proofs.Parts.{passed_none}
 use Rattle.store_inserts.proofs.Beside.{past_room, under_way}
 use Rattle.store_inserts.proofs.Refusing.{LeftRefused, leaves_same, share_whole}
 use Rattle.store_inserts.proofs.RowParts.{no_room_so, short_so, unpromised_is}
@@ -41,7 +44,7 @@ returns-in-Err g c =
     let fits = c.an_undone_step_changes_nothing.ensures.parts parts c.args.session hand c.requires.fit in
     let so : StepsSo g.D.Disk.told parts parts c.args.session hand (stepped.Undone c.fault_of.result hand) = subst (λ (f : StoreFault). StepsSo g.D.Disk.told parts parts c.args.session hand (stepped.Undone f hand)) (sym c.fault_of.ensures)
     (c.an_undone_step_changes_nothing.ensures.refused parts parts c.args.session hand c.in-Err.error c.requires.fit fits.over (leaves_same g.D.Disk.told parts.pages) (record { transactions = refl; locks = refl; rights = refl; journal = refl }) c.in-Err.ensures.outcome) in
-    record { steps = so.steps; fit = so.fit; others = so.others; stays = so.stays; cause = so.cause; spare = c.requires.spare }
+    record { steps = so.steps; fit = so.fit; others = so.others; stays = so.stays; cause = so.cause; spare = c.requires.spare; survives = passed_none g.D.Disk.told (IsBefore parts.pages) parts.pages parts.pages c.ready.ensures.stays }
 
 pub returns-then-not-fits : goal.returns-then-not-fits
 returns-then-not-fits g c =
@@ -52,7 +55,7 @@ returns-then-not-fits g c =
     let so : StepsSo g.D.Disk.told parts parts c.args.session hand (stepped.Undone c.spent.result hand) = subst (λ (f : StoreFault). StepsSo g.D.Disk.told parts parts c.args.session hand (stepped.Undone f hand)) (sym c.spent.ensures)
     (c.an_undone_step_changes_nothing.ensures.spent parts c.args.session hand (length parts.journal.entries) c.requires.fit c.in-Ok.ensures.outcome.0 refl
     (λ names hand_list p has tells shown. no_room_so c.steps_of_an_insert.ensures.refusal parts c.args.session c.args.table c.args.values fits.in_hand.1 full names hand_list p has shown)) in
-    record { steps = so.steps; fit = so.fit; others = so.others; stays = so.stays; cause = so.cause; spare = c.requires.spare }
+    record { steps = so.steps; fit = so.fit; others = so.others; stays = so.stays; cause = so.cause; spare = c.requires.spare; survives = passed_none g.D.Disk.told (IsBefore parts.pages) parts.pages parts.pages c.ready.ensures.stays }
 
 pub machine_for-requires-clause-open : goal.machine_for-requires-clause-open
 machine_for-requires-clause-open g c =
@@ -124,7 +127,7 @@ returns-in-Ok-machine_for g c =
     let so : StepsSo g.D.Disk.told parts c.first_step.new.parts c.args.session (hands.Puts c.args.table c.args.values) c.first_step.result =
     subst (λ (h : Hand). StepsSo g.D.Disk.told parts c.first_step.new.parts c.args.session h c.first_step.result) hand_is
     (subst (λ (q : Parts _). StepsSo g.D.Disk.told q c.first_step.new.parts c.args.session (hands.Puts c.in-Ok-machine_for.insert.row.table c.in-Ok-machine_for.insert.row.values) c.first_step.result) (unpromised_is parts c.machine_for.new.parts c.machine_for.ensures.rest c.machine_for.ensures.entries c.in-Ok-machine_for.ensures.promised) first) in
-    record { steps = so.steps; fit = so.fit; others = so.others; stays = so.stays; cause = so.cause; spare = subst (λ (q : Parts _). IfSome c.first_step.new.spare (IsInsertFor q.pages.layout)) c.machine_for.ensures.rest c.first_step.ensures.spare }
+    record { steps = so.steps; fit = so.fit; others = so.others; stays = so.stays; cause = so.cause; spare = subst (λ (q : Parts _). IfSome c.first_step.new.spare (IsInsertFor q.pages.layout)) c.machine_for.ensures.rest c.first_step.ensures.spare; survives = subst (λ (q : Parts _). Survives g.D.Disk.told (IsBefore q.pages) q.pages c.first_step.new.parts.pages) c.machine_for.ensures.rest c.first_step.ensures.survives }
 
 pub refuse-requires-clause-promised : goal.refuse-requires-clause-promised
 refuse-requires-clause-promised g c =
@@ -175,4 +178,4 @@ returns g c =
     (sym (c.refuse.ensures.rest ∙ ap (λ (q : Parts _). record q { transactions = later.transactions; locks = later.locks; journal = later.journal }) mid))
     (short_so g.D.Disk.told c.one_hand_changes.ensures laws.stores c.steps_of_an_insert.ensures.refusal parts parts.pages later.locks later.transactions later.journal c.args.session c.args.table c.args.values tags.NoMemory tt own.own refused
     (subst (λ (q : Parts _). GivesAll (holder q.locks) (holder later.locks) c.args.session) mid c.refuse.ensures.given) (record { leaves = leaves_same g.D.Disk.told parts.pages; pages = λ tells. refl }) (outcome.0, outcome.1) refl)) in
-    record { steps = so.steps; fit = so.fit; others = so.others; stays = so.stays; cause = so.cause; spare = c.machine_for.ensures.spare }
+    record { steps = so.steps; fit = so.fit; others = so.others; stays = so.stays; cause = so.cause; spare = c.machine_for.ensures.spare; survives = subst (λ (q : Parts _). Survives g.D.Disk.told (IsBefore c.args.parts.now.pages) c.args.parts.now.pages q.pages) (sym (c.refuse.ensures.rest ∙ ap (λ (q : Parts _). record q { transactions = later.transactions; locks = later.locks; journal = later.journal }) mid)) (passed_none g.D.Disk.told (IsBefore parts.pages) parts.pages parts.pages c.ready.ensures.stays) }
