@@ -5,7 +5,10 @@ ghost use Rattle.block_model.specs.declared.place.Spot.{Spot as AnySpot};
 ghost use Rattle.store_layout.specs.DiskLayout.{DiskLayout};
 ghost use Rattle.page_layout.specs.RowBytes.{HaveKinds};
 ghost use Rattle.page_store.specs.Keeps.{Keeps, Tells, Untold};
+ghost use Rattle.page_store.specs.Outcome.{NamesPage, Outcome};
 ghost use Rattle.logged_pages.specs.Survives.{Survives};
+ghost use Rattle.index_contents.specs.IndexContents.{contents};
+ghost use Rattle.revmap.specs.MapEntries.{map_place};
 ghost use Rattle.page_locks.specs.LockCounts.{locks_of};
 ghost use Rattle.page_locks.specs.LockHolders.{LockState, count_of, holder};
 ghost use Rattle.heap_rows.specs.HeapBlocks.{OfBlocks};
@@ -32,7 +35,7 @@ use engine_pages::PageStore;
 use heap_rows::put;
 use index_steps::{declared_index, rows_of_the_table_are_taken};
 use page_locks::{Did, Locks};
-use page_store::MachineFault;
+use page_store::{MachineFault, StoreError};
 use range_store::Scratch;
 use revmap::entry;
 use std::alloc::Global;
@@ -260,14 +263,14 @@ impl Insert {
         };
         let at = self.at;
         let index = self.works[at].index();
-        let before = range_in(pages.layout(), index, spot.block) - 1;
-        match entry(pages, index, before) {
-            Ok(Some(_)) => {}
-            Ok(None) => ask_for(queue, &mut self.dropped, index, before),
-            Err(error) => return Err(MachineFault::Store(error)),
+        let range = range_in(pages.layout(), index, spot.block) - 1;
+        match ask_at(pages, queue, &mut self.dropped, index, range) {
+            Ok(()) => {
+                self.asking = false;
+                Ok(Did::Moved(Point::Ask))
+            }
+            Err(error) => Err(MachineFault::Store(error)),
         }
-        self.asking = false;
-        Ok(Did::Moved(Point::Ask))
     }
 
     /// Begins the work in the index that is next, if there is one: so the insert asks for a summary, goes on, or is complete.
@@ -289,6 +292,36 @@ impl Insert {
         work.begin();
         self.asking = asks_at(layout, work.index(), spot);
         Did::Moved(point)
+    }
+}
+
+/// Asks for a summary of the range, if that has no entry in the index.
+fn ask_at<D: Disk + Drop>(
+    pages: &mut PageStore<D>,
+    queue: &mut Queue,
+    dropped: &mut Vec<(u8, u32)>,
+    index: u8,
+    range: u32,
+) -> Result<(), StoreError>
+    requires index { index < length pages.old.layout.schema.indexes }
+    requires room { length dropped.old.items < vec_capacity dropped.old }
+    ensures asked { OnOk result (Tells D.told pages.old → IsAsked (index, range) queue.old queue.new dropped.old.items dropped.new.items ((contents pages.old.layout pages.old.pages index).entry range)) }
+    ensures queue { OnErr result (queue.new ≡ queue.old) }
+    ensures dropped { OnErr result (dropped.new ≡ dropped.old) }
+    ensures few { length dropped.new.items ≤ length dropped.old.items + 1 }
+    ensures capacity { vec_capacity dropped.new ≡ vec_capacity dropped.old }
+    ensures kept { Keeps D.told pages.old pages.new }
+    ensures survives { Survives D.told (λ passed. passed ≡ pages.old.pages) pages.old pages.new }
+    ensures at { IfErr result (NamesPage pages.old.layout (map_place pages.old.layout index range)) }
+    ensures outcome { Outcome D.told (Untold D.told pages.old) pages.old pages.new result }
+{
+    match entry(pages, index, range) {
+        Ok(Some(_)) => Ok(()),
+        Ok(None) => {
+            ask_for(queue, dropped, index, range);
+            Ok(())
+        }
+        Err(error) => Err(error),
     }
 }
 
