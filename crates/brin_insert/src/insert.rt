@@ -154,9 +154,15 @@ impl Insert {
         ensures outcome { MachineOutcome D.told (Untold D.told pages.old) pages.old pages.new result }
     {
         if self.asking {
-            return self.ask(pages, queue);
+            return match self.ask(pages, queue) {
+                Ok(did) => Ok(did),
+                Err(fault) => Err(fault),
+            };
         }
-        self.go_on(pages, locks, actor)
+        match self.go_on(pages, locks, actor) {
+            Ok(did) => Ok(did),
+            Err(fault) => Err(fault),
+        }
     }
 
     /// The next step of an insert that has no summary to ask for: its row is put, or the next step in the index that is next is made.
@@ -249,7 +255,9 @@ impl Insert {
         ensures queue { OnErr result (queue.new ≡ queue.old) }
         ensures left { IfOk result (IsLeftBy self.new) }
         ensures made { IsInsertFor pages.old.layout self.new }
-        ensures same { (self.new.row ≡ self.old.row) × (self.new.place ≡ self.old.place) × (self.new.at ≡ self.old.at) × (self.new.works ≡ self.old.works) }
+        ensures same { (self.new.row ≡ self.old.row) × (self.new.place ≡ self.old.place) × (stage_of self.new ≡ stage_of self.old) }
+        ensures begun { stage_of self.old ≡ Some stages.Map }
+        ensures stands { (x : AnySpot) × (self.old.place ≡ Some x) }
         ensures stays { OnErr result (self.new ≡ self.old) }
         ensures kept { Keeps D.told pages.old pages.new }
         ensures survives { Survives D.told (λ passed. passed ≡ pages.old.pages) pages.old pages.new }
@@ -262,7 +270,8 @@ impl Insert {
             unreachable!()
         };
         let at = self.at;
-        let index = self.works[at].index();
+        let work = &self.works[at];
+        let index = work.index();
         let range = range_in(pages.layout(), index, spot.block) - 1;
         match ask_at(pages, queue, &mut self.dropped, index, range) {
             Ok(()) => {
