@@ -1,10 +1,16 @@
 -- what an insert asks for, as what its session asks for in the table
-use Rattle.std.proofs.Common.{◌≡◌, ◌≢◌, inl, inr, ℕ, suc, ◌≤◌, ◌<◌, List, [], ◌∷◌, ◌++◌, length, Option, None, Some, refl, sym, ap, subst, ◌∙◌, arith}
+use Rattle.std.proofs.Common.{◌≡◌, ℕ, suc, ◌+◌, ◌/◌, ◌≤◌, ◌<◌, inl, inr, Bool, true, false, List, [], ◌∷◌, ◌++◌, length, Option, None, Some, refl, sym, ap, subst, ◌∙◌, arith}
+use Rattle.std.proofs.lemmas.Bool.{cases_lt, false≢true}
 use Rattle.block_model.specs.declared.place.Spot.{Spot}
 use Rattle.store_layout.specs.DiskLayout.{DiskLayout}
+use Rattle.page_store.specs.PageMap.{PageMap}
+use Rattle.summary_queue.specs.declared.queue.TheConstants.{MAX_REQUESTS}
 use Rattle.table_coverage.specs.Accounts.{Account, Accounts, Asked, Asking, HasEntry, IsDropped, Joins}
 use Rattle.table_coverage.specs.Table.{pick}
-use Rattle.brin_insert.specs.AskedFor.{AreRequestsOf, HasOne, InVain, IsAsked, IsRequestOf, JoinsQueue, NoRequests, OneMoreRequest}
+use Rattle.index_contents.specs.IndexContents.{contents}
+use Rattle.index_steps.specs.IndexTuples.{index_at}
+use Rattle.brin_insert.specs.InsertHands.{InsertHand}
+use Rattle.brin_insert.specs.AskedFor.{AreRequestsOf, AsksBy, AsksHere, HasOne, InVain, IsAsked, IsRequestOf, JoinsQueue, NoRequests, OneMoreRequest}
 use Rattle.brin_insert.proofs.Turning.{pick_same}
 
 as_long : (layout : DiskLayout) (requests : List (ℕ × ℕ)) (asked : List Asked) → AreRequestsOf layout requests asked → length requests ≡ length asked
@@ -51,3 +57,19 @@ module _ (layout : DiskLayout) (request : ℕ × ℕ) (queue queued dropped afte
     subst (λ (l : List (ℕ × ℕ)). AreRequestsOf layout l (in_vain.of s).dropped) (sym joins)
         (subst (λ (account : Account). AreRequestsOf layout (dropped ++ (request ∷ [])) account.dropped) (sym own_account) (one_more layout request one dropped (a.of s).dropped is dropped_is)),
   )
+
+-- what a step that asks makes of the queue
+pub asks_here : (layout : DiskLayout) (pages : PageMap) (asking : Bool) (place : Option Spot) (work : Option InsertHand) (x : Spot) (hand : InsertHand) (index range : ℕ) (queue queued dropped after : List (ℕ × ℕ)) → asking ≡ true → place ≡ Some x → work ≡ Some hand
+    → index ≡ hand.index → x.block / (index_at layout hand.index).pages_per_range ≡ range + 1 → IsAsked (index, range) queue queued dropped after ((contents layout pages index).entry range) → AsksBy layout pages asking place work queue queued dropped after
+asks_here layout pages asking place work x hand index range queue queued dropped after wants placed got same at asked =
+    subst (λ (b : Bool). AsksBy layout pages b place work queue queued dropped after) (sym wants)
+    (subst (λ (o : Option Spot). AsksHere layout pages o work queue queued dropped after) (sym placed)
+    (subst (λ (o : Option InsertHand). AsksHere layout pages (Some x) o queue queued dropped after) (sym got)
+    (range, at, subst (λ (n : ℕ). IsAsked (n, range) queue queued dropped after ((contents layout pages n).entry range)) same asked)))
+
+-- a queue that takes no request is full
+pub is_full : (joins : Bool) (n : ℕ) → joins ≡ false → (n < MAX_REQUESTS → joins ≡ true) → MAX_REQUESTS ≤ n
+is_full joins n refused room = elim (cases_lt n MAX_REQUESTS) [
+  | inl below ↦ absurd (false≢true (sym refused ∙ room below))
+  | inr full ↦ full
+]

@@ -75,11 +75,11 @@ blocks_stay layout pages paged table blocks same has = record {
 }
 
 -- a step in an index makes nothing of the account, and a row that is put begins an empty one
-as_before : {s b k at : ℕ} {r : Row} {on : OnIndex} {shown : ShownTable} {w v : TableState} {point : Point} → DoesAt s w v point (λ account. account) → DoesWith s w v point (AccountsCome s shown (Inserts b k r at on))
-as_before does = record { does = does.does; point_is = does.point_is; adds = λ a c is. does.adds a c is }
+as_before : (s b k at : ℕ) (r : Row) (on : OnIndex) (shown : ShownTable) (w v : TableState) (point : Point) → DoesAt s w v point (λ account. account) → DoesWith s w v point (AccountsCome s shown (Inserts b k r at on))
+as_before s b k at r on shown w v point does = record { does = does.does; point_is = does.point_is; adds = λ a c is. does.adds a c is }
 
-as_first : {s : ℕ} {shown : ShownTable} {w v : TableState} {point : Point} → DoesAt s w v point (λ account. no_account) → DoesWith s w v point (AccountsCome s shown Resting)
-as_first does = record { does = does.does; point_is = does.point_is; adds = λ a c is. does.adds a c is }
+as_first : (s : ℕ) (shown : ShownTable) (w v : TableState) (point : Point) → DoesAt s w v point (λ account. no_account) → DoesWith s w v point (AccountsCome s shown Resting)
+as_first s shown w v point does = record { does = does.does; point_is = does.point_is; adds = λ a c is. does.adds a c is }
 
 -- at work in the index, it stays there
 after_work : (layout : DiskLayout) (n b k : ℕ) (r : Row) (at : ℕ) (next : Stage) (copied widened : List ℕ) → IsAtWork next → task_after layout n b k r at next copied widened ≡ Inserts b k r at (on_index (shape_of layout n) next copied widened)
@@ -127,7 +127,7 @@ module _ (steps : StepsInTable) (waits : WaitsInTable) (layout : DiskLayout) (pa
   there = number_there layout old old.at hand made got
 
   task_was : old.asking ≡ false → task_of layout old ≡ before
-  task_was no = task_is layout old x hand placed got no
+  task_was silent = task_is layout old x hand placed got silent
 
   has_then : HasBlocks layout paged table blocks
   has_then = blocks_stay layout pages paged table blocks (λ block. apart (record { relation = heap_of table; block = block }) (λ same. omega (arith, same, made.table))) has
@@ -140,47 +140,47 @@ module _ (steps : StepsInTable) (waits : WaitsInTable) (layout : DiskLayout) (pa
 
   -- the task after it, where the insert stays in the index
   task_now : new.asking ≡ false → new.at ≡ old.at → new.copied ≡ bytes → work_of new ≡ Some next → task_of layout new ≡ Inserts x.block x.slot old.row old.at (on_index (shape_of layout n) next.stage bytes (tuple_bytes next.widened))
-  task_now no same held found =
-      task_is layout new x next still found no
+  task_now silent same held found =
+      task_is layout new x next still found silent
       ∙ ap (λ (b : List ℕ). Inserts x.block x.slot new.row new.at (on_index (shape_of layout next.index) next.stage b (tuple_bytes next.widened))) held
       ∙ ap (λ (r : Row). Inserts x.block x.slot r new.at (on_index (shape_of layout next.index) next.stage bytes (tuple_bytes next.widened))) same_row
       ∙ ap (λ (i : ℕ). Inserts x.block x.slot old.row i (on_index (shape_of layout next.index) next.stage bytes (tuple_bytes next.widened))) same
       ∙ ap (λ (m : ℕ). Inserts x.block x.slot old.row old.at (on_index (shape_of layout m) next.stage bytes (tuple_bytes next.widened))) same_index
 
   stepped : old.asking ≡ false → (answer : Did) → InsertDid s old.at was now before (task_of layout new) answer → InsertStepped layout pages paged locks locked s old new answer blocks
-  stepped no answer came =
+  stepped silent answer came =
       let heap : heap_after layout old.row old.place new.place blocks ≡ blocks = ap (λ (o : Option Spot). heap_after layout old.row o new.place blocks) placed in
       record {
         has = subst (λ (l : List (List Slot)). HasBlocks layout paged table l) (sym heap) has_then;
         slot = subst (λ (o : Option Spot). TakesItsSlot layout old.row o new.place blocks) (sym placed) tt;
         came = subst (λ (l : List (List Slot)). InsertDid s old.at was (shown_by layout paged locked table l) (task_of layout old) (task_of layout new) answer) (sym heap)
-            (came_as s old.at was now (task_of layout old) (task_of layout new) before (task_of layout new) answer (task_was no) refl came);
+            (came_as s old.at was now (task_of layout old) (task_of layout new) before (task_of layout new) answer (task_was silent) refl came);
       }
 
   pub moved : old.asking ≡ false → new.asking ≡ false → (point : Point) → CameOf (did.Moved point) → new.at ≡ old.at → new.copied ≡ bytes → work_of new ≡ Some next → InsertStepped layout pages paged locks locked s old new (did.Moved point) blocks
-  moved no no_too point came same held found =
+  moved silent silent_too point came same held found =
       let after : Task = Inserts x.block x.slot old.row old.at (on_index (shape_of layout n) next.stage bytes (tuple_bytes next.widened)) in
       let shown : ShownDoes s was now before after point = subst (λ (t : Task). ShownDoes s was now before t point) (after_work layout n x.block x.slot old.row old.at next.stage bytes (tuple_bytes next.widened) came.1) (does point came.0) in
-      let goes : InsertGoesTo s was now before after point = goes_by s was now before after after point (λ u is kept. as_before (shown u is kept)) (λ u. stays_in s now u x.block x.slot old.row old.at (on_index (shape_of layout n) next.stage bytes (tuple_bytes next.widened))) in
-      stepped no (did.Moved point) (came_as s old.at was now before (task_of layout new) before after (did.Moved point) refl (task_now no_too same held found) (goes, tt))
+      let goes : InsertGoesTo s was now before after point = goes_by s was now before after after point (λ u is kept. as_before s x.block x.slot old.at old.row (on_index (shape_of layout n) hand.stage old.copied (tuple_bytes hand.widened)) was _ _ point (shown u is kept)) (λ u. stays_in s now u x.block x.slot old.row old.at (on_index (shape_of layout n) next.stage bytes (tuple_bytes next.widened))) in
+      stepped silent (did.Moved point) (came_as s old.at was now before (task_of layout new) before after (did.Moved point) refl (task_now silent_too same held found) (goes, tt))
 
   pub blocked : old.asking ≡ false → new.asking ≡ false → (held : Held) → CameOf (did.Blocked held) → new.at ≡ old.at → new.copied ≡ bytes → work_of new ≡ Some next → InsertStepped layout pages paged locks locked s old new (did.Blocked held) blocks
-  blocked no no_too held came same carried found =
+  blocked silent silent_too held came same carried found =
       let stays : Inserts x.block x.slot old.row old.at (on_index (shape_of layout n) next.stage bytes (tuple_bytes next.widened)) ≡ before =
       ap (λ (q : Stage). Inserts x.block x.slot old.row old.at (on_index (shape_of layout n) q bytes (tuple_bytes next.widened))) came.1
       ∙ ap (λ (b : List ℕ). Inserts x.block x.slot old.row old.at (on_index (shape_of layout n) hand.stage b (tuple_bytes next.widened))) came.2
       ∙ ap (λ (b : List ℕ). Inserts x.block x.slot old.row old.at (on_index (shape_of layout n) hand.stage old.copied b)) came.3 in
-      stepped no (did.Blocked held) (
+      stepped silent (did.Blocked held) (
         waits layout pages locks table (slots_a_page layout table) (length blocks) old.at n s x.block x.slot held.page.block (rows_in table blocks) old.row hand.stage old.copied hand.widened there came.0,
-        task_now no_too same carried found ∙ stays,
+        task_now silent_too same carried found ∙ stays,
       )
 
   pub finished : old.asking ≡ false → (new.asking ≡ true → AsksIn layout x (work_of new)) → (new.asking ≡ false → AsksIn layout x (work_of new) → ⊥) → (point : Point) → CameOf (did.Finished point) → new.at ≡ suc old.at → numbers_in new.works.items ≡ numbers_in old.works.items → (answer : Did) → HasReached point answer (work_of new)
       → InsertStepped layout pages paged locks locked s old new answer blocks
-  finished no asks plain point came next_at same_numbers answer reached =
+  finished silent asks plain point came next_at same_numbers answer reached =
       let shown : ShownDoes s was now before (Reaches x.block x.slot old.row (suc old.at)) point = subst (λ (q : Stage). ShownDoes s was now before (task_after layout n x.block x.slot old.row old.at q bytes (tuple_bytes next.widened)) point) came.1 (does point came.0) in
       let inside : suc old.at ≤ length (indexes_of layout table) = omega (arith, slice_get_within (indexes_of layout table) old.at n there) in
-      stepped no answer (reaches layout paged locked s old.at before was new old.row x point blocks (suc old.at) same_row still next_at (same_numbers ∙ made.numbers) asks plain inside (λ u is kept. as_before (shown u is kept)) answer reached)
+      stepped silent answer (reaches layout paged locked s old.at before was new old.row x point blocks (suc old.at) same_row still next_at (same_numbers ∙ made.numbers) asks plain inside (λ u is kept. as_before s x.block x.slot old.at old.row (on_index (shape_of layout n) hand.stage old.copied (tuple_bytes hand.widened)) was _ _ point (shown u is kept)) answer reached)
 
 -- what the law of a row that is put says
 abbrev pub RowInTable : Type 0
@@ -207,12 +207,12 @@ row_stepped row layout pages paged locks s old new spot values blocks made none 
       came = subst (λ (l : List (List Slot)). InsertDid s old.at was (shown_by layout paged locks old.row.table l) (task_of layout old) (task_of layout new) answer) (sym heap)
           (came_as s old.at was now (task_of layout old) (task_of layout new) Resting (task_of layout new) answer rests refl
           (reaches layout paged locks s old.at Resting was new old.row spot points.Row after 0 same_row placed first (numbers ∙ made.numbers) asks plain (omega arith)
-          (λ u at kept. as_first (row layout pages paged locks s old.row.table old.row.id old.row.values spot blocks puts_own u at)) answer reached));
+          (λ u at kept. as_first s was _ _ points.Row (row layout pages paged locks s old.row.table old.row.id old.row.values spot blocks puts_own u at)) answer reached));
     }
 
 -- it asks for a summary, and nothing of the table changes but what the insert is at
-module _ (layout : DiskLayout) (pages : PageMap) (locks : LockState) (s : ℕ) (old new : Insert) (x : Spot) (hand : InsertHand) (blocks : List (List Slot)) (placed : old.place ≡ Some x) (got : work_of old ≡ Some hand) (yes : old.asking ≡ true) (begun : hand.stage ≡ stages.Map)
-    (no : new.asking ≡ false) (same_row : new.row ≡ old.row) (still : new.place ≡ old.place) (same_at : new.at ≡ old.at) (found : work_of new ≡ Some hand) where
+module _ (layout : DiskLayout) (pages : PageMap) (locks : LockState) (s : ℕ) (old new : Insert) (x : Spot) (hand : InsertHand) (blocks : List (List Slot)) (placed : old.place ≡ Some x) (got : work_of old ≡ Some hand) (wants : old.asking ≡ true) (begun : hand.stage ≡ stages.Map)
+    (silent : new.asking ≡ false) (same_row : new.row ≡ old.row) (still : new.place ≡ old.place) (same_at : new.at ≡ old.at) (found : work_of new ≡ Some hand) where
   abbrev shown : ShownTable
   shown = shown_by layout pages locks old.row.table blocks
 
@@ -224,7 +224,7 @@ module _ (layout : DiskLayout) (pages : PageMap) (locks : LockState) (s : ℕ) (
 
   task_then : task_of layout new ≡ then
   task_then =
-      task_is layout new x hand (still ∙ placed) found no
+      task_is layout new x hand (still ∙ placed) found silent
       ∙ ap (λ (r : Row). Inserts x.block x.slot r new.at (on_index (shape_of layout hand.index) hand.stage new.copied (tuple_bytes hand.widened))) same_row
       ∙ ap (λ (i : ℕ). Inserts x.block x.slot old.row i (on_index (shape_of layout hand.index) hand.stage new.copied (tuple_bytes hand.widened))) same_at
       ∙ ap (λ (q : Stage). Inserts x.block x.slot old.row old.at (on_index (shape_of layout hand.index) q new.copied (tuple_bytes hand.widened))) begun
@@ -262,7 +262,7 @@ module _ (layout : DiskLayout) (pages : PageMap) (locks : LockState) (s : ℕ) (
         has = subst (λ (l : List (List Slot)). HasBlocks layout pages old.row.table l) (sym heap) has;
         slot = subst (λ (o : Option Spot). TakesItsSlot layout old.row o new.place blocks) (sym placed) tt;
         came = subst (λ (l : List (List Slot)). InsertDid s old.at shown (shown_by layout pages locks old.row.table l) (task_of layout old) (task_of layout new) (did.Moved points.Ask)) (sym heap)
-            (came_as s old.at shown shown (task_of layout old) (task_of layout new) asks_now then (did.Moved points.Ask) (task_asks layout old x hand placed got yes) task_then (goes_on, tt));
+            (came_as s old.at shown shown (task_of layout old) (task_of layout new) asks_now then (did.Moved points.Ask) (task_asks layout old x hand placed got wants) task_then (goes_on, tt));
       }
 
   pub asked : (paged : PageMap) → paged ≡ pages → HasBlocks layout pages old.row.table blocks → InsertStepped layout pages paged locks locks s old new (did.Moved points.Ask) blocks

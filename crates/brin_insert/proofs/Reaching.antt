@@ -80,10 +80,10 @@ module _ (layout : DiskLayout) (paged : PageMap) (locked : LockState) (s place :
     below : at < length (indexes_of layout r.table)
     below = slice_get_within (indexes_of layout r.table) at hand.index number
 
-    module _ (no : new.asking ≡ false) where
+    module _ (silent : new.asking ≡ false) where
       inserts : task_of layout new ≡ Inserts x.block x.slot r at Empty
       inserts =
-          task_is layout new x hand placed got no
+          task_is layout new x hand placed got silent
           ∙ ap (λ (q : Row). Inserts x.block x.slot q new.at (on_index (shape_of layout hand.index) hand.stage new.copied (tuple_bytes hand.widened))) row_is
           ∙ ap (λ (i : ℕ). Inserts x.block x.slot r i (on_index (shape_of layout hand.index) hand.stage new.copied (tuple_bytes hand.widened))) at_is
           ∙ ap (λ (q : Stage). Inserts x.block x.slot r at (on_index (shape_of layout hand.index) q new.copied (tuple_bytes hand.widened))) begun
@@ -91,29 +91,29 @@ module _ (layout : DiskLayout) (paged : PageMap) (locked : LockState) (s place :
       goes_on : InsertGoesTo s shown now before (task_of layout new) point
       goes_on = comes (Inserts x.block x.slot r at Empty) inserts
           (λ u. comes_to_index s now u x.block x.slot r at below
-          (λ asks_there. plain no (subst (λ (o : Option InsertHand). AsksIn layout x o) (sym got) (shown_back (λ i. AsksShown i x.block x.slot) asks_there))))
+          (λ asks_there. plain silent (subst (λ (o : Option InsertHand). AsksIn layout x o) (sym got) (shown_back (λ i. AsksShown i x.block x.slot) asks_there))))
 
       inserting : IsInserting (task_of layout new)
       inserting = subst (λ (t : Task). IsInserting t) (sym inserts) tt
 
-    module _ (yes : new.asking ≡ true) where
+    module _ (wants : new.asking ≡ true) where
       is_asking : task_of layout new ≡ Asks x.block x.slot r at
       is_asking =
-          task_asks layout new x hand placed got yes
+          task_asks layout new x hand placed got wants
           ∙ ap (λ (q : Row). Asks x.block x.slot q new.at) row_is
           ∙ ap (λ (i : ℕ). Asks x.block x.slot r i) at_is
 
       goes_to_ask : InsertGoesTo s shown now before (task_of layout new) point
       goes_to_ask = comes (Asks x.block x.slot r at) is_asking
           (λ u. comes_to_ask s now u x.block x.slot r at below
-          (shown_is (λ i. AsksShown i x.block x.slot) (subst (λ (o : Option InsertHand). AsksIn layout x o) got (asks yes))))
+          (shown_is (λ i. AsksShown i x.block x.slot) (subst (λ (o : Option InsertHand). AsksIn layout x o) got (asks wants))))
 
       asking_still : IsInserting (task_of layout new)
       asking_still = subst (λ (t : Task). IsInserting t) (sym is_asking) tt
 
     goes : (asking : Bool) → new.asking ≡ asking → InsertGoesTo s shown now before (task_of layout new) point × IsInserting (task_of layout new)
-    goes true yes = (goes_to_ask yes, asking_still yes)
-    goes false no = (goes_on no, inserting no)
+    goes true wants = (goes_to_ask wants, asking_still wants)
+    goes false silent = (goes_on silent, inserting silent)
 
   pub reaches : (answer : Did) → HasReached point answer (work_of new) → InsertDid s place shown now before (task_of layout new) answer
   reaches answer reached = by_work (work_of new) refl reached

@@ -5,7 +5,7 @@ use Rattle.std.specs.Vec.{vec_capacity}
 use Rattle.std.specs.Option.{option_map}
 use Rattle.std.proofs.lemmas.List.{length-map}
 use Rattle.std.proofs.lemmas.List.Elements.{All-get_or, All-set}
-use Rattle.std.proofs.lemmas.Option.{get_or_from_slice_get, slice_get-get_or, slice_get-map, slice_get_within}
+use Rattle.std.proofs.lemmas.Option.{get_or_from_slice_get, same_Some, slice_get-get_or, slice_get-map, slice_get_within}
 use Rattle.std.proofs.Math.Seq.{map-set_same}
 use Rattle.block_model.specs.declared.place.Spot.{Spot}
 use Rattle.block_model.specs.declared.reply.Point.{Point}
@@ -23,9 +23,10 @@ use Rattle.table_coverage.specs.Table.{Asks, Inserts, Task}
 use Rattle.index_steps.specs.IndexTuples.{TakesValues, classes_of, index_at, shape_of}
 use Rattle.brin_insert.specs.declared.insert.Insert.{Insert}
 use Rattle.brin_insert.specs.declared.stage.Stage.{Stage}
+use Rattle.brin_insert.specs.declared.stage.Stage.TheVariants as stages
 use Rattle.brin_insert.specs.InsertHands.{InsertHand}
 use Rattle.brin_insert.specs.InsertSteps.{IsAtWork, on_index}
-use Rattle.brin_insert.specs.Inserts.{AsksIn, HasReached, HasStepAt, HasStepLeft, IsAsking, IsAtWorkIn, IsDroppedFew, IsInsertFor, IsOfItsIndex, numbers_in, task_at, task_in, task_of, work_of}
+use Rattle.brin_insert.specs.Inserts.{AsksAt, AsksIn, HasReached, HasStepAt, HasStepLeft, IsAsking, IsAtWorkIn, IsDroppedFew, IsInsertFor, IsOfItsIndex, numbers_in, task_at, task_in, task_of, work_of}
 use Rattle.index_steps.specs.ShownRows.{ShowsKept}
 use Rattle.index_steps.specs.ShownTable.{indexes_of}
 
@@ -49,14 +50,14 @@ got_set works at hand below =
 -- the insert's task, by the work
 pub task_is : (layout : DiskLayout) (insert : Insert) (x : Spot) (hand : InsertHand) → insert.place ≡ Some x → work_of insert ≡ Some hand → insert.asking ≡ false
     → task_of layout insert ≡ Inserts x.block x.slot insert.row insert.at (on_index (shape_of layout hand.index) hand.stage insert.copied (tuple_bytes hand.widened))
-task_is layout insert x hand placed got no =
+task_is layout insert x hand placed got silent =
     ap (λ (o : Option Spot). task_at layout insert o) placed ∙ ap (λ (o : Option InsertHand). task_in layout x insert.row insert.at insert.copied o insert.asking) got
-    ∙ ap (λ (b : Bool). task_in layout x insert.row insert.at insert.copied (Some hand) b) no
+    ∙ ap (λ (b : Bool). task_in layout x insert.row insert.at insert.copied (Some hand) b) silent
 
 pub task_asks : (layout : DiskLayout) (insert : Insert) (x : Spot) (hand : InsertHand) → insert.place ≡ Some x → work_of insert ≡ Some hand → insert.asking ≡ true → task_of layout insert ≡ Asks x.block x.slot insert.row insert.at
-task_asks layout insert x hand placed got yes =
+task_asks layout insert x hand placed got wants =
     ap (λ (o : Option Spot). task_at layout insert o) placed ∙ ap (λ (o : Option InsertHand). task_in layout x insert.row insert.at insert.copied o insert.asking) got
-    ∙ ap (λ (b : Bool). task_in layout x insert.row insert.at insert.copied (Some hand) b) yes
+    ∙ ap (λ (b : Bool). task_in layout x insert.row insert.at insert.copied (Some hand) b) wants
 
 -- the index that the work is in
 pub number_there : (layout : DiskLayout) (insert : Insert) (at : ℕ) (hand : InsertHand) → IsInsertFor layout insert → slice_get insert.works.items at ≡ Some hand → slice_get (indexes_of layout insert.row.table) at ≡ Some hand.index
@@ -116,14 +117,14 @@ pub task_stays : (layout : DiskLayout) (old new : Insert) (x : Spot) (hand next 
     → old.asking ≡ false → new.asking ≡ false → next.index ≡ hand.index → next.stage ≡ hand.stage
     → on_index (shape_of layout hand.index) hand.stage new.copied (tuple_bytes next.widened) ≡ on_index (shape_of layout hand.index) hand.stage old.copied (tuple_bytes hand.widened)
     → task_of layout new ≡ task_of layout old
-task_stays layout old new x hand next placed still row at got found no no_too index stage on =
-    task_is layout new x next still found no_too
+task_stays layout old new x hand next placed still row at got found silent silent_too index stage on =
+    task_is layout new x next still found silent_too
     ∙ ap (λ (r : Row). Inserts x.block x.slot r new.at (on_index (shape_of layout next.index) next.stage new.copied (tuple_bytes next.widened))) row
     ∙ ap (λ (i : ℕ). Inserts x.block x.slot old.row i (on_index (shape_of layout next.index) next.stage new.copied (tuple_bytes next.widened))) at
     ∙ ap (λ (n : ℕ). Inserts x.block x.slot old.row old.at (on_index (shape_of layout n) next.stage new.copied (tuple_bytes next.widened))) index
     ∙ ap (λ (q : Stage). Inserts x.block x.slot old.row old.at (on_index (shape_of layout hand.index) q new.copied (tuple_bytes next.widened))) stage
     ∙ ap (λ (h : OnIndex). Inserts x.block x.slot old.row old.at h) on
-    ∙ sym (task_is layout old x hand placed got no)
+    ∙ sym (task_is layout old x hand placed got silent)
 
 -- the range of its row in the index
 pub range_is : (layout other : DiskLayout) (n m b range : ℕ) → range ≡ b / (index_at other m).pages_per_range → other ≡ layout → m ≡ n → range ≡ b / (index_at layout n).pages_per_range
@@ -134,9 +135,9 @@ range_is layout other n m b range is same at =
 pub kept_at : (layout : DiskLayout) (pages : PageMap) (locks : LockState) (s : ℕ) (insert : Insert) (x : Spot) (hand : InsertHand) (stage : Stage) → insert.place ≡ Some x → work_of insert ≡ Some hand → insert.asking ≡ false → hand.stage ≡ stage
     → ShowsKept layout pages locks s insert.row.table (task_of layout insert)
     → ShowsKept layout pages locks s insert.row.table (Inserts x.block x.slot insert.row insert.at (on_index (shape_of layout hand.index) stage insert.copied (tuple_bytes hand.widened)))
-kept_at layout pages locks s insert x hand stage placed got no is shows =
+kept_at layout pages locks s insert x hand stage placed got silent is shows =
     subst (λ (t : Task). ShowsKept layout pages locks s insert.row.table t)
-    (task_is layout insert x hand placed got no ∙ ap (λ (q : Stage). Inserts x.block x.slot insert.row insert.at (on_index (shape_of layout hand.index) q insert.copied (tuple_bytes hand.widened))) is)
+    (task_is layout insert x hand placed got silent ∙ ap (λ (q : Stage). Inserts x.block x.slot insert.row insert.at (on_index (shape_of layout hand.index) q insert.copied (tuple_bytes hand.widened))) is)
     shows
 
 -- the index that any work of the table's is in
@@ -161,7 +162,7 @@ few_at place x asking at n placed few = subst (λ (o : Option Spot). IsDroppedFe
     by_asking false = omega (arith, few)
 
 pub few_was : (place : Option Spot) (x : Spot) (asking : Bool) (at n : ℕ) → place ≡ Some x → asking ≡ false → IsDroppedFew place asking at n → n ≤ at + 1
-few_was place x asking at n placed no few = subst (λ (b : Bool). IsDroppedFew (Some x) b at n) no (subst (λ (o : Option Spot). IsDroppedFew o asking at n) placed few)
+few_was place x asking at n placed silent few = subst (λ (b : Bool). IsDroppedFew (Some x) b at n) silent (subst (λ (o : Option Spot). IsDroppedFew o asking at n) placed few)
 
 pub none_was : (place : Option Spot) (asking : Bool) (at n : ℕ) → place ≡ None → IsDroppedFew place asking at n → n ≡ 0
 none_was place asking at n none few = subst (λ (o : Option Spot). IsDroppedFew o asking at n) none few
@@ -169,3 +170,15 @@ none_was place asking at n none few = subst (λ (o : Option Spot). IsDroppedFew 
 -- as much work as there was
 pub as_many : (works others : List InsertHand) → numbers_in works ≡ numbers_in others → length works ≡ length others
 as_many works others same = sym (length-map works (λ (h : InsertHand). h.index)) ∙ ap length same ∙ length-map others (λ (h : InsertHand). h.index)
+
+pub few_asking : (place : Option Spot) (x : Spot) (asking : Bool) (at n : ℕ) → place ≡ Some x → asking ≡ true → IsDroppedFew place asking at n → n ≤ at
+few_asking place x asking at n placed wants few = subst (λ (b : Bool). IsDroppedFew (Some x) b at n) wants (subst (λ (o : Option Spot). IsDroppedFew o asking at n) placed few)
+
+-- where it has to ask, its work there has begun, and its row is at the first place of a range
+pub asking_there : (layout : DiskLayout) (insert : Insert) (x : Spot) (hand : InsertHand) → IsAsking layout insert → insert.place ≡ Some x → work_of insert ≡ Some hand → (hand.stage ≡ stages.Map) × AsksAt layout hand.index x
+asking_there layout insert x hand asking placed got =
+    let same_hand : asking.hand ≡ hand = same_Some asking.hand hand (sym asking.work ∙ got) in
+    let same_spot : asking.spot ≡ x = same_Some asking.spot x (sym asking.placed ∙ placed) in (
+      subst (λ (h : InsertHand). h.stage ≡ stages.Map) same_hand asking.begun,
+      subst (λ (y : Spot). AsksAt layout hand.index y) same_spot (subst (λ (h : InsertHand). AsksAt layout h.index asking.spot) same_hand asking.asks),
+    )

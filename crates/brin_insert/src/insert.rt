@@ -285,7 +285,7 @@ impl Insert {
     /// Begins the work in the index that is next, if there is one: so the insert asks for a summary, goes on, or is complete.
     fn reach(&mut self, layout: &Layout, spot: Spot, point: Point) -> Did
         requires { (hand : InsertHand) → work_of self.old ≡ Some hand → hand.index < length layout.now.schema.indexes }
-        ensures rest { (self.new.row ≡ self.old.row) × (self.new.place ≡ self.old.place) × (self.new.at ≡ self.old.at) × (self.new.copied ≡ self.old.copied) × (self.new.dropped ≡ self.old.dropped) }
+        ensures rest { (self.new.row ≡ self.old.row) × (self.new.place ≡ self.old.place) × (self.new.at ≡ self.old.at) × (self.new.copied ≡ self.old.copied) × (self.new.dropped.items ≡ self.old.dropped.items) × (vec_capacity self.new.dropped ≡ vec_capacity self.old.dropped) }
         ensures numbers { numbers_in self.new.works.items ≡ numbers_in self.old.works.items }
         ensures tuples { (layout : DiskLayout) → All (IsOfItsIndex layout) self.old.works.items → All (IsOfItsIndex layout) self.new.works.items }
         ensures reached { HasReached point result (work_of self.new) }

@@ -1,5 +1,5 @@
 use Rattle.std.proofs.Common.{◌≡◌, ◌<◌, ◌≤◌, ℕ, suc, ◌+◌, ◌/◌, List, length, length-set, Some, set, refl, sym, ap, subst, ◌∙◌, arith}
-use Rattle.std.specs.Vec.{Vec, vec_capacity, with_item}
+use Rattle.std.specs.Vec.{with_item}
 use Rattle.std.proofs.lemmas.Bool.{false≢true}
 use Rattle.std.proofs.lemmas.Option.{slice_get_within}
 use Rattle.block_model.specs.declared.reply.Point.TheVariants as points
@@ -39,7 +39,7 @@ range_in-range-requires g c =
     let e = c.index_mut-work.result.now in
     let got = work_there old x e c.in-Some.is c.requires.left c.index_mut-work.ensures.value in
     let there = number_there store.layout old old.at e c.requires.made got in
-    omega (arith, c.index.ensures, ap (λ (l : DiskLayout). length l.schema.indexes) c.layout.ensures, number_within store.layout old.row.table old.at e.index there)
+    omega (arith, c.index.ensures, ap (λ (l : DiskLayout). length l.schema.indexes) c.layout-in-Some.ensures, number_within store.layout old.row.table old.at e.index there)
 
 pub step-requires-clause-index : goal.step-requires-clause-index
 step-requires-clause-index g c =
@@ -87,7 +87,7 @@ step-requires-clause-moving g c = λ from to is tells.
     let e = c.index_mut-work.result.now in
     let got = work_there old x e c.in-Some.is c.requires.left c.index_mut-work.ensures.value in
     let there = number_there store.layout old old.at e c.requires.made got in
-    let ranged : c.range_in-range.result ≡ x.block / (index_at store.layout e.index).pages_per_range = range_is store.layout c.layout.result.now e.index c.index.result x.block c.range_in-range.result c.range_in-range.ensures c.layout.ensures c.index.ensures in
+    let ranged : c.range_in-range.result ≡ x.block / (index_at store.layout e.index).pages_per_range = range_is store.layout c.layout-in-Some.result.now e.index c.index.result x.block c.range_in-range.result c.range_in-range.ensures c.layout-in-Some.ensures c.index.ensures in
     subst (λ (m : ℕ). IsMoving (shape_of store.layout e.index) (contents store.layout store.pages e.index) m from to) (sym ranged)
     (c.a_kept_table_is_read.ensures.moving store.layout store.pages c.args.locks.now c.args.actor old.row.table old.at e.index x.block x.slot old.row from to old.copied (tuple_bytes e.widened) there
     (kept_at store.layout store.pages c.args.locks.now c.args.actor old x e (stages.Set from to) c.in-Some.is got c.requires.plain is (c.requires.kept tells)))
@@ -108,8 +108,8 @@ returns-in-Ok-clause-stepped g c = λ tells blocks has.
     let old = c.args.self.now in
     let rest = c.reach-did.ensures.rest in
     row_stepped c.a_row_is_put_in_its_table.ensures store.layout store.pages c.put.new.pages.pages c.args.locks.now c.args.actor old c.reach-did.new.self c.in-Ok.spot c.as_slice.result.now blocks c.requires.made c.in-None.is
-    (λ yes. subst (λ (l : DiskLayout). AsksIn l c.in-Ok.spot (work_of c.reach-did.new.self)) c.layout-did.ensures (c.reach-did.ensures.asks yes))
-    (λ no asks. c.reach-did.ensures.plain no (subst (λ (l : DiskLayout). AsksIn l c.in-Ok.spot (work_of c.reach-did.new.self)) (sym c.layout-did.ensures) asks))
+    (λ wants. subst (λ (l : DiskLayout). AsksIn l c.in-Ok.spot (work_of c.reach-did.new.self)) c.layout.ensures (c.reach-did.ensures.asks wants))
+    (λ silent asks. c.reach-did.ensures.plain silent (subst (λ (l : DiskLayout). AsksIn l c.in-Ok.spot (work_of c.reach-did.new.self)) (sym c.layout.ensures) asks))
     rest.1 rest.0 rest.2 c.reach-did.ensures.numbers c.as_slice.ensures.values
     (record {
       declared = c.requires.made.table;
@@ -128,7 +128,7 @@ returns-in-Ok-Moved-clause-stepped g c = λ tells blocks has.
     let x = c.in-Some.spot in
     let e = c.index_mut-work.result.now in
     let got = work_there old x e c.in-Some.is c.requires.left c.index_mut-work.ensures.value in
-    let ranged : c.range_in-range.result ≡ x.block / (index_at store.layout e.index).pages_per_range = range_is store.layout c.layout.result.now e.index c.index.result x.block c.range_in-range.result c.range_in-range.ensures c.layout.ensures c.index.ensures in
+    let ranged : c.range_in-range.result ≡ x.block / (index_at store.layout e.index).pages_per_range = range_is store.layout c.layout-in-Some.result.now e.index c.index.result x.block c.range_in-range.result c.range_in-range.ensures c.layout-in-Some.ensures c.index.ensures in
     let next = c.step.new.self in
     let below : old.at < length old.works.items = slice_get_within old.works.items old.at e got in
     let found = got_set old.works.items old.at next below in
@@ -146,7 +146,7 @@ returns-in-Ok-Blocked-clause-stepped g c = λ tells blocks has.
     let x = c.in-Some.spot in
     let e = c.index_mut-work.result.now in
     let got = work_there old x e c.in-Some.is c.requires.left c.index_mut-work.ensures.value in
-    let ranged : c.range_in-range.result ≡ x.block / (index_at store.layout e.index).pages_per_range = range_is store.layout c.layout.result.now e.index c.index.result x.block c.range_in-range.result c.range_in-range.ensures c.layout.ensures c.index.ensures in
+    let ranged : c.range_in-range.result ≡ x.block / (index_at store.layout e.index).pages_per_range = range_is store.layout c.layout-in-Some.result.now e.index c.index.result x.block c.range_in-range.result c.range_in-range.ensures c.layout-in-Some.ensures c.index.ensures in
     let next = c.step.new.self in
     let below : old.at < length old.works.items = slice_get_within old.works.items old.at e got in
     let found = got_set old.works.items old.at next below in
@@ -164,7 +164,7 @@ returns-in-Ok-Finished-clause-stepped g c = λ tells blocks has.
     let x = c.in-Some.spot in
     let e = c.index_mut-work.result.now in
     let got = work_there old x e c.in-Some.is c.requires.left c.index_mut-work.ensures.value in
-    let ranged : c.range_in-range.result ≡ x.block / (index_at store.layout e.index).pages_per_range = range_is store.layout c.layout.result.now e.index c.index.result x.block c.range_in-range.result c.range_in-range.ensures c.layout.ensures c.index.ensures in
+    let ranged : c.range_in-range.result ≡ x.block / (index_at store.layout e.index).pages_per_range = range_is store.layout c.layout-in-Some.result.now e.index c.index.result x.block c.range_in-range.result c.range_in-range.ensures c.layout-in-Some.ensures c.index.ensures in
     let next = c.step.new.self in
     let below : old.at < length old.works.items = slice_get_within old.works.items old.at e got in
     let found = got_set old.works.items old.at next below in
@@ -172,8 +172,8 @@ returns-in-Ok-Finished-clause-stepped g c = λ tells blocks has.
     let came = rw c.in-Ok-Finished.field-0-is at c.in-Ok-Finished.ensures.stepped in
     finished c.an_insert_steps_in_its_table.ensures.steps c.an_insert_steps_in_its_table.ensures.waits store.layout store.pages c.step.new.pages.pages c.args.locks.now c.step.new.locks c.args.actor old c.reach-answer.new.self x e next c.step.new.copied blocks
     c.requires.made c.in-Some.is got (c.reach-answer.ensures.rest.1 ∙ c.in-Some.is) c.reach-answer.ensures.rest.0 c.step.ensures.same_index has (c.step.ensures.others.pages tells) (c.step.ensures.others.indexes tells) c.step.ensures.locks
-    c.requires.plain (λ yes. subst (λ (l : DiskLayout). AsksIn l x (work_of c.reach-answer.new.self)) c.layout-answer.ensures (c.reach-answer.ensures.asks yes))
-    (λ no asks. c.reach-answer.ensures.plain no (subst (λ (l : DiskLayout). AsksIn l x (work_of c.reach-answer.new.self)) (sym c.layout-answer.ensures) asks))
+    c.requires.plain (λ wants. subst (λ (l : DiskLayout). AsksIn l x (work_of c.reach-answer.new.self)) c.layout-in-Ok-Finished.ensures (c.reach-answer.ensures.asks wants))
+    (λ silent asks. c.reach-answer.ensures.plain silent (subst (λ (l : DiskLayout). AsksIn l x (work_of c.reach-answer.new.self)) (sym c.layout-in-Ok-Finished.ensures) asks))
     c.in-Ok-Finished.point (stepped_here store.layout store.pages c.step.new.pages.pages c.args.locks.now c.step.new.locks c.args.actor c.range_in-range.result (x.block / (index_at store.layout e.index).pages_per_range) old.row e next old.copied c.step.new.copied (did.Finished c.in-Ok-Finished.point)
     c.step.ensures.same_index ranged (came tells old.row (sym c.as_slice-values.ensures.values)))
     next_at (c.reach-answer.ensures.numbers ∙ same_numbers old.works.items old.at e next got c.step.ensures.same_index) c.reach-answer.result c.reach-answer.ensures.reached
@@ -202,7 +202,7 @@ returns-in-Ok-Moved-clause-made g c =
     let below : old.at < length old.works.items = slice_get_within old.works.items old.at e got in
     let found = got_set old.works.items old.at next below in
     let own = own_then store.layout e next c.step.ensures.same_index c.step.ensures.same_columns (tuple_there store.layout old old.at e c.requires.made got) in
-    made_with store.layout old _ c.requires.made refl (λ yes. absurd (false≢true (sym c.requires.plain ∙ yes))) (omega (arith, length-set old.works.items old.at next, c.requires.made.room)) c.requires.made.few e next got c.step.ensures.same_index own refl
+    made_with store.layout old _ c.requires.made refl (λ wants. absurd (false≢true (sym c.requires.plain ∙ wants))) (omega (arith, length-set old.works.items old.at next, c.requires.made.room)) c.requires.made.few e next got c.step.ensures.same_index own refl
 
 pub returns-in-Ok-Blocked-clause-left : goal.returns-in-Ok-Blocked-clause-left
 returns-in-Ok-Blocked-clause-left g c =
@@ -228,7 +228,7 @@ returns-in-Ok-Blocked-clause-made g c =
     let below : old.at < length old.works.items = slice_get_within old.works.items old.at e got in
     let found = got_set old.works.items old.at next below in
     let own = own_then store.layout e next c.step.ensures.same_index c.step.ensures.same_columns (tuple_there store.layout old old.at e c.requires.made got) in
-    made_with store.layout old _ c.requires.made refl (λ yes. absurd (false≢true (sym c.requires.plain ∙ yes))) (omega (arith, length-set old.works.items old.at next, c.requires.made.room)) c.requires.made.few e next got c.step.ensures.same_index own refl
+    made_with store.layout old _ c.requires.made refl (λ wants. absurd (false≢true (sym c.requires.plain ∙ wants))) (omega (arith, length-set old.works.items old.at next, c.requires.made.room)) c.requires.made.few e next got c.step.ensures.same_index own refl
 
 pub returns-in-Err-step-clause-made : goal.returns-in-Err-step-clause-made
 returns-in-Err-step-clause-made g c =
@@ -241,7 +241,7 @@ returns-in-Err-step-clause-made g c =
     let below : old.at < length old.works.items = slice_get_within old.works.items old.at e got in
     let found = got_set old.works.items old.at next below in
     let own = own_then store.layout e next c.step.ensures.same_index c.step.ensures.same_columns (tuple_there store.layout old old.at e c.requires.made got) in
-    made_with store.layout old _ c.requires.made refl (λ yes. absurd (false≢true (sym c.requires.plain ∙ yes))) (omega (arith, length-set old.works.items old.at next, c.requires.made.room)) c.requires.made.few e next got c.step.ensures.same_index own refl
+    made_with store.layout old _ c.requires.made refl (λ wants. absurd (false≢true (sym c.requires.plain ∙ wants))) (omega (arith, length-set old.works.items old.at next, c.requires.made.room)) c.requires.made.few e next got c.step.ensures.same_index own refl
 
 pub returns-in-Ok-Finished-clause-made : goal.returns-in-Ok-Finished-clause-made
 returns-in-Ok-Finished-clause-made g c =
@@ -257,13 +257,13 @@ returns-in-Ok-Finished-clause-made g c =
     let new = c.reach-answer.new.self in
     let numbers = c.reach-answer.ensures.numbers ∙ same_numbers old.works.items old.at e next got c.step.ensures.same_index in
     let still = c.reach-answer.ensures.rest.1 ∙ c.in-Some.is in
-    let as_before : new.dropped ≡ old.dropped = c.reach-answer.ensures.rest.4 in
+    let fewer = c.reach-answer.ensures.rest.4 in
     let next_at : new.at ≡ suc old.at = omega (arith, c.reach-answer.ensures.rest.2) in
     let was = few_was old.place x old.asking old.at (length old.dropped.items) c.in-Some.is c.requires.plain c.requires.made.few in
     made_then store.layout old new c.requires.made c.reach-answer.ensures.rest.0
-    (λ yes. comes_asking store.layout new x c.in-Ok-Finished.point c.reach-answer.result still c.reach-answer.ensures.reached (subst (λ (l : DiskLayout). AsksIn l x (work_of new)) c.layout-answer.ensures (c.reach-answer.ensures.asks yes)))
-    (subst (λ (d : Vec (ℕ × ℕ)). length new.works.items ≤ vec_capacity d) (sym as_before) (omega (arith, as_many new.works.items old.works.items numbers, c.requires.made.room)))
-    (few_at new.place x new.asking new.at (length new.dropped.items) still (omega (arith, ap (λ (d : Vec (ℕ × ℕ)). length d.items) as_before, was, next_at)))
+    (λ wants. comes_asking store.layout new x c.in-Ok-Finished.point c.reach-answer.result still c.reach-answer.ensures.reached (subst (λ (l : DiskLayout). AsksIn l x (work_of new)) c.layout-in-Ok-Finished.ensures (c.reach-answer.ensures.asks wants)))
+    (omega (arith, as_many new.works.items old.works.items numbers, c.requires.made.room, c.reach-answer.ensures.rest.5))
+    (few_at new.place x new.asking new.at (length new.dropped.items) still (omega (arith, ap length fewer, was, next_at)))
     numbers
     (c.reach-answer.ensures.tuples store.layout (tuples_then old.works.items old.at e next got c.step.ensures.same_index store.layout own c.requires.made.tuples))
 
@@ -330,8 +330,8 @@ returns-in-Err-step-clause-full g c =
     let e = c.index_mut-work.result.now in
     let got = work_there old x e c.in-Some.is c.requires.left c.index_mut-work.ensures.value in
     let there = number_there store.layout old old.at e c.requires.made got in
-    let ranged : c.range_in-range.result ≡ x.block / (index_at store.layout e.index).pages_per_range = range_is store.layout c.layout.result.now e.index c.index.result x.block c.range_in-range.result c.range_in-range.ensures c.layout.ensures c.index.ensures in
-    index_full g.D.Disk.told store c.args.locks.now c.args.actor c.range_in-range.result old x e c.requires.made c.in-Some.is got
+    let ranged : c.range_in-range.result ≡ x.block / (index_at store.layout e.index).pages_per_range = range_is store.layout c.layout-in-Some.result.now e.index c.index.result x.block c.range_in-range.result c.range_in-range.ensures c.layout-in-Some.ensures c.index.ensures in
+    index_full g.D.Disk.told store c.args.locks.now c.args.actor c.range_in-range.result old x e c.requires.made c.in-Some.is got c.requires.plain
     (λ blocks number lacks. c.an_insert_steps_in_its_table.ensures.full store.layout store.pages c.args.locks.now old.row.table (slots_a_page store.layout old.row.table) (length blocks) old.at e.index c.args.actor x.block x.slot number (rows_in old.row.table blocks) old.row e.stage old.copied e.widened there lacks)
     c.in-Err-step.fault ranged c.in-Err-step.ensures.full
 
@@ -376,7 +376,7 @@ returns-in-Err-step-clause-outcome g c =
     let e = c.index_mut-work.result.now in
     let got = work_there old x e c.in-Some.is c.requires.left c.index_mut-work.ensures.value in
     let there = number_there store.layout old old.at e c.requires.made got in
-    let ranged : c.range_in-range.result ≡ x.block / (index_at store.layout e.index).pages_per_range = range_is store.layout c.layout.result.now e.index c.index.result x.block c.range_in-range.result c.range_in-range.ensures c.layout.ensures c.index.ensures in
+    let ranged : c.range_in-range.result ≡ x.block / (index_at store.layout e.index).pages_per_range = range_is store.layout c.layout-in-Some.result.now e.index c.index.result x.block c.range_in-range.result c.range_in-range.ensures c.layout-in-Some.ensures c.index.ensures in
     machine_for g.D.Disk.told (Tells g.D.Disk.told store → DamageAt (shape_of store.layout e.index) (contents store.layout store.pages e.index) c.range_in-range.result e.stage) (Untold g.D.Disk.told store) store c.step.new.pages c.in-Err-step.fault
     (λ cause tells. c.a_kept_table_is_read.ensures.undamaged store.layout store.pages c.args.locks.now c.args.actor old.row.table old.at e.index x.block x.slot old.row e.stage old.copied (tuple_bytes e.widened) there
     (kept_at store.layout store.pages c.args.locks.now c.args.actor old x e e.stage c.in-Some.is got c.requires.plain refl (c.requires.kept tells))
@@ -388,12 +388,12 @@ returns-in-Ok-clause-made g c =
     let store = c.args.pages.now in
     let old = c.args.self.now in
     let new = c.reach-did.new.self in
-    let as_before : new.dropped ≡ old.dropped = c.reach-did.ensures.rest.4 in
+    let fewer = c.reach-did.ensures.rest.4 in
     let none = none_was old.place old.asking old.at (length old.dropped.items) c.in-None.is c.requires.made.few in
     made_then store.layout old new c.requires.made c.reach-did.ensures.rest.0
-    (λ yes. comes_asking store.layout new c.in-Ok.spot points.Row c.reach-did.result c.reach-did.ensures.rest.1 c.reach-did.ensures.reached (subst (λ (l : DiskLayout). AsksIn l c.in-Ok.spot (work_of new)) c.layout-did.ensures (c.reach-did.ensures.asks yes)))
-    (subst (λ (d : Vec (ℕ × ℕ)). length new.works.items ≤ vec_capacity d) (sym as_before) (omega (arith, as_many new.works.items old.works.items c.reach-did.ensures.numbers, c.requires.made.room)))
-    (few_at new.place c.in-Ok.spot new.asking new.at (length new.dropped.items) c.reach-did.ensures.rest.1 (omega (arith, ap (λ (d : Vec (ℕ × ℕ)). length d.items) as_before, none)))
+    (λ wants. comes_asking store.layout new c.in-Ok.spot points.Row c.reach-did.result c.reach-did.ensures.rest.1 c.reach-did.ensures.reached (subst (λ (l : DiskLayout). AsksIn l c.in-Ok.spot (work_of new)) c.layout.ensures (c.reach-did.ensures.asks wants)))
+    (omega (arith, as_many new.works.items old.works.items c.reach-did.ensures.numbers, c.requires.made.room, c.reach-did.ensures.rest.5))
+    (few_at new.place c.in-Ok.spot new.asking new.at (length new.dropped.items) c.reach-did.ensures.rest.1 (omega (arith, ap length fewer, none)))
     c.reach-did.ensures.numbers (c.reach-did.ensures.tuples store.layout c.requires.made.tuples)
 
 pub returns-in-Ok-clause-left : goal.returns-in-Ok-clause-left
@@ -581,7 +581,7 @@ reach-did-requires g c = λ hand got.
     let store = c.args.pages.now in
     let old = c.args.self.now in
     let there = index_there store.layout old.row.table old.works.items 0 hand c.requires.made.numbers got in
-    omega (arith, ap (λ (l : DiskLayout). length l.schema.indexes) c.layout-did.ensures, number_within store.layout old.row.table 0 hand.index there)
+    omega (arith, ap (λ (l : DiskLayout). length l.schema.indexes) c.layout.ensures, number_within store.layout old.row.table 0 hand.index there)
 
 pub reach-answer-requires : goal.reach-answer-requires
 reach-answer-requires g c = λ hand found.
@@ -592,4 +592,4 @@ reach-answer-requires g c = λ hand found.
     let got = work_there old x e c.in-Some.is c.requires.left c.index_mut-work.ensures.value in
     let next = c.step.new.self in
     let there = index_there store.layout old.row.table (set old.works.items old.at next) (old.at + 1) hand (same_numbers old.works.items old.at e next got c.step.ensures.same_index ∙ c.requires.made.numbers) found in
-    omega (arith, ap (λ (l : DiskLayout). length l.schema.indexes) c.layout-answer.ensures, number_within store.layout old.row.table (old.at + 1) hand.index there)
+    omega (arith, ap (λ (l : DiskLayout). length l.schema.indexes) c.layout-in-Ok-Finished.ensures, number_within store.layout old.row.table (old.at + 1) hand.index there)
