@@ -108,8 +108,8 @@ returns-in-Ok-clause-stepped g c = λ tells blocks has.
     let old = c.args.self.now in
     let rest = c.reach-did.ensures.rest in
     row_stepped c.a_row_is_put_in_its_table.ensures store.layout store.pages c.put.new.pages.pages c.args.locks.now c.args.actor old c.reach-did.new.self c.in-Ok.spot c.as_slice.result.now blocks c.requires.made c.in-None.is
-    (λ wants. subst (λ (l : DiskLayout). AsksIn l c.in-Ok.spot (work_of c.reach-did.new.self)) c.layout.ensures (c.reach-did.ensures.asks wants))
-    (λ silent asks. c.reach-did.ensures.plain silent (subst (λ (l : DiskLayout). AsksIn l c.in-Ok.spot (work_of c.reach-did.new.self)) (sym c.layout.ensures) asks))
+    (λ wants. subst (λ (l : DiskLayout). AsksIn l c.in-Ok.spot (work_of c.reach-did.new.self)) (c.layout.ensures ∙ c.put.ensures.others.leaves.layout) (c.reach-did.ensures.asks wants))
+    (λ silent asks. c.reach-did.ensures.plain silent (subst (λ (l : DiskLayout). AsksIn l c.in-Ok.spot (work_of c.reach-did.new.self)) (sym (c.layout.ensures ∙ c.put.ensures.others.leaves.layout)) asks))
     rest.1 rest.0 rest.2 c.reach-did.ensures.numbers c.as_slice.ensures.values
     (record {
       declared = c.requires.made.table;
@@ -172,8 +172,8 @@ returns-in-Ok-Finished-clause-stepped g c = λ tells blocks has.
     let came = rw c.in-Ok-Finished.field-0-is at c.in-Ok-Finished.ensures.stepped in
     finished c.an_insert_steps_in_its_table.ensures.steps c.an_insert_steps_in_its_table.ensures.waits store.layout store.pages c.step.new.pages.pages c.args.locks.now c.step.new.locks c.args.actor old c.reach-answer.new.self x e next c.step.new.copied blocks
     c.requires.made c.in-Some.is got (c.reach-answer.ensures.rest.1 ∙ c.in-Some.is) c.reach-answer.ensures.rest.0 c.step.ensures.same_index has (c.step.ensures.others.pages tells) (c.step.ensures.others.indexes tells) c.step.ensures.locks
-    c.requires.plain (λ wants. subst (λ (l : DiskLayout). AsksIn l x (work_of c.reach-answer.new.self)) c.layout-in-Ok-Finished.ensures (c.reach-answer.ensures.asks wants))
-    (λ silent asks. c.reach-answer.ensures.plain silent (subst (λ (l : DiskLayout). AsksIn l x (work_of c.reach-answer.new.self)) (sym c.layout-in-Ok-Finished.ensures) asks))
+    c.requires.plain (λ wants. subst (λ (l : DiskLayout). AsksIn l x (work_of c.reach-answer.new.self)) (c.layout-in-Ok-Finished.ensures ∙ c.step.ensures.others.leaves.layout) (c.reach-answer.ensures.asks wants))
+    (λ silent asks. c.reach-answer.ensures.plain silent (subst (λ (l : DiskLayout). AsksIn l x (work_of c.reach-answer.new.self)) (sym (c.layout-in-Ok-Finished.ensures ∙ c.step.ensures.others.leaves.layout)) asks))
     c.in-Ok-Finished.point (stepped_here store.layout store.pages c.step.new.pages.pages c.args.locks.now c.step.new.locks c.args.actor c.range_in-range.result (x.block / (index_at store.layout e.index).pages_per_range) old.row e next old.copied c.step.new.copied (did.Finished c.in-Ok-Finished.point)
     c.step.ensures.same_index ranged (came tells old.row (sym c.as_slice-values.ensures.values)))
     next_at (c.reach-answer.ensures.numbers ∙ same_numbers old.works.items old.at e next got c.step.ensures.same_index) c.reach-answer.result c.reach-answer.ensures.reached
@@ -261,7 +261,7 @@ returns-in-Ok-Finished-clause-made g c =
     let next_at : new.at ≡ suc old.at = omega (arith, c.reach-answer.ensures.rest.2) in
     let was = few_was old.place x old.asking old.at (length old.dropped.items) c.in-Some.is c.requires.plain c.requires.made.few in
     made_then store.layout old new c.requires.made c.reach-answer.ensures.rest.0
-    (λ wants. comes_asking store.layout new x c.in-Ok-Finished.point c.reach-answer.result still c.reach-answer.ensures.reached (subst (λ (l : DiskLayout). AsksIn l x (work_of new)) c.layout-in-Ok-Finished.ensures (c.reach-answer.ensures.asks wants)))
+    (λ wants. comes_asking store.layout new x c.in-Ok-Finished.point c.reach-answer.result still c.reach-answer.ensures.reached (subst (λ (l : DiskLayout). AsksIn l x (work_of new)) (c.layout-in-Ok-Finished.ensures ∙ c.step.ensures.others.leaves.layout) (c.reach-answer.ensures.asks wants)))
     (omega (arith, as_many new.works.items old.works.items numbers, c.requires.made.room, c.reach-answer.ensures.rest.5))
     (few_at new.place x new.asking new.at (length new.dropped.items) still (omega (arith, ap length fewer, was, next_at)))
     numbers
@@ -391,7 +391,7 @@ returns-in-Ok-clause-made g c =
     let fewer = c.reach-did.ensures.rest.4 in
     let none = none_was old.place old.asking old.at (length old.dropped.items) c.in-None.is c.requires.made.few in
     made_then store.layout old new c.requires.made c.reach-did.ensures.rest.0
-    (λ wants. comes_asking store.layout new c.in-Ok.spot points.Row c.reach-did.result c.reach-did.ensures.rest.1 c.reach-did.ensures.reached (subst (λ (l : DiskLayout). AsksIn l c.in-Ok.spot (work_of new)) c.layout.ensures (c.reach-did.ensures.asks wants)))
+    (λ wants. comes_asking store.layout new c.in-Ok.spot points.Row c.reach-did.result c.reach-did.ensures.rest.1 c.reach-did.ensures.reached (subst (λ (l : DiskLayout). AsksIn l c.in-Ok.spot (work_of new)) (c.layout.ensures ∙ c.put.ensures.others.leaves.layout) (c.reach-did.ensures.asks wants)))
     (omega (arith, as_many new.works.items old.works.items c.reach-did.ensures.numbers, c.requires.made.room, c.reach-did.ensures.rest.5))
     (few_at new.place c.in-Ok.spot new.asking new.at (length new.dropped.items) c.reach-did.ensures.rest.1 (omega (arith, ap length fewer, none)))
     c.reach-did.ensures.numbers (c.reach-did.ensures.tuples store.layout c.requires.made.tuples)
@@ -581,7 +581,7 @@ reach-did-requires g c = λ hand got.
     let store = c.args.pages.now in
     let old = c.args.self.now in
     let there = index_there store.layout old.row.table old.works.items 0 hand c.requires.made.numbers got in
-    omega (arith, ap (λ (l : DiskLayout). length l.schema.indexes) c.layout.ensures, number_within store.layout old.row.table 0 hand.index there)
+    omega (arith, ap (λ (l : DiskLayout). length l.schema.indexes) (c.layout.ensures ∙ c.put.ensures.others.leaves.layout), number_within store.layout old.row.table 0 hand.index there)
 
 pub reach-answer-requires : goal.reach-answer-requires
 reach-answer-requires g c = λ hand found.
@@ -592,4 +592,4 @@ reach-answer-requires g c = λ hand found.
     let got = work_there old x e c.in-Some.is c.requires.left c.index_mut-work.ensures.value in
     let next = c.step.new.self in
     let there = index_there store.layout old.row.table (set old.works.items old.at next) (old.at + 1) hand (same_numbers old.works.items old.at e next got c.step.ensures.same_index ∙ c.requires.made.numbers) found in
-    omega (arith, ap (λ (l : DiskLayout). length l.schema.indexes) c.layout-in-Ok-Finished.ensures, number_within store.layout old.row.table (old.at + 1) hand.index there)
+    omega (arith, ap (λ (l : DiskLayout). length l.schema.indexes) (c.layout-in-Ok-Finished.ensures ∙ c.step.ensures.others.leaves.layout), number_within store.layout old.row.table (old.at + 1) hand.index there)
