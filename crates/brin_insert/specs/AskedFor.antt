@@ -1,5 +1,5 @@
 -- what an insert asks for, and where that comes: into the queue of the summaries, or among what it asks for in vain
-use Rattle.std.specs.Prelude.{◌≡◌, ◌⊎◌, ℕ, ◌+◌, ◌/◌, ◌≤◌, ◌<◌, ◌++◌, ◌∷◌, [], Bool, true, List, length, slice_get, Option, None, Some}
+use Rattle.std.specs.Prelude.{◌≡◌, ℕ, ◌+◌, ◌/◌, ◌≤◌, ◌<◌, ◌++◌, ◌∷◌, [], Bool, true, List, length, slice_get, Option, None, Some}
 use Rattle.block_model.specs.declared.place.Spot.{Spot}
 use Rattle.store_layout.specs.DiskLayout.{DiskLayout}
 use Rattle.page_store.specs.PageMap.{PageMap}

@@ -1,4 +1,4 @@
-use Rattle.std.proofs.Common.{List, Option, Some, refl, sym, subst, ◌∙◌}
+use Rattle.std.proofs.Common.{Option, refl, sym, subst, ◌∙◌}
 use Rattle.block_model.specs.declared.place.Spot.{Spot}
 use Rattle.brin_insert.specs.AskedFor.{HasOne, IsAsked}
 use Rattle.brin_insert.proofs.insert.ask_at.Goals as goal

@@ -1,4 +1,4 @@
-use Rattle.std.proofs.Common.{◌≡◌, ◌<◌, ◌≤◌, ℕ, suc, ◌+◌, ◌/◌, List, length, length-set, Some, set, refl, sym, ap, subst, ◌∙◌, arith}
+use Rattle.std.proofs.Common.{◌≡◌, ◌<◌, ℕ, suc, ◌+◌, ◌/◌, List, length, length-set, Some, set, refl, sym, ap, subst, ◌∙◌, arith}
 use Rattle.std.specs.Vec.{with_item}
 use Rattle.std.proofs.lemmas.Bool.{false≢true}
 use Rattle.std.proofs.lemmas.Option.{slice_get_within}
@@ -17,7 +17,7 @@ use Rattle.range_tuple.specs.TupleBytes.{tuple_bytes}
 use Rattle.brin_insert.specs.declared.stage.Stage.{Stage}
 use Rattle.brin_insert.specs.declared.stage.Stage.TheVariants as stages
 use Rattle.brin_insert.specs.InsertSteps.{IsAtWork}
-use Rattle.brin_insert.specs.Inserts.{AsksIn, numbers_in, work_of}
+use Rattle.brin_insert.specs.Inserts.{AsksIn, work_of}
 use Rattle.index_steps.specs.ShownRows.{rows_in}
 use Rattle.brin_insert.specs.StepAnswers.{DamageAt}
 use Rattle.brin_insert.proofs.InTable.{blocked, finished, moved, row_stepped, stepped_here}
