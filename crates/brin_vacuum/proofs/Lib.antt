@@ -1,0 +1,12 @@
+pub mod Picking
+pub mod Counting
+pub mod DroppedBlocks
+pub mod SlotBytes
+pub mod SweptBytes
+pub mod PageKinds
+pub mod SweptIndex
+pub mod Settling
+pub mod Tables
+pub mod InTable
+pub mod Calls
+pub mod Onward

@@ -1,0 +1,7 @@
+pub mod DeadRows
+pub mod SweptPages
+pub mod NextPages
+pub mod Vacuums
+pub mod TableSteps
+pub mod DroppedRows
+pub mod Dead
