@@ -1,5 +1,6 @@
 -- What the limits of a layout say of a table.
-use Rattle.std.proofs.Common.{◌≡◌, ℕ, zero, suc, ◌+◌, ◌/◌, ◌<◌, ◌≤◌, nat_le, List, [], ◌∷◌, ◌++◌, length, map, get_or, refl, ap, ◌∙◌, arith}
+use Rattle.std.proofs.Common.{◌≡◌, ℕ, zero, suc, ◌+◌, ◌*◌, ◌/◌, ◌<◌, ◌≤◌, nat_le, List, [], ◌∷◌, ◌++◌, length, map, get_or, refl, ap, ◌∙◌, arith}
+use Rattle.std.proofs.lemmas.Nat.{mul-le}
 use Rattle.std.proofs.lemmas.Bool.{and_parts, leb-true}
 use Rattle.std.proofs.lemmas.List.{get_or-map, get_or_append_left, length-map}
 use Rattle.std.proofs.lemmas.List.Sums.{AllPass-from_list_all}
@@ -11,10 +12,11 @@ use Rattle.store_layout.specs.Limits.{rows_fit}
 use Rattle.block_model.specs.RowSize.{row_size}
 use Rattle.page_layout.specs.declared.page.Form.{Form}
 use Rattle.page_layout.specs.declared.page.Form.TheVariants as forms
+use Rattle.page_layout.specs.PageContents.{IsForm}
 use Rattle.page_store.specs.Forms.{form_of, forms_of}
 use Rattle.page_layout.specs.HeapForms.{heap_form}
 use Rattle.page_store.specs.PageMap.{block_limit}
-use Rattle.heap_rows.specs.Heaps.{relation_of, no_table, table_at, form_at}
+use Rattle.heap_rows.specs.Heaps.{relation_of, no_table, table_at, form_at, kinds_at, slots_a_page}
 
 -- a table within the limits has a row on each page
 pub some_row : (layout : DiskLayout) (table : ℕ) → table < length layout.schema.tables → KeepsLimits layout.schema layout.sizes → 1 ≤ (table_at layout table).rows_per_page
@@ -44,3 +46,10 @@ form_found d table there =
     ap (form_of d) next
     ∙ get_or_append_left heaps (map (λ _. forms.Index) d.schema.indexes) forms.Index table (omega (arith, there, length-map d.schema.tables heap_form))
     ∙ get_or-map heap_form d.schema.tables table no_table forms.Index there
+
+-- a row has 22 bytes and more, so a page has at most 370
+few_fit : (count row : ℕ) → 22 ≤ row → count * row ≤ 8160 → count ≤ 370
+few_fit count row least room = let less : count * 22 ≤ count * row = mul-le count 22 count row (omega arith) least in omega arith
+
+pub few_rows : (layout : DiskLayout) (table : ℕ) → IsForm (form_at layout table) → slots_a_page layout table ≤ 370
+few_rows layout table is = few_fit (slots_a_page layout table) (row_size (kinds_at layout table)) (omega arith) is.1

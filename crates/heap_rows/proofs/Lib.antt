@@ -6,3 +6,5 @@ pub mod Rooms
 pub mod SlotRows
 pub mod Leaves
 pub mod Puts
+pub mod Drops
+pub mod RowAtSpot

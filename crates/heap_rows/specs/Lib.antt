@@ -7,3 +7,4 @@ pub mod RoomOnPage
 pub mod LeavesOthers
 pub mod PutAnswers
 pub mod RowPut
+pub mod DroppedRows

@@ -7,6 +7,7 @@ ghost use Rattle.page_layout.specs.PageContents.{IsForm};
 ghost use Rattle.page_layout.specs.PageWrites.{AreValuesFor, RowHasBytes, row_length};
 ghost use Rattle.page_store.specs.Forms.{form_of};
 ghost use Rattle.page_store.specs.PageMap.{block_limit};
+ghost use Rattle.heap_rows.specs.declared.heap.TheConstants.{MAX_SLOTS};
 ghost use Rattle.heap_rows.specs.Heaps.{form_at, relation_of, slots_a_page, table_at};
 ghost use Rattle.heap_rows.specs.RowPlaces.{new_row};
 
@@ -14,6 +15,9 @@ use block_model::{RowId, Table, Value};
 use page_layout::{Form, MAX_ROW, write_row};
 use page_store::tables_have_forms;
 use store_layout::Layout;
+
+/// How many slots a page has at most: a row has 22 bytes and its values.
+pub(crate) const MAX_SLOTS: usize = 370;
 
 /// The table of that number.
 fn declared(layout: &Layout, table: u8) -> &Table
@@ -35,12 +39,13 @@ pub(crate) fn relation_of(layout: &Layout, table: u8) -> u8
 }
 
 /// Does nothing; tells its caller that the pages of the table's relation are of its heap, that its rows fit a page, and that a
-/// page has some.
+/// page has some and how many at most.
 pub(crate) fn known(layout: &Layout, table: u8)
     requires { table < length layout.now.schema.tables }
     ensures found { form_of layout.now (relation_of table) ≡ form_at layout.now table }
     ensures is_form { IsForm (form_at layout.now table) }
     ensures some { 0 < slots_a_page layout.now table }
+    ensures few { slots_a_page layout.now table ≤ MAX_SLOTS }
     ensures small { row_length (form_at layout.now table) ≤ MAX_ROW }
 {
     layout.known();

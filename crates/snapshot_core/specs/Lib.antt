@@ -1,1 +1,2 @@
 pub mod Visibility
+pub mod Dead

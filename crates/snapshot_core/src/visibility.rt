@@ -21,7 +21,7 @@ fn has_done(s: &Snapshot, own: u64, t: u64, status: Status) -> bool
     t == own || in_snapshot(s, t, status)
 }
 
-fn in_snapshot(s: &Snapshot, t: u64, status: Status) -> bool
+pub(crate) fn in_snapshot(s: &Snapshot, t: u64, status: Status) -> bool
     ensures { result ≡ in_snapshot s.now t status }
 {
     status == Status::Committed && t < s.next && !s.active.as_slice().contains(&t)

@@ -1,5 +1,5 @@
 use Rattle.heap_rows.specs.Heaps.{no_table}
-use Rattle.heap_rows.proofs.Heaps.{form_found, some_row}
+use Rattle.heap_rows.proofs.Heaps.{few_rows, form_found, some_row}
 use Rattle.page_layout.specs.RowSizes.{small_row}
 use Rattle.heap_rows.proofs.heap.known.Goals as goal
 
@@ -14,3 +14,6 @@ returns-clause-some c = some_row c.args.layout.now c.args.table c.requires c.kno
 
 pub returns-clause-small : goal.returns-clause-small
 returns-clause-small c = small_row _ (c.tables_have_forms.ensures.forms c.args.table no_table c.requires).few
+
+pub returns-clause-few : goal.returns-clause-few
+returns-clause-few c = few_rows c.args.layout.now c.args.table (c.tables_have_forms.ensures.forms c.args.table no_table c.requires).form
