@@ -2,7 +2,7 @@
 use Rattle.std.proofs.Common.{◌≡◌, inl, inr, ℕ, zero, suc, ◌+◌, ◌≤◌, ◌<◌, List, [], ◌∷◌, length, refl, sym, ap, subst, ◌∙◌, arith}
 use Rattle.std.proofs.lemmas.Bool.{cases_eq, cases_lt}
 use Rattle.coverage.specs.Counts.{IsCountBelow, IsCountOf, NoneBelow, NotThisOne, OneMoreBelow}
-use Rattle.brin_vacuum.specs.DroppedRows.{AreAscending}
+use Rattle.heap_rows.specs.DroppedRows.{AreAscending}
 use Rattle.brin_vacuum.proofs.Picking.{IsAmong}
 
 -- as many are so by other words

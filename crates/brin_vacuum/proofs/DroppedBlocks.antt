@@ -9,7 +9,7 @@ use Rattle.block_model.specs.declared.place.Spot.{Spot}
 use Rattle.coverage.specs.Counts.{HasGone}
 use Rattle.page_layout.specs.PageContents.{Slot}
 use Rattle.page_layout.specs.RowBytes.{StoredRow}
-use Rattle.brin_vacuum.specs.DroppedRows.{AreAscending, FreesSlots, with_free, with_slots_free}
+use Rattle.heap_rows.specs.DroppedRows.{AreAscending, FreesSlots, with_free, with_slots_free}
 use Rattle.heap_rows.specs.HeapBlocks.{slots_of}
 use Rattle.heap_rows.specs.RowPlaces.{slot_at}
 use Rattle.heap_rows.specs.StoredRows.{stored_from, stored_rows}

@@ -7,7 +7,7 @@ use Rattle.std.proofs.lemmas.List.Elements.{All-cons, All-nil}
 use Rattle.std.proofs.lemmas.Option.{none-some, same_Some}
 use Rattle.page_layout.specs.PageContents.{Slot}
 use Rattle.page_layout.specs.RowBytes.{StoredRow}
-use Rattle.brin_vacuum.specs.DroppedRows.{AreAscending}
+use Rattle.heap_rows.specs.DroppedRows.{AreAscending}
 use Rattle.heap_rows.specs.StoredRows.{SlotsAscend, row_of, stored_from, stored_in}
 use Rattle.heap_rows.specs.declared.rows.Stored.{Stored}
 use Rattle.brin_vacuum.specs.DeadRows.{IsPicked, Living, dead_slots, is_dead, listed}

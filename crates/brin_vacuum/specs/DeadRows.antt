@@ -4,7 +4,7 @@ use Rattle.block_model.specs.declared.place.Spot.{Spot}
 use Rattle.coverage.specs.Counts.{HasGone, IsCountOf}
 use Rattle.page_layout.specs.PageContents.{Slot}
 use Rattle.page_layout.specs.RowBytes.{StoredRow}
-use Rattle.brin_vacuum.specs.Dead.{is_dead_to_all}
+use Rattle.snapshot_core.specs.Dead.{is_dead_to_all}
 use Rattle.snapshot_core.specs.declared.snapshots.Snapshot.{Snapshot}
 use Rattle.snapshot_core.specs.declared.statuses.Status.{Status}
 use Rattle.snapshot_core.specs.declared.statuses.Status.TheVariants.{Unused}

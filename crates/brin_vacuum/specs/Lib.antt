@@ -3,5 +3,3 @@ pub mod SweptPages
 pub mod NextPages
 pub mod Vacuums
 pub mod TableSteps
-pub mod DroppedRows
-pub mod Dead

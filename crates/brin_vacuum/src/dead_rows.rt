@@ -14,8 +14,7 @@ use disk_trait::Disk;
 use engine_pages::PageStore;
 use heap_rows::Stored;
 use page_store::StoreError;
-use crate::stub::dead_to_all;
-use snapshot_core::{Snapshot, Status};
+use snapshot_core::{Snapshot, Status, dead_to_all};
 use tx_table::TxTable;
 
 /// `dead` becomes the slots of the rows that are dead to all, in order; `live` are the snapshots of all open transactions. Takes no memory.

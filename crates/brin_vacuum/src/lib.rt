@@ -12,7 +12,6 @@ mod law_table;
 mod next_page;
 mod pruning;
 mod standing;
-mod stub;
 mod sweeping;
 mod vacuum;
 

@@ -4,7 +4,7 @@ ghost use Rattle.std.specs.Prelude.{◌≡◌, ◌<◌, ◌≤◌, length, vec_c
 ghost use Rattle.page_store.specs.Keeps.{Keeps, Tells, Untold};
 ghost use Rattle.page_store.specs.Outcome.{Outcome};
 ghost use Rattle.logged_pages.specs.Survives.{Survives};
-ghost use Rattle.brin_vacuum.specs.DroppedRows.{with_slots_free};
+ghost use Rattle.heap_rows.specs.DroppedRows.{with_slots_free};
 ghost use Rattle.heap_rows.specs.HeapBlocks.{HasBlocks, OfBlocks};
 ghost use Rattle.heap_rows.specs.Heaps.{slots_a_page};
 ghost use Rattle.heap_rows.specs.LeavesOthers.{LeavesOthers};
@@ -15,8 +15,7 @@ ghost use Rattle.brin_vacuum.specs.Vacuums.{HasHeap, NamesPageRead};
 use crate::dead_rows::list_dead;
 use disk_trait::Disk;
 use engine_pages::PageStore;
-use crate::stub::drop_dead;
-use heap_rows::{PageRows, rows_of};
+use heap_rows::{PageRows, drop_dead, rows_of};
 use page_store::StoreError;
 use snapshot_core::Snapshot;
 use tx_table::TxTable;
