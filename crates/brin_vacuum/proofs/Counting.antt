@@ -72,6 +72,6 @@ ascending_from least count before P (slot ∷ slots) low ascend only all counted
 pub counts_ascending : (count : ℕ) (P : ℕ → Type 0) (slots : List ℕ) → AreAscending 0 count slots → ((n : ℕ) → P n → IsAmong slots n) → ((n : ℕ) → IsAmong slots n → P n) → IsCountOf P (length slots)
 counts_ascending count P slots ascend only all = record {
   below = count;
-  counted = ascending_from 0 count 0 P slots (omega arith) ascend (λ n from is. only n is) all NoneBelow;
+  counted = let e : 0 + length slots ≡ length slots = omega arith in subst (λ (c : ℕ). IsCountBelow P count c) e (ascending_from 0 count 0 P slots (omega arith) ascend (λ n from is. only n is) all NoneBelow);
   rest = λ n past is. let at = above_least 0 count n slots ascend (only n is) in absurd (omega (arith, past, at.1));
 }

@@ -1,7 +1,7 @@
 -- each step of a vacuum, as what came of it in its table
 use Rattle.std.proofs.Common.{◌≡◌, ◌≢◌, ◌⊎◌, inl, inr, ℕ, zero, suc, ◌+◌, ◌≤◌, ◌<◌, Bool, true, false, List, [], ◌∷◌, length, Option, None, Some, refl, sym, ap, subst, ◌∙◌, arith}
 use Rattle.std.specs.Prelude.{◌↔◌, IsTrue, drop, slice_get}
-use Rattle.std.proofs.lemmas.Bool.{cases_eq, cases_order}
+use Rattle.std.proofs.lemmas.Bool.{cases_eq, cases_lt, false≢true}
 use Rattle.std.proofs.lemmas.Option.{none-some, same_Some, slice_get_within}
 use Rattle.block_model.specs.declared.place.Place.{Place}
 use Rattle.block_model.specs.declared.place.Spot.{Spot}
@@ -65,17 +65,17 @@ row_gone table before after = (to before after, from before after)
     from (Some row) (Some now) gone = absurd (none-some _ (sym gone.1))
 
 same_kept : (o : Option Row) → IsTrue (has_gone o o) → ⊥
-same_kept None is = is
-same_kept (Some r) is = is
+same_kept None is = false≢true is
+same_kept (Some r) is = false≢true is
 
 then_none : (before after : Option Row) → IsTrue (has_gone before after) → after ≡ None
-then_none None after is = absurd is
+then_none None after is = absurd (false≢true is)
 then_none (Some r) None is = refl
-then_none (Some r) (Some q) is = absurd is
+then_none (Some r) (Some q) is = absurd (false≢true is)
 
 kept_or_gone : (table : ℕ) (before after : Slot) → after ≡ None → (row_in table after ≡ row_in table before) ⊎ IsTrue (has_gone (row_in table before) (row_in table after))
 kept_or_gone table None after none = inl (ap (row_in table) none)
-kept_or_gone table (Some row) after none = inr (subst (λ (x : Slot). IsTrue (has_gone (row_in table (Some row)) (row_in table x))) (sym none) tt)
+kept_or_gone table (Some row) after none = inr (subst (λ (x : Slot). IsTrue (has_gone (row_in table (Some row)) (row_in table x))) (sym none) refl)
 
 -- where no row goes, none has to be spared
 pub none_spared : (s : ℕ) (old new : ShownTable) (u : Unseen) → ((b k : ℕ) → new.row b k ≡ old.row b k) → IsSpared s old new u
@@ -309,12 +309,9 @@ module _ (sweeps : SweepsLaw) (here : IndexHere) (others : OtherIndexes) (ascend
           swept.free holds.1 swept.swept
 
       apart_numbers : (i m : ℕ) → i ≢ at → slice_get (indexes_of step.layout table) i ≡ Some m → m ≢ index
-      apart_numbers i m apart is same = elim (cases_order i at) [
+      apart_numbers i m apart is same = elim (cases_lt i at) [
         | inl less ↦ (let low = ascending step.layout table i at m index less is is_listed in absurd (omega (arith, low, same)))
-        | inr rest ↦ elim rest [
-          | inl equal ↦ apart equal
-          | inr more ↦ (let low = ascending step.layout table at i index m more is_listed is in absurd (omega (arith, low, same)))
-        ]
+        | inr past ↦ (let low = ascending step.layout table at i index m (omega (arith, past, apart)) is_listed is in absurd (omega (arith, low, same)))
       ]
 
       by_number : (i : ℕ) → i ≢ at → (o : Option ℕ) → slice_get (indexes_of step.layout table) i ≡ o → shown_one step.layout step.pages step.locks (u.unnamed i) o ≡ shown_one step.layout step.paged step.locks (u.unnamed i) o

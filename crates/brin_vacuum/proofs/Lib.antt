@@ -10,3 +10,7 @@ pub mod Tables
 pub mod InTable
 pub mod Calls
 pub mod Onward
+pub mod Pruned
+pub mod Naming
+pub mod SweptStore
+pub mod JudgedSlots

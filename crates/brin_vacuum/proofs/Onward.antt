@@ -1,5 +1,5 @@
 -- one call of the page store after another
-use Rattle.std.proofs.Common.{◌≡◌, ◌++◌, ℕ, zero, suc, ◌+◌, ◌≤◌, ◌<◌, ◌==◌, Bool, true, false, cond, List, [], ◌∷◌, drop, length, refl, sym, ap, subst, ◌∙◌, arith}
+use Rattle.std.proofs.Common.{◌≡◌, ◌++◌, inl, inr, ℕ, zero, suc, ◌+◌, ◌≤◌, ◌<◌, ◌==◌, Bool, true, false, cond, List, [], ◌∷◌, drop, length, refl, sym, ap, subst, ◌∙◌, arith}
 use Rattle.std.proofs.lemmas.Bool.{eq-eqb, ne_eqb}
 use Rattle.std.proofs.lemmas.List.{append_assoc}
 use Rattle.block_model.specs.declared.schema.Index.{Index}
@@ -12,6 +12,7 @@ use Rattle.store_layout.specs.DiskLayout.{DiskLayout}
 use Rattle.tx_table.specs.Statuses.{HasStatuses, OfStatuses}
 use Rattle.heap_rows.specs.HeapBlocks.{HasBlocks, OfBlocks}
 use Rattle.index_contents.specs.IndexContents.{IndexContents, contents}
+use Rattle.brin_vacuum.specs.SweptPages.{IsUnnamedOn, Judges}
 use Rattle.index_steps.specs.ShownTable.{indexes_of, numbers_from}
 
 -- before any call a store is as it is
@@ -52,13 +53,13 @@ pub lists_not : (table number : ℕ) (index : Index) (rest : List Index) (before
 lists_not table number index rest before all not so_far =
     sym (ap (λ (b : Bool). before ++ cond b (number ∷ numbers_from table (number + 1) rest) (numbers_from table (number + 1) rest)) (ne_eqb index.table table not)) ∙ so_far
 
+few_by_test : (table n : ℕ) (rest : List Index) → length (numbers_from table (n + 1) rest) ≤ length rest → (b : Bool) → length (cond b (n ∷ numbers_from table (n + 1) rest) (numbers_from table (n + 1) rest)) ≤ suc (length rest)
+few_by_test table n rest few true = omega (arith, few)
+few_by_test table n rest few false = omega (arith, few)
+
 few_from : (table n : ℕ) (l : List Index) → length (numbers_from table n l) ≤ length l
 few_from table n [] = omega arith
-few_from table n (index ∷ rest) = by_test (index.table == table)
-  where
-    by_test : (b : Bool) → length (cond b (n ∷ numbers_from table (n + 1) rest) (numbers_from table (n + 1) rest)) ≤ suc (length rest)
-    by_test true = let few = few_from table (n + 1) rest in omega (arith, few)
-    by_test false = let few = few_from table (n + 1) rest in omega (arith, few)
+few_from table n (index ∷ rest) = few_by_test table n rest (few_from table (n + 1) rest) (index.table == table)
 
 pub few_indexes : (layout : DiskLayout) (table : ℕ) → length (indexes_of layout table) ≤ length layout.schema.indexes
 unfolding indexes_of
@@ -67,3 +68,12 @@ few_indexes layout table = few_from table 0 layout.schema.indexes
 pub indexes_are : (layout : DiskLayout) (table : ℕ) → indexes_of layout table ≡ numbers_from table 0 layout.schema.indexes
 unfolding indexes_of
 indexes_are layout table = refl
+
+-- what was judged of an index after a call that changes no page was so before it
+pub judged_before : {D : Type 0} (told : D → Told) (old new : View D) → Keeps told old new → (index : ℕ) (page : List ℕ) (block slot one : ℕ) (before after : List ℕ)
+    → Judges (Tells told new) (IsUnnamedOn (contents new.layout new.pages index) page (record { block = block; slot = slot })) slot before after one
+    → Judges (Tells told old) (IsUnnamedOn (contents old.layout old.pages index) page (record { block = block; slot = slot })) slot before after one
+judged_before told old new kept index page block slot one before after judged = elim judged [
+  | inl is ↦ inl (is.0, is.1, λ tells. subst (λ (c : IndexContents). IsUnnamedOn c page (record { block = block; slot = slot })) (contents_same told old new kept index tells) (is.2 (tells_after told old new kept tells)))
+  | inr none ↦ inr (none.0, none.1, λ tells unnamed. none.2 (tells_after told old new kept tells) (subst (λ (c : IndexContents). IsUnnamedOn c page (record { block = block; slot = slot })) (sym (contents_same told old new kept index tells)) unnamed))
+]

@@ -1,8 +1,8 @@
 -- the slots of rows that are picked
-use Rattle.std.proofs.Common.{◌≡◌, inl, inr, ℕ, zero, suc, ◌+◌, ◌≤◌, ◌<◌, Bool, true, false, List, [], ◌∷◌, ◌++◌, length, get_or, refl, sym, ap, subst, ◌∙◌, arith}
+use Rattle.std.proofs.Common.{◌≡◌, ◌⊎◌, inl, inr, ℕ, zero, suc, ◌+◌, ◌≤◌, ◌<◌, Bool, true, false, List, [], ◌∷◌, ◌++◌, length, get_or, refl, sym, ap, subst, ◌∙◌, arith}
 use Rattle.std.specs.Prelude.{All, None, Some, if◌then◌else◌}
 use Rattle.std.proofs.lemmas.Bool.{false≢true}
-use Rattle.std.proofs.lemmas.List.{append_assoc}
+use Rattle.std.proofs.lemmas.List.{append-nil, append_assoc, length-append}
 use Rattle.std.proofs.lemmas.List.Elements.{All-cons, All-nil}
 use Rattle.std.proofs.lemmas.Option.{none-some, same_Some}
 use Rattle.page_layout.specs.PageContents.{Slot}
@@ -10,7 +10,7 @@ use Rattle.page_layout.specs.RowBytes.{StoredRow}
 use Rattle.heap_rows.specs.DroppedRows.{AreAscending}
 use Rattle.heap_rows.specs.StoredRows.{SlotsAscend, row_of, stored_from, stored_in}
 use Rattle.heap_rows.specs.declared.rows.Stored.{Stored}
-use Rattle.brin_vacuum.specs.DeadRows.{IsPicked, Living, dead_slots, is_dead, listed}
+use Rattle.brin_vacuum.specs.DeadRows.{AddsAtMost, IsPicked, Living, dead_slots, is_dead, listed}
 
 -- some of the first rows are picked; so they are with the next one, or without it
 pub picks_next : (slots more : List ℕ) (row : Stored) (rest rows : List Stored) → ((m : List ℕ) → IsPicked m (row ∷ rest) → IsPicked (slots ++ m) rows) → IsPicked more rest → IsPicked ((slots ++ row.slot ∷ []) ++ more) rows
@@ -55,15 +55,38 @@ picked_used P n (Some row ∷ list) slots each picked =
           subst (All P) (sym first.1) (All-cons P n first.0 here (picked_used P (n + 1) list first.0 later first.2))
     ]
 
--- the dead ones, with the next row judged
-pub judges_next : (by : Living) (row : Stored) (rest : List Stored) (slots all : List ℕ) → is_dead by (row_of row) ≡ true → slots ++ dead_slots by (row ∷ rest) ≡ all → (slots ++ row.slot ∷ []) ++ dead_slots by rest ≡ all
-unfolding dead_slots
-judges_next by row rest slots all dead so_far =
-    append_assoc slots (row.slot ∷ []) (dead_slots by rest) ∙ sym (ap (λ (b : Bool). slots ++ listed b row.slot (dead_slots by rest)) dead) ∙ so_far
+-- so it is with the next one judged
+pub judged_picks : (slots after more : List ℕ) (row : Stored) (rest rows : List Stored) → AddsAtMost row.slot slots after → ((m : List ℕ) → IsPicked m (row ∷ rest) → IsPicked (slots ++ m) rows) → IsPicked more rest → IsPicked (after ++ more) rows
+judged_picks slots after more row rest rows added so_far picked = elim added [
+  | inl one ↦ subst (λ (l : List ℕ). IsPicked (l ++ more) rows) (sym one) (picks_next slots more row rest rows so_far picked)
+  | inr none ↦ subst (λ (l : List ℕ). IsPicked (l ++ more) rows) (sym none) (passes_next slots more row rest rows so_far picked)
+]
 
-pub spares_next : (by : Living) (row : Stored) (rest : List Stored) (slots all : List ℕ) → is_dead by (row_of row) ≡ false → slots ++ dead_slots by (row ∷ rest) ≡ all → slots ++ dead_slots by rest ≡ all
+pub one_more_at_most : (slot : ℕ) (before after : List ℕ) → AddsAtMost slot before after → length after ≤ length before + 1
+one_more_at_most slot before after added = elim added [
+  | inl one ↦ (let e = ap (length {A = ℕ}) one in omega (arith, e, length-append before (slot ∷ [])))
+  | inr none ↦ (let e = ap (length {A = ℕ}) none in omega (arith, e))
+]
+
+-- the dead ones, with the next row judged
+first_judged : (b : Bool) (slot : ℕ) (slots : List ℕ) → listed b slot slots ≡ listed b slot [] ++ slots
+first_judged true slot slots = refl
+first_judged false slot slots = refl
+
+pub judges_next : (by : Living) (row : Stored) (rest : List Stored) (slots after all : List ℕ) → after ≡ slots ++ dead_slots by (row ∷ []) → slots ++ dead_slots by (row ∷ rest) ≡ all → after ++ dead_slots by rest ≡ all
 unfolding dead_slots
-spares_next by row rest slots all dead so_far = sym (ap (λ (b : Bool). slots ++ listed b row.slot (dead_slots by rest)) dead) ∙ so_far
+judges_next by row rest slots after all added so_far =
+    ap (λ (l : List ℕ). l ++ dead_slots by rest) added
+    ∙ append_assoc slots (listed (is_dead by (row_of row)) row.slot []) (dead_slots by rest)
+    ∙ sym (ap (λ (l : List ℕ). slots ++ l) (first_judged (is_dead by (row_of row)) row.slot (dead_slots by rest))) ∙ so_far
+
+pub one_dead : (by : Living) (row : Stored) (slots after : List ℕ) (b : Bool) → b ≡ is_dead by (row_of row) → b ≡ true → after ≡ slots ++ row.slot ∷ [] → after ≡ slots ++ dead_slots by (row ∷ [])
+unfolding dead_slots
+one_dead by row slots after b is dead added = added ∙ ap (λ (x : Bool). slots ++ listed x row.slot []) (sym dead ∙ is)
+
+pub none_dead : (by : Living) (row : Stored) (slots : List ℕ) (b : Bool) → b ≡ is_dead by (row_of row) → b ≡ false → slots ≡ slots ++ dead_slots by (row ∷ [])
+unfolding dead_slots
+none_dead by row slots b is alive = sym (append-nil slots) ∙ ap (λ (x : Bool). slots ++ listed x row.slot []) (sym alive ∙ is)
 
 -- the number is one of these
 abbrev pub IsAmong : List ℕ → ℕ → Type 0
@@ -95,15 +118,16 @@ IsDeadAt by n m list = (i : ℕ) × (m ≡ n + i) × ((row : StoredRow) × (get_
 behind : (by : Living) (n m : ℕ) (slot : Slot) (list : List Slot) → IsDeadAt by (n + 1) m list → IsDeadAt by n m (slot ∷ list)
 behind by n m slot list at = (suc at.0, (let e = at.1 in omega (arith, e)), at.2)
 
+dead_by_test : (by : Living) (n m : ℕ) (row : StoredRow) (list : List Slot) → (IsAmong (dead_slots by (stored_from (n + 1) list)) m → IsDeadAt by (n + 1) m list) → (b : Bool) → is_dead by row ≡ b
+    → IsAmong (listed b n (dead_slots by (stored_from (n + 1) list))) m → IsDeadAt by n m (Some row ∷ list)
+dead_by_test by n m row list found true dead here = elim here [
+  | inl is ↦ (0, (let e : n ≡ n + 0 = omega arith in is ∙ e), (row, refl, dead))
+  | inr later ↦ behind by n m (Some row) list (found later)
+]
+dead_by_test by n m row list found false alive later = behind by n m (Some row) list (found later)
+
 pub listed_dead : (by : Living) (n m : ℕ) (list : List Slot) → IsAmong (dead_slots by (stored_from n list)) m → IsDeadAt by n m list
 unfolding stored_from dead_slots
 listed_dead by n m [] among = absurd among
 listed_dead by n m (None ∷ list) among = behind by n m None list (listed_dead by (n + 1) m list among)
-listed_dead by n m (Some row ∷ list) among = by_test (is_dead by row) refl among
-  where
-    by_test : (b : Bool) → is_dead by row ≡ b → IsAmong (listed b n (dead_slots by (stored_from (n + 1) list))) m → IsDeadAt by n m (Some row ∷ list)
-    by_test true dead here = elim here [
-      | inl is ↦ (0, (let e : n ≡ n + 0 = omega arith in is ∙ e), (row, refl, dead))
-      | inr later ↦ behind by n m (Some row) list (listed_dead by (n + 1) m list later)
-    ]
-    by_test false alive later = behind by n m (Some row) list (listed_dead by (n + 1) m list later)
+listed_dead by n m (Some row ∷ list) among = dead_by_test by n m row list (listed_dead by (n + 1) m list) (is_dead by row) refl among

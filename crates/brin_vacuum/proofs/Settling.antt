@@ -121,12 +121,9 @@ module _ (v : TableState) (layout : DiskLayout) (stored : PageMap) (numbers : Li
 
 -- the places of what is left of a list
 pub get_drop : (at k : ℕ) (l : List ℕ) → slice_get (drop at l) k ≡ slice_get l (at + k)
-get_drop zero k l = refl
-get_drop (suc at) k [] = none_there k
-  where
-    none_there : (k : ℕ) → slice_get {A = ℕ} [] k ≡ slice_get {A = ℕ} [] (suc at + k)
-    none_there k = refl
-get_drop (suc at) k (x ∷ l) = get_drop at k l
+get_drop zero k l = let e : k ≡ 0 + k = omega arith in ap (λ (n : ℕ). slice_get l n) e
+get_drop (suc at) k [] = refl
+get_drop (suc at) k (x ∷ l) = let e : suc (at + k) ≡ suc at + k = omega arith in get_drop at k l ∙ ap (λ (n : ℕ). slice_get (x ∷ l) n) e
 
 module _ (s : ℕ) (shown : ShownTable) (u : Unseen) (held : Option ℕ) where
   abbrev pub at_task : Task → TableState

@@ -1,8 +1,8 @@
 -- slots of two bytes each
-use Rattle.std.proofs.Common.{◌≡◌, ◌⊎◌, inl, inr, ℕ, zero, suc, ◌+◌, ◌*◌, ◌/◌, ◌%◌, ◌≤◌, ◌<◌, ◌&&◌, Bool, true, false, List, [], ◌∷◌, ◌++◌, length, get_or, set, nat_le, nat_lt, refl, sym, ap, subst, ◌∙◌, arith}
+use Rattle.std.proofs.Common.{◌≡◌, ◌⊎◌, inl, inr, ℕ, zero, suc, ◌+◌, ◌*◌, ◌/◌, ◌%◌, ◌≤◌, ◌<◌, ◌&&◌, ◌==◌, Bool, true, false, List, [], ◌∷◌, ◌++◌, length, get_or, set, nat_le, nat_lt, refl, sym, ap, subst, ◌∙◌, arith}
 use Rattle.std.specs.Prelude.{None}
 use Rattle.std.specs.Int.{bytes_high_first}
-use Rattle.std.proofs.lemmas.Bool.{and_parts, cases_eq, cases_lt, false≢true, le-leb, leb-true, lt-ltb, ltb-true}
+use Rattle.std.proofs.lemmas.Bool.{and_parts, cases_eq, cases_lt, eqb-false, eqb-true, false≢true, le-leb, leb-true, lt-ltb, ltb-true}
 use Rattle.std.proofs.lemmas.List.{get_or-set_other, get_or-set_same, get_or_past, set_past}
 use Rattle.index_layout.specs.IndexPages.{Slot}
 use Rattle.index_layout.specs.IndexWrites.{are_ascending, dropped}
@@ -152,3 +152,17 @@ keeps_unlisted list [] n none = refl
 keeps_unlisted list (high ∷ []) n none = refl
 keeps_unlisted list (high ∷ low ∷ slots) n none =
     keeps_unlisted (set list (high * 256 + low) None) slots n (λ later. none (inr later)) ∙ get_or-set_other list (high * 256 + low) n None None (λ same. none (inl same))
+
+-- a list that isn't empty has a slot
+pub some_listed : (count : ℕ) (slots : List ℕ) → are_ascending 0 count slots ≡ true → (slots ≡ [] → ⊥) → (n : ℕ) × IsListed slots n
+some_listed count [] is some = absurd (some refl)
+some_listed count (high ∷ []) is some = absurd (not_odd 0 count high is)
+some_listed count (high ∷ low ∷ slots) is some = (high * 256 + low, inl refl)
+
+-- whether the list is empty, by its length
+pub none_there : (slots : List ℕ) (empty : Bool) → empty ≡ (length slots == 0) → empty ≡ true → slots ≡ []
+none_there [] empty is holds = refl
+none_there (slot ∷ slots) empty is holds = let e = eqb-true (suc (length slots)) 0 (sym is ∙ holds) in absurd (omega (arith, e))
+
+pub some_there : (slots : List ℕ) (empty : Bool) → empty ≡ (length slots == 0) → empty ≡ false → slots ≡ [] → ⊥
+some_there slots empty is fails none = eqb-false (length slots) 0 (sym is ∙ fails) (ap (length {A = ℕ}) none)

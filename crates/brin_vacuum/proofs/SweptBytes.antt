@@ -27,7 +27,7 @@ HasOneList = (kind : ℕ) (list : List Slot) (page : List ℕ) → HasSlots kind
 abbrev pub Trims : Type 0
 Trims = (list : List Slot) (m : ℕ) → slice_index_or (trimmed list) m None ≡ slice_index_or list m None
 
-kind_is : (kind : ℕ) (slots : List Slot) (page : List ℕ) → IsRegular kind slots page → slice_index page 0 ≡ kind
+pub kind_is : (kind : ℕ) (slots : List Slot) (page : List ℕ) → IsRegular kind slots page → slice_index page 0 ≡ kind
 unfolding regular_bytes
 kind_is kind slots page is = ap (λ (p : List ℕ). slice_index p 0) is.has.bytes
 

@@ -33,7 +33,7 @@ pub fewer_unnamed : (unnamed : Spot → Bool) (d : IndexContents) (x : Spot) →
 fewer_unnamed unnamed d x is = by_test (unnamed x) is
   where
     by_test : (b : Bool) → IsTrue (b && stands (d.bytes x)) → IsTrue b
-    by_test true is = tt
+    by_test true is = refl
     by_test false is = is
 
 -- the range of which the protocol sees bytes
@@ -113,7 +113,7 @@ module _ (shape : IndexShape) (c d : IndexContents) (lock : ℕ → Option ℕ) 
   still_unnamed x same = by_test (w.unnamed x) refl
     where
       stands_there : (o : Option (List ℕ)) → c.bytes x ≡ o → w.unnamed x ≡ true → stands o ≡ true
-      stands_there None is unnamed = absurd ((sound.unnamed_tuples x (subst IsTrue (sym unnamed) tt)).stands (shows.tuple x ∙ ap (option_map (seen shape)) is))
+      stands_there None is unnamed = absurd ((sound.unnamed_tuples x unnamed).stands (shows.tuple x ∙ ap (option_map (seen shape)) is))
       stands_there (Some bytes) is unnamed = refl
 
       by_test : (b : Bool) → w.unnamed x ≡ b → (b && stands (d.bytes x)) ≡ b

@@ -1,5 +1,5 @@
 -- the rows of a block that are dead to all
-use Rattle.std.specs.Prelude.{◌≡◌, ◌⊎◌, ℕ, ◌==◌, Bool, true, List, [], ◌∷◌, length, None, Some, if◌then◌else◌}
+use Rattle.std.specs.Prelude.{◌≡◌, ◌⊎◌, ℕ, ◌==◌, Bool, true, List, [], ◌∷◌, ◌++◌, length, None, Some, if◌then◌else◌}
 use Rattle.block_model.specs.declared.place.Spot.{Spot}
 use Rattle.coverage.specs.Counts.{HasGone, IsCountOf}
 use Rattle.page_layout.specs.PageContents.{Slot}
@@ -37,6 +37,10 @@ dead_slots by (row ∷ rows) = listed (is_dead by (row_of row)) row.slot (dead_s
 abbrev pub IsPicked : List ℕ → List Stored → Type 0
 IsPicked slots [] = slots ≡ []
 IsPicked slots (row ∷ rows) = IsPicked slots rows ⊎ ((rest : List ℕ) × (slots ≡ row.slot ∷ rest) × IsPicked rest rows)
+
+-- the slot comes behind the others, or nothing does
+abbrev pub AddsAtMost : (slot : ℕ) → (before after : List ℕ) → Type 0
+AddsAtMost slot before after = (after ≡ before ++ slot ∷ []) ⊎ (after ≡ before)
 
 -- Rows of one block have gone, so many; all else of the heap is as before.
 pub record DropsFrom (old new : List (List Slot)) (block count : ℕ) : Type 0 where

@@ -35,9 +35,9 @@ pub data IsNextIn (layout : DiskLayout) (stored : PageMap) : List ℕ → (at fr
   InALaterOne : (index at from : ℕ) (indexes : List ℕ) (next : Option (ℕ × ℕ)) → HasNoneFrom (contents layout stored index).pages from → IsNextIn layout stored indexes (at + 1) 0 next
       → IsNextIn layout stored (index ∷ indexes) at from next
 
--- the page is one that an index among so many from that place on may have; in the first one it is not before that block
+-- the page is one that an index among so many may have, from that place on; in the one at that place it is not before that block
 abbrev pub IsWithin : DiskLayout → (count at from : ℕ) → ℕ × ℕ → Type 0
-IsWithin layout count at from (m, page) = (m < at + count) × (page < layout.sizes.index_blocks) × IsFrom at from m page
+IsWithin layout count at from (m, page) = (m < count) × (page < layout.sizes.index_blocks) × IsFrom at from m page
 
 -- the kind of a page by what it was found to be
 abbrev pub IsKindOf : Kind → PageKind → Type 0

@@ -1,5 +1,6 @@
 -- the tuples of an index's page that the map doesn't name
-use Rattle.std.specs.Prelude.{◌≡◌, ◌≢◌, ◌⊎◌, ℕ, ◌+◌, ◌*◌, List, [], ◌∷◌, None, Some}
+use Rattle.std.specs.Prelude.{◌≡◌, ◌≢◌, ◌⊎◌, ℕ, ◌+◌, ◌*◌, List, [], ◌∷◌, ◌++◌, None, Some}
+use Rattle.std.specs.Int.{bytes_high_first}
 use Rattle.block_model.specs.declared.place.Spot.{Spot}
 use Rattle.coverage.specs.Steps.{TurnsPage}
 use Rattle.index_contents.specs.IndexContents.{IndexContents, tuple_on}
@@ -29,3 +30,7 @@ abbrev pub IsListed : List ℕ → ℕ → Type 0
 IsListed [] n = ⊥
 IsListed (high ∷ []) n = ⊥
 IsListed (high ∷ low ∷ slots) n = (n ≡ high * 256 + low) ⊎ IsListed slots n
+
+-- one more slot is listed, where so it is; else none
+abbrev pub Judges : (Told Is : Type 0) (slot : ℕ) (before after : List ℕ) (one : ℕ) → Type 0
+Judges Told Is slot before after one = ((one ≡ 1) × (after ≡ before ++ bytes_high_first 2 slot) × (Told → Is)) ⊎ ((one ≡ 0) × (after ≡ before) × (Told → Is → ⊥))

@@ -1,6 +1,6 @@
 //! Which rows of a block are dead to all.
 
-ghost use Rattle.std.specs.Prelude.{◌≡◌, ◌≤◌, List, None, length, vec_capacity, IfErr, IfOk, OnOk};
+ghost use Rattle.std.specs.Prelude.{◌≡◌, ◌++◌, ◌∷◌, ◌<◌, ◌≤◌, List, None, [], length, vec_capacity, IfErr, IfOk, OnOk};
 ghost use Rattle.page_store.specs.Keeps.{Keeps, Untold};
 ghost use Rattle.page_store.specs.Outcome.{Outcome};
 ghost use Rattle.logged_pages.specs.Survives.{Survives};
@@ -8,7 +8,7 @@ ghost use Rattle.heap_rows.specs.StoredRows.{row_of};
 ghost use Rattle.tx_table.specs.LeavesRest.{NamesStatuses};
 ghost use Rattle.tx_table.specs.Statuses.{OfStatuses};
 ghost use Rattle.snapshot_core.specs.declared.snapshots.Snapshot.{Snapshot as AnySnapshot};
-ghost use Rattle.brin_vacuum.specs.DeadRows.{IsPicked, dead_slots, is_dead, living};
+ghost use Rattle.brin_vacuum.specs.DeadRows.{AddsAtMost, IsPicked, dead_slots, is_dead, living};
 
 use disk_trait::Disk;
 use engine_pages::PageStore;
@@ -39,13 +39,40 @@ pub(crate) fn list_dead<D: Disk + Drop>(
     pages.known();
     dead.clear();
     'rows: for row in rows {
-        match is_dead(pages, tx, live, row) {
-            Ok(true) => dead.push_reserved(row.slot),
-            Ok(false) => {}
+        match add_dead(pages, tx, live, row, dead) {
+            Ok(()) => {}
             Err(error) => return Err(error),
         }
     }
     Ok(())
+}
+
+/// The slot of the row comes behind the others, if the row is dead to all.
+fn add_dead<D: Disk + Drop>(
+    pages: &mut PageStore<D>,
+    tx: &TxTable,
+    live: &[Snapshot],
+    row: &Stored,
+    dead: &mut Vec<u16>,
+) -> Result<(), StoreError>
+    requires ready { pages.old.failed ≡ None }
+    requires room { length dead.old.items < vec_capacity dead.old }
+    ensures dead { OnOk result (OfStatuses D.told pages.old (λ statuses. dead.new.items ≡ dead.old.items ++ dead_slots (living live.now tx.now.first statuses) (row.now ∷ []))) }
+    ensures added { OnOk result (AddsAtMost row.now.slot dead.old.items dead.new.items) }
+    ensures capacity { vec_capacity dead.new ≡ vec_capacity dead.old }
+    ensures kept { Keeps D.told pages.old pages.new }
+    ensures survives { Survives D.told (λ passed. passed ≡ pages.old.pages) pages.old pages.new }
+    ensures at { IfErr result (NamesStatuses pages.old.layout) }
+    ensures outcome { Outcome D.told (Untold D.told pages.old) pages.old pages.new result }
+{
+    match is_dead(pages, tx, live, row) {
+        Ok(true) => {
+            dead.push_reserved(row.slot);
+            Ok(())
+        }
+        Ok(false) => Ok(()),
+        Err(error) => Err(error),
+    }
 }
 
 /// Whether the row is dead to all.

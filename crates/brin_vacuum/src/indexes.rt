@@ -7,6 +7,7 @@ ghost use Rattle.index_steps.specs.ShownTable.{indexes_of};
 
 use block_model::NoMemory;
 use index_steps::every_index_of_a_table_is_listed;
+use page_store::tables_have_forms;
 use std::alloc::Global;
 use std::boxed::BoxedSlice;
 use store_layout::Layout;
@@ -21,6 +22,7 @@ pub(crate) fn indexes_of(
     ensures few { length (indexes_of layout.now table) ≤ 8 }
 {
     layout.known();
+    tables_have_forms(layout);
     let mut numbers = Vec::new(alloc);
     let mut number = 0u8;
     'indexes: for index in layout.schema().indexes.as_slice() {

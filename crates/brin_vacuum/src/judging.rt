@@ -12,7 +12,7 @@ ghost use Rattle.index_layout.specs.IndexWrites.{are_ascending};
 ghost use Rattle.index_contents.specs.IndexContents.{contents};
 ghost use Rattle.index_steps.specs.Readings.{NamesPageOf};
 ghost use Rattle.brin_vacuum.specs.declared.judging.TheConstants.{MAX_SLOT_BYTES};
-ghost use Rattle.brin_vacuum.specs.SweptPages.{IsListed, IsUnnamedOn};
+ghost use Rattle.brin_vacuum.specs.SweptPages.{IsListed, IsUnnamedOn, Judges};
 
 use block_model::Spot;
 use disk_trait::Disk;
@@ -55,16 +55,41 @@ pub(crate) fn list_unnamed<D: Disk + Drop>(
     unnamed.clear();
     let mut count = 0;
     'slots: for slot in 0..slots(page) {
-        match is_unnamed(pages, index, page, Spot { block, slot }) {
-            Ok(true) => {
-                push_slot(unnamed, slot);
-                count += 1;
-            }
-            Ok(false) => {}
+        match add_unnamed(pages, index, page, Spot { block, slot }, unnamed) {
+            Ok(one) => count += one,
             Err(error) => return Err(error),
         }
     }
     Ok(count)
+}
+
+/// The slot of the spot comes behind the others, if a tuple stands there that the map doesn't name: 1 then, else 0.
+fn add_unnamed<D: Disk + Drop>(
+    pages: &mut PageStore<D>,
+    index: u8,
+    page: &[u8],
+    spot: Spot,
+    unnamed: &mut Vec<u8>,
+) -> Result<u64, StoreError>
+    requires ready { pages.old.failed ≡ None }
+    requires index { index < length pages.old.layout.schema.indexes }
+    requires page { IsIndexPage page.now }
+    requires room { length unnamed.old.items + 2 ≤ vec_capacity unnamed.old }
+    ensures judged { IfOk result (Judges (Tells D.told pages.old) (IsUnnamedOn (contents pages.old.layout pages.old.pages index) page.now spot) spot.slot unnamed.old.items unnamed.new.items) }
+    ensures capacity { vec_capacity unnamed.new ≡ vec_capacity unnamed.old }
+    ensures kept { Keeps D.told pages.old pages.new }
+    ensures survives { Survives D.told (λ passed. passed ≡ pages.old.pages) pages.old pages.new }
+    ensures at { IfErr result (NamesPageOf pages.old.layout index) }
+    ensures outcome { Outcome D.told (Untold D.told pages.old) pages.old pages.new result }
+{
+    match is_unnamed(pages, index, page, spot) {
+        Ok(true) => {
+            push_slot(unnamed, spot.slot);
+            Ok(1)
+        }
+        Ok(false) => Ok(0),
+        Err(error) => Err(error),
+    }
 }
 
 /// The slot behind the others.

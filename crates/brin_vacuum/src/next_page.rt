@@ -1,6 +1,6 @@
 //! The next page of a table's indexes that has tuples.
 
-ghost use Rattle.std.specs.Prelude.{◌≡◌, ◌+◌, ◌<◌, ◌≤◌, None, length, slice_index, All, IfErr, IfOk, IfSome};
+ghost use Rattle.std.specs.Prelude.{◌≡◌, ◌<◌, ◌≤◌, None, drop, length, slice_index, All, IfErr, IfOk, IfSome};
 ghost use Rattle.page_store.specs.Keeps.{Keeps, Tells, Untold};
 ghost use Rattle.page_store.specs.Outcome.{Outcome};
 ghost use Rattle.logged_pages.specs.Survives.{Survives};
@@ -26,8 +26,8 @@ pub(crate) enum PageKind {
     Tuples,
 }
 
-/// Of these indexes, the first of which has that place among the table's: the place of the first one that has a page with tuples, and the
-/// lowest such page of it; in the first index from that block on. None where none has one. Takes no memory.
+/// Of a table's indexes, from that place on: the place of the first one that has a page with tuples, and the lowest such page of it; in the
+/// index at that place from that block on. None where none has one. Takes no memory.
 pub(crate) fn next_page<D: Disk + Drop>(
     pages: &mut PageStore<D>,
     indexes: &[u8],
@@ -36,8 +36,8 @@ pub(crate) fn next_page<D: Disk + Drop>(
 ) -> Result<Option<(u8, u32)>, StoreError>
     requires ready { pages.old.failed ≡ None }
     requires indexes { All (λ index. index < length pages.old.layout.schema.indexes) indexes.now }
-    requires few { at + length indexes.now ≤ 255 }
-    ensures next { IfOk result (λ next. Tells D.told pages.old → IsNextIn pages.old.layout pages.old.pages indexes.now at from next) }
+    requires few { length indexes.now ≤ 8 }
+    ensures next { IfOk result (λ next. Tells D.told pages.old → IsNextIn pages.old.layout pages.old.pages (drop at indexes.now) at from next) }
     ensures within { IfOk result (λ next. IfSome next (IsWithin pages.old.layout (length indexes.now) at from)) }
     ensures kept { Keeps D.told pages.old pages.new }
     ensures survives { Survives D.told (λ passed. passed ≡ pages.old.pages) pages.old pages.new }
@@ -45,14 +45,16 @@ pub(crate) fn next_page<D: Disk + Drop>(
     ensures outcome { Outcome D.told (Untold D.told pages.old) pages.old pages.new result }
 {
     pages.known();
-    let [index, later @ ..] = indexes else {
-        return Ok(None);
-    };
-    match next_of(pages, *index, from) {
-        Ok(Some(block)) => Ok(Some((at, block))),
-        Ok(None) => next_page(pages, later, at + 1, 0),
-        Err(error) => Err(error),
+    let count = indexes.len() as u8;
+    let mut start = from;
+    'places: for place in at..count {
+        match next_of(pages, indexes[usize::from(place)], start) {
+            Ok(Some(block)) => return Ok(Some((place, block))),
+            Ok(None) => start = 0,
+            Err(error) => return Err(error),
+        }
     }
+    Ok(None)
 }
 
 /// The lowest page of the index with tuples, from that block on; none where none has some.
@@ -73,7 +75,7 @@ fn next_of<D: Disk + Drop>(
 {
     pages.known();
     let limit = pages.layout().sizes().index_blocks;
-    'blocks: for block in from..limit {
+    'later: for block in from..limit {
         match kind_there(pages, index, block) {
             Ok(PageKind::Tuples) => return Ok(Some(block)),
             Ok(PageKind::Unstarted) => return Ok(None),

@@ -16,7 +16,7 @@ use crate::dead_rows::list_dead;
 use disk_trait::Disk;
 use engine_pages::PageStore;
 use heap_rows::{PageRows, drop_dead, rows_of};
-use page_store::StoreError;
+use page_store::{StoreError, tables_have_forms};
 use snapshot_core::Snapshot;
 use tx_table::TxTable;
 
@@ -50,7 +50,7 @@ pub(crate) fn prune<D: Disk + Drop>(
     ensures at { IfErr result (NamesPageRead pages.old.layout table) }
     ensures outcome { Outcome D.told (Untold D.told pages.old) pages.old pages.new result }
 {
-    pages.layout().known();
+    tables_have_forms(pages.layout());
     match rows_of(pages, table, block, rows) {
         Ok(()) => {}
         Err(error) => return Err(error),

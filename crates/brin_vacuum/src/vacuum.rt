@@ -266,14 +266,13 @@ impl Vacuum {
             Err(error) => return Err(MachineFault::Store(error)),
         }
         pages.layout().known();
-        let indexes = &self.indexes[usize::from(at)..];
-        let index = indexes[0];
+        let index = self.indexes[usize::from(at)];
         let relation = relation_of(pages.layout(), index);
         match lock_of_another(locks, Place { relation, block }, actor) {
             Some(held) => return Ok(Did::Blocked(held)),
             None => {}
         }
-        let next = match next_page(pages, indexes, at, block + 1) {
+        let next = match next_page(pages, &self.indexes, at, block + 1) {
             Ok(next) => standing_of(next),
             Err(error) => return Err(MachineFault::Store(error)),
         };

@@ -8,8 +8,8 @@ use Rattle.index_contents.specs.IndexContents.{contents}
 use Rattle.brin_vacuum.proofs.next_page.next_of.Given as goal
 
 -- no page so far has tuples
-abbrev pub invariant-blocks : goal.invariant-blocks
-invariant-blocks g l = record {
+abbrev pub invariant-later : goal.invariant-later
+invariant-later g l = record {
   kept : Keeps g.D.Disk.told l.fn.pages l.pages;
   survives : Survives g.D.Disk.told (λ (passed : PageMap). passed ≡ l.fn.pages.pages) l.fn.pages l.pages;
   started : l.fn.pages.failed ≡ None;
