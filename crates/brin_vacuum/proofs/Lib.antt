@@ -14,3 +14,4 @@ pub mod Pruned
 pub mod Naming
 pub mod SweptStore
 pub mod JudgedSlots
+pub mod Beginning

@@ -2,8 +2,11 @@ use Rattle.std.proofs.Common.{◌≡◌, ◌==◌, ℕ, List, [], length, ap, sy
 use Rattle.std.specs.Prelude.{slice_index}
 use Rattle.std.specs.Vec.{vec_len}
 use Rattle.store_layout.specs.DiskLayout.{DiskLayout}
-use Rattle.page_store.specs.Keeps.{keeps_on}
-use Rattle.page_store.specs.PageMap.{block_at}
+use Rattle.page_store.specs.Keeps.{Tells, keeps_on}
+use Rattle.page_store.specs.PageMap.{page_at}
+use Rattle.index_layout.specs.IndexPages.{IsRegular}
+use Rattle.index_layout.specs.IndexReading.{slots_of}
+use Rattle.index_layout.specs.IndexWrites.{CanDrop, dropped, trimmed}
 use Rattle.opened_pages.specs.PageOrder.{kind_of}
 use Rattle.engine_pages.specs.SurvivesLaws.{survives_on}
 use Rattle.index_contents.specs.Calls.{leaves_then}
@@ -33,10 +36,11 @@ returns-then-is_empty-clause-survives g c = survives_on g.D.Disk.told c.args.pag
 pub drop_tuples-requires-clause-slots : goal.drop_tuples-requires-clause-slots
 drop_tuples-requires-clause-slots g c =
     let store = c.args.pages.now in
+    subst (λ (l : List ℕ). Tells g.D.Disk.told c.list_unnamed.new.pages → CanDrop (page_at c.list_unnamed.new.pages.pages (place_of c.relation_of-relation.result c.args.block)) l) (sym c.as_slice.ensures.value) (
     let kept = keeps_on g.D.Disk.told store c.copy_page.new.pages c.list_unnamed.new.pages c.in-Ok.ensures.kept c.in-Ok-list_unnamed.ensures.kept in
     sweep_can g.D.Disk.told c.args.index c.args.block c.args.pages.now c.copy_page.new.pages c.list_unnamed.new.pages c.in-Ok.ensures.kept c.in-Ok-list_unnamed.ensures.kept c.copy_page.new.out c.list_unnamed.new.unnamed.items
     c.in-Ok.ensures.page c.in-Ok-list_unnamed.ensures.listed c.relation_of-relation.result (c.relation_of-relation.ensures.number ∙ ap (λ (l : DiskLayout). relation_of l c.args.index) (c.layout.ensures ∙ kept.leaves.layout))
-    c.in-Ok-list_unnamed.ensures.ascending (some_there c.list_unnamed.new.unnamed.items c.is_empty.result (c.is_empty.ensures ∙ ap (λ (n : ℕ). n == 0) (let e : vec_len c.list_unnamed.new.unnamed ≡ length c.list_unnamed.new.unnamed.items = omega (arith, c.list_unnamed.new.unnamed.ok.0) in e)) c.if-is_empty.false)
+    c.in-Ok-list_unnamed.ensures.ascending (some_there c.list_unnamed.new.unnamed.items c.is_empty.result (c.is_empty.ensures ∙ ap (λ (n : ℕ). n == 0) (let e : vec_len c.list_unnamed.new.unnamed ≡ length c.list_unnamed.new.unnamed.items = omega (arith, c.list_unnamed.new.unnamed.ok.0) in e)) c.if-is_empty.false))
 
 pub returns-in-Ok-drop_tuples-clause-swept : goal.returns-in-Ok-drop_tuples-clause-swept
 returns-in-Ok-drop_tuples-clause-swept g c =
@@ -44,7 +48,7 @@ returns-in-Ok-drop_tuples-clause-swept g c =
     let kept = keeps_on g.D.Disk.told store c.copy_page.new.pages c.list_unnamed.new.pages c.in-Ok.ensures.kept c.in-Ok-list_unnamed.ensures.kept in
     sweep_done g.D.Disk.told c.args.index c.args.block c.args.pages.now c.copy_page.new.pages c.list_unnamed.new.pages c.in-Ok.ensures.kept c.in-Ok-list_unnamed.ensures.kept c.copy_page.new.out c.list_unnamed.new.unnamed.items
     c.in-Ok.ensures.page c.in-Ok-list_unnamed.ensures.listed c.relation_of-relation.result (c.relation_of-relation.ensures.number ∙ ap (λ (l : DiskLayout). relation_of l c.args.index) (c.layout.ensures ∙ kept.leaves.layout))
-    c.in-Ok-list_unnamed.ensures.ascending (some_there c.list_unnamed.new.unnamed.items c.is_empty.result (c.is_empty.ensures ∙ ap (λ (n : ℕ). n == 0) (let e : vec_len c.list_unnamed.new.unnamed ≡ length c.list_unnamed.new.unnamed.items = omega (arith, c.list_unnamed.new.unnamed.ok.0) in e)) c.if-is_empty.false) c.drop_tuples.new.pages c.an_index_page_has_one_list.ensures.slots c.a_put_changes_one_slot.ensures.trimmed c.in-Ok-drop_tuples.ensures.others c.in-Ok-drop_tuples.ensures.dropped
+    c.in-Ok-list_unnamed.ensures.ascending (some_there c.list_unnamed.new.unnamed.items c.is_empty.result (c.is_empty.ensures ∙ ap (λ (n : ℕ). n == 0) (let e : vec_len c.list_unnamed.new.unnamed ≡ length c.list_unnamed.new.unnamed.items = omega (arith, c.list_unnamed.new.unnamed.ok.0) in e)) c.if-is_empty.false) c.drop_tuples.new.pages c.an_index_page_has_one_list.ensures.slots c.a_put_changes_one_slot.ensures.trimmed c.in-Ok-drop_tuples.ensures.others (subst (λ (l : List ℕ). Tells g.D.Disk.told c.list_unnamed.new.pages → IsRegular (slice_index (page_at c.list_unnamed.new.pages.pages (place_of c.relation_of-relation.result c.args.block)) 0) (trimmed (dropped (slots_of (page_at c.list_unnamed.new.pages.pages (place_of c.relation_of-relation.result c.args.block))) l)) (page_at c.drop_tuples.new.pages.pages (place_of c.relation_of-relation.result c.args.block))) c.as_slice.ensures.value c.in-Ok-drop_tuples.ensures.dropped)
 
 pub returns-in-Ok-drop_tuples-clause-counted : goal.returns-in-Ok-drop_tuples-clause-counted
 returns-in-Ok-drop_tuples-clause-counted g c =
@@ -57,7 +61,7 @@ returns-in-Ok-drop_tuples-clause-order g c =
     let kept = keeps_on g.D.Disk.told store c.copy_page.new.pages c.list_unnamed.new.pages c.in-Ok.ensures.kept c.in-Ok-list_unnamed.ensures.kept in
     sweep_order g.D.Disk.told c.args.index c.args.block c.args.pages.now c.copy_page.new.pages c.list_unnamed.new.pages c.in-Ok.ensures.kept c.in-Ok-list_unnamed.ensures.kept c.copy_page.new.out c.list_unnamed.new.unnamed.items
     c.in-Ok.ensures.page c.in-Ok-list_unnamed.ensures.listed c.relation_of-relation.result (c.relation_of-relation.ensures.number ∙ ap (λ (l : DiskLayout). relation_of l c.args.index) (c.layout.ensures ∙ kept.leaves.layout))
-    c.in-Ok-list_unnamed.ensures.ascending (some_there c.list_unnamed.new.unnamed.items c.is_empty.result (c.is_empty.ensures ∙ ap (λ (n : ℕ). n == 0) (let e : vec_len c.list_unnamed.new.unnamed ≡ length c.list_unnamed.new.unnamed.items = omega (arith, c.list_unnamed.new.unnamed.ok.0) in e)) c.if-is_empty.false) c.drop_tuples.new.pages c.requires.block c.in-Ok-drop_tuples.ensures.others c.in-Ok-drop_tuples.ensures.dropped
+    c.in-Ok-list_unnamed.ensures.ascending (some_there c.list_unnamed.new.unnamed.items c.is_empty.result (c.is_empty.ensures ∙ ap (λ (n : ℕ). n == 0) (let e : vec_len c.list_unnamed.new.unnamed ≡ length c.list_unnamed.new.unnamed.items = omega (arith, c.list_unnamed.new.unnamed.ok.0) in e)) c.if-is_empty.false) c.drop_tuples.new.pages c.requires.block c.in-Ok-drop_tuples.ensures.others (subst (λ (l : List ℕ). Tells g.D.Disk.told c.list_unnamed.new.pages → IsRegular (slice_index (page_at c.list_unnamed.new.pages.pages (place_of c.relation_of-relation.result c.args.block)) 0) (trimmed (dropped (slots_of (page_at c.list_unnamed.new.pages.pages (place_of c.relation_of-relation.result c.args.block))) l)) (page_at c.drop_tuples.new.pages.pages (place_of c.relation_of-relation.result c.args.block))) c.as_slice.ensures.value c.in-Ok-drop_tuples.ensures.dropped)
 
 pub returns-in-Ok-drop_tuples-clause-survives : goal.returns-in-Ok-drop_tuples-clause-survives
 returns-in-Ok-drop_tuples-clause-survives g c =
