@@ -32,7 +32,6 @@ use store_parts::{
 /// A later step of an insert: in an index of its table. With the last one the insert is done, and its machine is spare. It waits where
 /// another session locks a page that the step changes. Where no page of the index is left for the tuple with the row, the put is entered
 /// anew so, and the session's transaction fails; `Spent` comes where the journal has no room for that.
-
 pub fn insert_on<D: Disk + Drop>(
     parts: &mut Parts<D>,
     session: u32,
@@ -48,6 +47,7 @@ pub fn insert_on<D: Disk + Drop>(
     ensures others { LeavesTheOthers D.told parts.old parts.new session (Hand.Inserts insert) result }
     ensures stays { StaysUndone D.told parts.old parts.new session (Hand.Inserts insert) result }
     ensures cause { HasCause D.told parts.old.pages parts.new.pages result }
+    // At every moment of the step an image opens to what one did before it, or to the pages as they were.
     ensures survives { Survives D.told (IsBefore parts.old.pages) parts.old.pages parts.new.pages }
     ensures spare { IfSome spare.new (IsInsertFor parts.old.pages.layout) }
 {

@@ -52,6 +52,7 @@ pub fn put_row<D: Disk + Drop>(
     ensures others { LeavesTheOthers D.told parts.old parts.new session (Hand.Puts table values) result }
     ensures stays { StaysUndone D.told parts.old parts.new session (Hand.Puts table values) result }
     ensures cause { HasCause D.told parts.old.pages parts.new.pages result }
+    // At every moment of the step an image opens to what one did before it, or to the pages as they were.
     ensures survives { Survives D.told (IsBefore parts.old.pages) parts.old.pages parts.new.pages }
     ensures spare { IfSome spare.new (IsInsertFor parts.old.pages.layout) }
 {

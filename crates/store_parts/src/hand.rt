@@ -23,7 +23,8 @@ pub struct Marking {
     pub next: usize,
 }
 
-/// A statement in hand. An insert, a select and a delete take their memory with their first step, the others have taken it.
+/// A statement in hand. An insert takes its memory with its first step, a select and a delete in the steps of their scan; the others have
+/// taken it.
 #[derive(Debug, Drop)]
 pub enum Hand {
     /// A begin, with an empty list that has room for the number of a transaction of each session.
