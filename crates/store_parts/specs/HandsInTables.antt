@@ -66,7 +66,8 @@ IsSummariseAt layout a task = (at : ℕ) × StandsAt layout a.index at × (task 
 abbrev pub InItsTable : (own table : ℕ) → (Here : Type 0) → Task → Type 0
 InItsTable own table Here task = (own ≡ table → Here) × (own ≢ table → task ≡ Resting)
 
--- what a session's statement is at in the table, whose heap has these blocks; one that has made no step is at nothing
+-- what a session's statement is at in the table, whose heap has these blocks; one that has made no step is at nothing,
+-- but an explain and a summarise are in theirs from the start
 abbrev pub IsTaskOf : DiskLayout → (table : ℕ) → List (List Slot) → TxState → List Status → Option Open → Option Hand → Task → Type 0
 IsTaskOf layout table blocks tx stored transaction (Some (hands.Inserts insert)) task = InItsTable insert.row.table table (task ≡ inserts.task_of layout insert) task
 IsTaskOf layout table blocks tx stored transaction (Some (hands.Selects scan)) task =
@@ -78,7 +79,8 @@ IsTaskOf layout table blocks tx stored transaction (Some (hands.Explains explain
 IsTaskOf layout table blocks tx stored transaction (Some (hands.Summarises a)) task = InItsTable (index_at layout a.index).table table (IsSummariseAt layout a task) task
 IsTaskOf layout table blocks tx stored transaction hand task = task ≡ Resting
 
--- the table in which the statement makes its steps, if there is one; one that has made no step is in none
+-- the table in which the statement makes its steps, if there is one; one that has made no step is in none,
+-- but an explain and a summarise are in theirs from the start
 abbrev pub table_in : DiskLayout → Option Hand → Option ℕ
 table_in layout (Some (hands.Inserts insert)) = Some insert.row.table
 table_in layout (Some (hands.Selects scan)) = Some scan.judging.query.table
