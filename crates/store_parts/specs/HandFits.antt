@@ -10,7 +10,7 @@ use Rattle.heap_rows.specs.Heaps.{kinds_at}
 use Rattle.row_versions.specs.declared.sessions.Open.{Open}
 use Rattle.row_versions.specs.StoredVersions.{transaction_of}
 use Rattle.tx_table.specs.TxState.{IsOver}
-use Rattle.brin_insert.specs.Inserts.{AsksNothing, HasStepLeft, IsInsertFor}
+use Rattle.brin_insert.specs.Inserts.{HasStepLeft, IsInsertFor}
 use Rattle.brin_insert.specs.InsertLocks as inserts
 use Rattle.brin_scan.specs.Finds.{IsFindOf, IsScanning}
 use Rattle.brin_scan.specs.ScanHands.{IsJudging, IsScanOf}
@@ -49,7 +49,7 @@ abbrev pub IsHandFor : DiskLayout → Option Open → Hand → Type 0
 IsHandFor layout own (hands.Begins numbers) = (own ≡ None) × (numbers.items ≡ []) × (MAX_SESSIONS ≤ vec_capacity numbers)
 IsHandFor layout own hands.Commits = IsSome own
 IsHandFor layout own hands.RollsBack = IsSome own
-IsHandFor layout own (hands.Puts table values) = IsUnderWay own × (table < length layout.schema.tables) × HaveKinds (kinds_at layout table) values × AsksNothing layout table
+IsHandFor layout own (hands.Puts table values) = IsUnderWay own × (table < length layout.schema.tables) × HaveKinds (kinds_at layout table) values
 IsHandFor layout own (hands.Inserts insert) = IsUnderWay own × IsInsertFor layout insert × HasStepLeft insert × IsSome insert.place × IsOwnRow own insert.row.id.t
 IsHandFor layout own (hands.Selecting query) = IsUnderWay own × (query.table < length layout.schema.tables)
 IsHandFor layout own (hands.Selects scan) = IsUnderWay own × IsFindOf layout scan × IsScanning scan.judging.stage scan.next × (scan.judging.stage ≢ scan_stages.Extent)
