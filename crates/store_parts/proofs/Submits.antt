@@ -14,6 +14,9 @@ use Rattle.reply_texts.specs.declared.dropped.Dropped.{Dropped}
 use Rattle.table_coverage.specs.Accounts.{Account, no_account}
 use Rattle.table_coverage.specs.Table.{Resting, Task}
 use Rattle.index_steps.specs.IndexTuples.{index_at}
+use Rattle.brin_desummarise.specs.declared.stage.Stage.{Stage as DesummariseStage}
+use Rattle.brin_desummarise.specs.Desummarises.{count_at as desummarised_at, range_of}
+use Rattle.brin_desummarise.specs.TableSteps as desummarises
 use Rattle.brin_scan.specs.declared.stage.Stage.{Stage}
 use Rattle.brin_scan.specs.Explains.{explaining}
 use Rattle.brin_scan.specs.TableScans as scans
@@ -29,7 +32,7 @@ use Rattle.store_parts.specs.declared.hand.Hand.{Hand}
 use Rattle.store_parts.specs.declared.hand.Hand.TheVariants as hands
 use Rattle.store_parts.specs.Hands.{HandShows, TellsSo, AnswersAre, statement_of}
 use Rattle.store_parts.specs.HandsAsk.{HandAsked, IsNoInsert}
-use Rattle.store_parts.specs.HandsInTables.{IsExplainAt, IsSummariseAt, IsTaskOf}
+use Rattle.store_parts.specs.HandsInTables.{IsDesummariseAt, IsExplainAt, IsSummariseAt, IsTaskOf}
 use Rattle.store_parts.specs.ShowsPlace.{IsOfTransaction, IsPlaceOf, ShowsTable}
 use Rattle.store_parts.specs.StoreLaws.{HasHand}
 use Rattle.store_parts.specs.StoreStates.{ShownStore, dropped_in, hand_in}
@@ -67,6 +70,12 @@ rests layout table blocks tx stored transaction (hands.Summarises a) fresh = (λ
     here =
         let listed = unlisted layout (index_at layout a.index).table a.index fresh.1 refl in
         (listed.0, listed.1, sym (ap (λ (s : Standing). summarises.task_at layout listed.0 a s) fresh.0 ∙ first_rests a.wish listed.0 fresh.2))
+rests layout table blocks tx stored transaction (hands.Desummarises a) fresh = (λ own. here, λ away. refl)
+  where
+    here : IsDesummariseAt layout a Resting
+    here =
+        let listed = unlisted layout (index_at layout a.index).table a.index fresh.1 refl in
+        (listed.0, listed.1, sym (ap (λ (s : DesummariseStage). desummarises.task_at listed.0 (range_of layout a) s) fresh.0))
 
 -- and it was answered nothing, and has nothing to tell
 answers_none : (layout : DiskLayout) (hand : Hand) → HasNotBegun layout hand → AnswersAre hand []
@@ -82,6 +91,7 @@ answers_none layout (hands.Deletes scan) fresh = absurd fresh
 answers_none layout (hands.Marks marking) fresh = absurd fresh
 answers_none layout (hands.Explains explain) fresh = refl
 answers_none layout (hands.Summarises a) fresh = refl
+answers_none layout (hands.Desummarises a) fresh = refl
 
 tells_none : (layout : DiskLayout) (hand : Hand) → HasNotBegun layout hand → TellsSo hand no_account
 tells_none layout (hands.Begins numbers) fresh = refl
@@ -96,6 +106,7 @@ tells_none layout (hands.Deletes scan) fresh = absurd fresh
 tells_none layout (hands.Marks marking) fresh = absurd fresh
 tells_none layout (hands.Explains explain) fresh = refl
 tells_none layout (hands.Summarises a) fresh = λ i. record no_account { ranges = sym (ap (count_at a) fresh.0) i }
+tells_none layout (hands.Desummarises a) fresh = λ i. record no_account { ranges = sym (ap desummarised_at fresh.0) i }
 
 -- how it stands to its session's transaction
 is_of_any : (layout : DiskLayout) (transaction : Option Open) (copy : Option OpenTransaction) (hand : Hand) → HasNotBegun layout hand → IsOfTransaction transaction copy hand
@@ -111,6 +122,7 @@ is_of_any layout transaction None (hands.Deletes scan) fresh = absurd fresh
 is_of_any layout transaction None (hands.Marks marking) fresh = absurd fresh
 is_of_any layout transaction None (hands.Explains explain) fresh = tt
 is_of_any layout transaction None (hands.Summarises a) fresh = tt
+is_of_any layout transaction None (hands.Desummarises a) fresh = tt
 is_of_any layout transaction (Some x) (hands.Begins numbers) fresh = tt
 is_of_any layout transaction (Some x) hands.Commits fresh = tt
 is_of_any layout transaction (Some x) hands.RollsBack fresh = tt
@@ -123,6 +135,7 @@ is_of_any layout transaction (Some x) (hands.Deletes scan) fresh = absurd fresh
 is_of_any layout transaction (Some x) (hands.Marks marking) fresh = absurd fresh
 is_of_any layout transaction (Some x) (hands.Explains explain) fresh = tt
 is_of_any layout transaction (Some x) (hands.Summarises a) fresh = tt
+is_of_any layout transaction (Some x) (hands.Desummarises a) fresh = tt
 
 -- a statement that has made no step is no insert that has asked
 asks_nothing : (layout : DiskLayout) (hand : Hand) → HasNotBegun layout hand → IsNoInsert (Some hand)
