@@ -233,7 +233,7 @@ module _ (old new : ShownStore) (n : ℕ) (before after : Insert) (hand : Insert
           (λ t. shows.counts t ∙ ap (λ (s : TransactionsState). counts_of s stored t) (sym step.transactions))
           (λ m other. pick_other m n (task_of old.layout after) (u.task m) other)
           is_at (laws.slots old stored n shows.blocks))
-          (record { queue = come.requests; told = told; others = step.dropped; hand = asked })
+          (record { requests = come.requests; told = told; others = step.dropped; hand = asked })
 
       -- it goes on
       module _ (now : hand_in new.hands n ≡ Some (hands.Inserts after)) (inserting : IsInserting (task_of old.layout after)) (named : dropped_in new.dropped n ≡ named_requests old.layout after.dropped.items) where

@@ -176,7 +176,7 @@ module _ (laws : RefusalLaws) (old new : ShownStore) (n table : ℕ) (values : L
             order = λ index below. same_order old new r.pages index;
           }))
           (laws.table_shown old new stored n table (p.tables table) shows r.others r.pages r.given r.rights quiet in_none turns.step)
-          (record { queue = r.queue; dropped = r.dropped; account = nothing; hand = subst IsNoInsert (sym r.now) tt }),
+          (record { queue = r.queue; dropped = r.dropped; told = nothing; hand = subst IsNoInsert (sym r.now) tt }),
       record { hand = h; in_hand = in_hand; steps = steps; fits = fits },
     )
 

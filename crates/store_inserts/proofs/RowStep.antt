@@ -288,7 +288,7 @@ module _ (laws : RowLaws) (old new : ShownStore) (n table : ℕ) (values : List 
             (λ m other. pick_other m n (task_of old.layout after) (u.task m) other)
             is_at (laws.slots laws.unseen old (database_at p) stored n o (slots_a_page old.layout table) x (new_row r.id values) shows.blocks shown.database puts.open_is refl fills))
             (record {
-              queue = subst (λ (l : List (ℕ × ℕ)). AreRequestsOf old.layout l p.queue) (sym puts.queue) shown.queue;
+              requests = subst (λ (l : List (ℕ × ℕ)). AreRequestsOf old.layout l p.queue) (sym puts.queue) shown.queue;
               told = ap (λ (l : List (List Dropped)). dropped_in l n) puts.dropped ∙ shown.told n ∙ ap (λ (a : Account). dropped_of old.layout a.dropped) told_here;
               others = λ m apart. ap (λ (l : List (List Dropped)). dropped_in l m) puts.dropped;
               hand = asked;

@@ -310,7 +310,7 @@ module _ {D : Type 0} (told : D → Told) (laws : MarkLaws) (old : Parts D) (pag
     pub shown_then : (at_then : Option HandAt) → HandShows hand_then at_then (p.accounts n) → IsInTable → IsTaskThen → IsOwnThen → IsNoInsert hand_then → IsPlaceOf after_store (place_then at_then)
     shown_then at_then shows_then is_there is_task own_then no_insert =
         table_step_is_shown s after_store p n table at_then v (p.accounts n) shown leaves (in_table is_there) few (leads at_then shows_then own_then) (own_table is_task)
-        (record { queue = refl; dropped = refl; account = refl; hand = subst IsNoInsert (sym has_hand.own) no_insert })
+        (record { queue = refl; dropped = refl; told = refl; hand = subst IsNoInsert (sym has_hand.own) no_insert })
 
   -- ---- one more is left
 

@@ -198,7 +198,7 @@ module _ {D : Type 0} (told : D → Told) (laws : ConflictLaws) (old : Parts D) 
 
     pub shown_then : IsPlaceOf then q
     shown_then = table_step_is_shown s then p n table None v (p.accounts n) shown leaves in_table few leads own_table
-        (record { queue = refl; dropped = refl; account = refl; hand = subst IsNoInsert (sym has_none.own) tt })
+        (record { queue = refl; dropped = refl; told = refl; hand = subst IsNoInsert (sym has_none.own) tt })
 
     pub steps_then : Steps p n (Ended (replies.Refused (refusals.Conflict hit.id))) q
     steps_then = record {

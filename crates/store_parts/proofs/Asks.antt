@@ -1,5 +1,5 @@
 -- what sessions asked for in vain
-use Rattle.std.proofs.Common.{◌≡◌, ◌≢◌, inl, inr, ℕ, List, [], ◌∷◌, Option, None, Some, refl, sym, ap, subst, ◌∙◌}
+use Rattle.std.proofs.Common.{◌≡◌, inl, inr, ℕ, List, ◌∷◌, Option, Some, refl, sym, ap, subst, ◌∙◌}
 use Rattle.std.specs.Prelude.{slice_get, slice_index_or}
 use Rattle.std.proofs.lemmas.Bool.{cases_eq}
 use Rattle.std.proofs.lemmas.Option.{get_or_from_slice_get}
@@ -43,8 +43,8 @@ none_asked layout hand asked none = tt
 
 pub asks_none : (old new : ShownStore) (p : Place) (n : ℕ) (account : Account) → IsPlaceOf old p → AsksForNone n old new p account → HasAsked n old new account p.queue
 asks_none old new p n account shown none = record {
-  queue = subst (λ (l : List (ℕ × ℕ)). AreRequestsOf old.layout l p.queue) (sym none.queue) shown.queue;
-  told = ap (λ (l : List (List Dropped)). dropped_in l n) none.dropped ∙ shown.told n ∙ ap (dropped_of old.layout) (sym none.account);
+  requests = subst (λ (l : List (ℕ × ℕ)). AreRequestsOf old.layout l p.queue) (sym none.queue) shown.queue;
+  told = ap (λ (l : List (List Dropped)). dropped_in l n) none.dropped ∙ shown.told n ∙ ap (dropped_of old.layout) (sym none.told);
   others = λ m apart. ap (λ (l : List (List Dropped)). dropped_in l m) none.dropped;
   hand = none_asked old.layout (hand_in new.hands n) account.dropped none.hand;
 }

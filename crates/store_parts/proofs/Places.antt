@@ -43,7 +43,7 @@ use Rattle.store_parts.specs.HandsAsk.{HandAsked}
 use Rattle.store_parts.specs.HandsInTables.{IsTaskOf, table_in}
 use Rattle.store_parts.specs.Leaving.{AsksForNone, ChangesLocks, CountsFew, GivesLocks, HasAsked, HasNoRows, IsRelationOf, LeadsTo, LeavesOthers, LeavesTable, LocksIn, SameLocks, SeeAlike, StepsAtOnce, StepsInTable}
 use Rattle.store_parts.specs.PlaceLaws.{AskingStepIsShown, PlaceStaysShown, StaysShown, StepAtOnceIsShown, TableStepIsShown}
-use Rattle.store_parts.specs.PlacesAfter.{place_after, place_asking, place_at_once}
+use Rattle.store_parts.specs.PlacesAfter.{place_asking, place_at_once}
 use Rattle.store_parts.specs.ShowsPlace.{IsOfTransaction, IsPlaceOf, ShowsTable}
 use Rattle.store_parts.specs.StoreStates.{ShownStore, dropped_in, hand_in}
 use Rattle.store_parts.specs.TableLaws.{CountsFewIn, IsQuiet}
@@ -192,7 +192,7 @@ module _ (old new : ShownStore) (p : Place) (n table : ℕ) (shown : IsPlaceOf o
     place_then = record {
       layout = shown.layout;
       names = shown.names ∙ sym leaves.names;
-      queue = asked.queue;
+      queue = asked.requests;
       told = told_then old new p n account queue shown leaves asked;
       asked = asked_then old new p n account queue shown leaves asked;
       journal = refl;
@@ -267,7 +267,7 @@ module _ (old new : ShownStore) (p : Place) (n : ℕ) (later : List Status) (sho
   place_at_once_then = record {
     layout = shown.layout;
     names = shown.names ∙ sym leaves.names;
-    queue = asked.queue;
+    queue = asked.requests;
     told = told_at_once;
     asked = asked_at_once;
     journal = refl;

@@ -121,7 +121,7 @@ record DoesAsking (p : Place) (n table : ℕ) (x between : TableState) (point : 
 pub machine_asks : MachineAsks
 machine_asks p n table statement w between v point account queue is other on does named adds more no_prune settles own =
     let there : DoesAsking p n table (p.tables table) between point account queue =
-        subst (λ (x : TableState). DoesAsking p n table x between point account queue) (sym is) (record { does = does; point_is = named; adds = adds }) in (
+    subst (λ (x : TableState). DoesAsking p n table x between point account queue) (sym is) (record { does = does; point_is = named; adds = adds }) in (
       record {
         on = on;
         step = record { between = between; does = there.does; settles = settles };

@@ -131,12 +131,12 @@ pub record LeadsTo (old new : ShownStore) (p : Place) (n : ℕ) (at : Option Han
 pub record AsksForNone (n : ℕ) (old new : ShownStore) (p : Place) (account : Account) : Type 0 where
   pub queue : new.queue ≡ old.queue
   pub dropped : new.dropped ≡ old.dropped
-  pub account : account.dropped ≡ (p.accounts n).dropped
+  pub told : account.dropped ≡ (p.accounts n).dropped
   pub hand : IsNoInsert (hand_in new.hands n)
 
 -- Behind a step of session n these are the summaries that are asked for, and what it asked for in vain is what it has to tell; that of the others stays.
 pub record HasAsked (n : ℕ) (old new : ShownStore) (account : Account) (queue : List Asked) : Type 0 where
-  pub queue : AreRequestsOf old.layout new.queue queue
+  pub requests : AreRequestsOf old.layout new.queue queue
   pub told : dropped_in new.dropped n ≡ dropped_of old.layout account.dropped
   pub others : (m : ℕ) → m ≢ n → dropped_in new.dropped m ≡ dropped_in old.dropped m
   pub hand : HandAsked old.layout (hand_in new.hands n) account.dropped

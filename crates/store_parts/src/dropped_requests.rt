@@ -3,6 +3,7 @@
 ghost use Rattle.std.specs.Prelude.{◌≡◌, ◌≢◌, ◌<◌, ◌≤◌, ℕ, All, [], length, IfOk};
 ghost use Rattle.brin_insert.specs.Inserts.{IsOfIndexes};
 ghost use Rattle.statements.specs.declared.limits.TheConstants.{MAX_SESSIONS};
+ghost use Rattle.store_parts.specs.declared.limits.TheConstants.{DROPPED_A_SESSION};
 ghost use Rattle.store_parts.specs.HandsAsk.{named_request, named_requests};
 ghost use Rattle.store_parts.specs.StoreStates.{dropped_in};
 
@@ -117,7 +118,7 @@ impl DroppedList {
         requires named { All (IsOfIndexes (length layout.now.schema.indexes)) requests.now }
         ensures { self.new ≡ named_requests layout.now requests.now }
     {
-        layout.known();
+        few_indexes_are_declared(layout);
         self.requests.clear();
         'requests: for request in requests {
             self.requests.push_reserved(named(layout, request));
@@ -134,4 +135,11 @@ fn named(layout: &Layout, request: &(u8, u32)) -> Dropped
         index: index_named(layout, request.0),
         range: request.1,
     }
+}
+
+/// Does nothing; tells its caller that a session has room for a request of each index.
+fn few_indexes_are_declared(layout: &Layout)
+    ensures { length layout.now.schema.indexes ≤ DROPPED_A_SESSION }
+{
+    layout.known();
 }

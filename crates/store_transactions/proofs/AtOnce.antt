@@ -205,7 +205,7 @@ module _ {D : Type 0} (laws : Laws) (old new : Parts D) (n : ℕ) (hand : Hand) 
       → IsPlaceOf after (place_at_once p n (counts_of new.transactions restates.later) new.journal.entries)
   shown_then p shown restates database legal copies =
       laws.shown before after p n restates.later shown others_left at_once restates.has restates.alike restates.few has_none.own (leads p (p.accounts n) database legal copies)
-      (record { queue = stays.queue; dropped = stays.dropped; account = refl; hand = subst IsNoInsert (sym has_none.own) tt })
+      (record { queue = stays.queue; dropped = stays.dropped; told = refl; hand = subst IsNoInsert (sym has_none.own) tt })
 
 -- ---- the request
 

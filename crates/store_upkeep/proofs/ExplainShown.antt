@@ -127,7 +127,7 @@ module _ (old new : ShownStore) (n : ℕ) (before : ExplainHand) (left : Explain
     pub place_shown : IsPlaceOf new led
     place_shown = table_step_is_shown old new p n number at after account shown left.others steps_in
         (same_counts_few old new stored stored (λ t. ap (λ (x : TransactionsState). counts_of x stored t) left.transactions)) leads own_table
-        (record { queue = left.queue; dropped = left.dropped; account = ap (λ (a : Account). a.dropped) (empty ∙ sym told_here); hand = in_hand.asks })
+        (record { queue = left.queue; dropped = left.dropped; told = ap (λ (a : Account). a.dropped) (empty ∙ sym told_here); hand = in_hand.asks })
 
 -- ---- what the session has in hand then
 
