@@ -15,3 +15,4 @@ pub mod Opening
 pub mod Maintenance
 pub mod Submits
 pub mod FewLocks
+pub mod HeldLocks

@@ -33,7 +33,9 @@ pub use laws_opening::an_opened_store_is_shown;
 pub use laws_places::{a_step_is_shown, places_after_a_step};
 pub use laws_refusals::{a_refusal_is_shown, a_refusal_turns};
 pub use laws_requests::{one_more_request, others_copies_stay, requests_are_legal};
-pub use laws_shares::{each_session_holds_few_locks, few_locks_are_held, shares_are_summed};
+pub use laws_shares::{
+    a_holder_has_a_lock, each_session_holds_few_locks, few_locks_are_held, shares_are_summed,
+};
 pub use laws_steps::{a_machine_asks, a_machine_turns, a_turn_is_a_step, one_request_is_a_step};
 pub use laws_stores::{a_fit_step_fits_everywhere, one_hand_changes, other_sessions_stay_fit};
 pub use laws_submits::a_submitted_statement_is_shown;
