@@ -1,5 +1,5 @@
 -- a later step of an insert, over the parts of a store
-use Rattle.std.proofs.Common.{◌≡◌, ◌≢◌, ℕ, ◌+◌, ◌<◌, ◌≤◌, List, [], ◌∷◌, length, Option, None, Some, Ok, refl, sym, ap, subst, ◌∙◌, arith}
+use Rattle.std.proofs.Common.{◌≡◌, ◌≢◌, inl, ℕ, ◌+◌, ◌<◌, ◌≤◌, List, [], ◌∷◌, length, Option, None, Some, Ok, refl, sym, ap, subst, ◌∙◌, arith}
 use Rattle.std.specs.Prelude.{IfSome, IsSome, slice_get}
 use Rattle.disk_trait.specs.Told.{Told}
 use Rattle.block_model.specs.declared.place.Place.{Place as PagePlace}
@@ -73,7 +73,8 @@ use Rattle.transactions.specs.Laws.{ShowAlike}
 use Rattle.block_model.specs.declared.reply.Refusal.TheVariants as refusals
 use Rattle.line_texts.specs.Names.{index_name, name_of}
 use Rattle.line_texts.specs.StatementSteps.{Steps, Waits}
-use Rattle.std.proofs.lemmas.Option.{same_Some}
+use Rattle.std.proofs.lemmas.Option.{none-some, same_Some}
+use Rattle.store_parts.proofs.HeldLocks.{holder_has_lock}
 use Rattle.block_model.specs.declared.reply.Reply.{Reply}
 use Rattle.block_model.specs.declared.request.Entry.{Entry}
 use Rattle.block_model.specs.declared.request.Request.TheVariants as requests
@@ -175,6 +176,7 @@ module _ {D : Type 0} (told : D → Told) (changes : HandChanges) (of_parts : Fi
     in_hand = subst (λ (l : DiskLayout). FitsHand l (transaction_of parts.transactions.opens n) h) (sym left.others.leaves.layout) in_hand;
     limit = left.counts.limit ∙ fits.limit;
     own = own;
+    held = λ table holds. absurd (none-some table (fits.held table holds));
     rights = fits.rights ∙ ap (λ (l : DiskLayout). length l.schema.tables) (sym left.others.leaves.layout);
     entries = fits.entries;
     share = let more = fits.share in omega (arith, more, share);
@@ -190,6 +192,7 @@ module _ {D : Type 0} (told : D → Told) (changes : HandChanges) (of_parts : Fi
     transactions = λ m other. refl;
     locks = λ m other. left.counts.adds.others m other;
     dropped = left_asked.others;
+    rights = refl;
     promised = ap (λ (s : ℕ). parts.journal.promised + s) share;
   })
 
@@ -333,7 +336,7 @@ module _ {D : Type 0} (told : D → Told) (changes : HandChanges) (of_parts : Fi
         );
     fit = stays_fit told changes of_stores parts new n (hands.Inserts before) (stepped.Blocked what held.by (hands.Inserts after)) (fits_then (Some (hands.Inserts after)) (in_hand_then step_left (placed_then placed)) own refl);
     others = others_so (stepped.Blocked what held.by (hands.Inserts after)) refl;
-    stays = λ names hand_list has. (record { pages = blocked.4; transactions = refl; locks = blocked.3; rights = refl; journal = refl; queue = same_queue; dropped = kept }, same_statement);
+    stays = λ names hand_list has. (record { pages = blocked.4; transactions = refl; locks = blocked.3; rights = refl; journal = refl; queue = same_queue; dropped = kept }, same_statement, (blocked.2, inl (holder_has_lock parts.locks held.page held.by blocked.1)));
     cause = left.ready;
   }
 

@@ -147,6 +147,7 @@ module _ {D : Type 0} (told : D → Told) (changes : HandChanges) (of_parts : Fi
     in_hand = subst (λ (l : DiskLayout). FitsHand l (transaction_of transactions.opens n) h) (sym left.others.leaves.layout) in_hand;
     limit = left.counts.limit ∙ fits.limit;
     own = own;
+    held = λ table holds. absurd (none-some table (fits.held table holds));
     rights = fits.rights ∙ ap (λ (l : DiskLayout). length l.schema.tables) (sym left.others.leaves.layout);
     entries = let room = put.room in omega (arith, many, room);
     share = let promised = put.promised in let enough = fits.share in let two = share_now h free in omega (arith, share_was, two, promised, enough);
@@ -158,6 +159,7 @@ module _ {D : Type 0} (told : D → Told) (changes : HandChanges) (of_parts : Fi
     transactions = others_open;
     locks = λ m other. left.counts.adds.others m other;
     dropped = λ m apart. refl;
+    rights = refl;
     promised = let promised = put.promised in let two = share_now (hand_after answer) free in omega (arith, share_was, two, promised);
   })
 

@@ -157,6 +157,7 @@ returns g c =
     let refused : LeftRefused g.D.Disk.told parts parts.pages later.transactions later.locks later.journal c.args.session hand own.own (tagged_entry c.args.session c.args.table (requests.Put c.args.values) tags.NoMemory) = record {
       fits = fits;
       free = refl;
+      no_right = refl;
       open_is = own.is;
       whole = own.whole;
       leaves = leaves_same g.D.Disk.told parts.pages;
