@@ -6,6 +6,7 @@ pub mod Seeing
 pub mod Locks
 pub mod Tables
 pub mod Steps
+pub mod Asks
 pub mod Places
 pub mod Refusals
 pub mod Undone

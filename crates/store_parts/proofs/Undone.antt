@@ -12,6 +12,7 @@ use Rattle.page_store.specs.declared.faults.StoreError.TheVariants as errors
 use Rattle.page_store.specs.Keeps.{Keeps, Leaves, Tells, Untold, keeps_then, keeps_on}
 use Rattle.page_store.specs.Outcome.{Refused}
 use Rattle.page_store.specs.PageMap.{View}
+use Rattle.reply_texts.specs.declared.dropped.Dropped.{Dropped}
 use Rattle.statements.specs.declared.limits.TheConstants.{MAX_ENTRIES}
 use Rattle.store_layout.specs.DiskLayout.{DiskLayout}
 use Rattle.row_versions.specs.declared.sessions.Open.{Open}
@@ -32,7 +33,7 @@ use Rattle.store_parts.specs.StepAnswers.{HasCause, IsHolderOf, LeavesSessions, 
 use Rattle.store_parts.specs.StepIs.{hand_after}
 use Rattle.store_parts.specs.Stepping.{IsFit, LeavesTheOthers}
 use Rattle.store_parts.specs.StoreFaults.{fault_of}
-use Rattle.store_parts.specs.StoreStates.{ShownStore, StoreState, hand_in, shown_of, store_of, with_hand}
+use Rattle.store_parts.specs.StoreStates.{ShownStore, StoreState, dropped_in, hand_in, shown_of, store_of, with_hand}
 use Rattle.store_parts.specs.UndoneLaws.{FitOfParts, FitOfStores, FitsParts, RefusedIsUndone, SameBesidePages, SpentIsUndone, StepsBehind}
 
 -- ---- what is fit
@@ -124,6 +125,7 @@ module _ {D : Type 0} (told : D → Told) where
       leaves = leaves;
       transactions = λ m apart. opens_same m;
       locks = λ m apart. ap (λ (l : LockState). locks_of l m) same.locks;
+      dropped = λ m apart. ap (λ (l : List (List Dropped)). dropped_in l m) same.dropped;
       rights = λ m table apart holds. ap (λ (r : List (Option ℕ)). right_of r table) (sym same.rights) ∙ holds;
       promised = λ i. (same.journal i).promised + share_of ((is ∙ sym (kept_hand hands n hand is)) i) (sym (opens_same n) i);
     }
@@ -144,7 +146,7 @@ module _ {D : Type 0} (told : D → Told) where
 
   pub spent_is_undone : SpentIsUndone told
   spent_is_undone parts n hand entries fits ready is_length lacks =
-      let unchanged : SameBesidePages parts parts = record { transactions = refl; locks = refl; rights = refl; journal = refl } in
+      let unchanged : SameBesidePages parts parts = record { transactions = refl; locks = refl; rights = refl; journal = refl; queue = refl; dropped = refl } in
       let was : FitsParts told parts n (Some hand) = fit_of_parts told parts n hand fits in
       record {
         steps = λ names hands is tells before after p shown. (
@@ -154,7 +156,7 @@ module _ {D : Type 0} (told : D → Told) where
         );
         fit = λ names hands is. fit_of_stores told parts n (Some hand) names (with_hand hands n (Some hand)) was (kept_hand hands n hand is);
         others = refused_others parts parts n hand fits was.over (no_leaves parts.pages) unchanged (stops.Spent entries);
-        stays = λ names hands is. (record { pages = record { leaves = no_leaves parts.pages; pages = λ tells. refl }; transactions = refl; locks = refl; rights = refl; journal = refl }, refl);
+        stays = λ names hands is. (record { pages = record { leaves = no_leaves parts.pages; pages = λ tells. refl }; transactions = refl; locks = refl; rights = refl; journal = refl; queue = refl; dropped = refl }, refl);
         cause = (ready, ready);
       }
 
@@ -170,6 +172,8 @@ module _ {D : Type 0} (told : D → Told) where
       locks = same.locks i;
       rights = same.rights i;
       entries = (same.journal i).entries;
+      queue = same.queue i;
+      dropped = same.dropped i;
       names = names;
       hands = hands;
     }
@@ -203,6 +207,8 @@ module _ {D : Type 0} (told : D → Told) where
           locks = w.locks ∙ same.locks;
           rights = w.rights ∙ same.rights;
           journal = w.journal ∙ ap (λ (j : JournalState). j.entries) same.journal;
+          queue = w.queue ∙ same.queue;
+          dropped = w.dropped ∙ same.dropped;
         }
     stays_behind names hands new hand (stepped.Undone (stops.Spent entries) next) stays = (as_it_was stays.0, stays.1)
       where
@@ -213,6 +219,8 @@ module _ {D : Type 0} (told : D → Told) where
           locks = w.locks ∙ same.locks;
           rights = w.rights ∙ same.rights;
           journal = w.journal ∙ ap (λ (j : JournalState). j.entries) same.journal;
+          queue = w.queue ∙ same.queue;
+          dropped = w.dropped ∙ same.dropped;
         }
     stays_behind names hands new hand (stepped.Undone stops.Disk next) stays = (stays.0 ∙ ap (λ (j : JournalState). j.entries) same.journal, stays.1)
     stays_behind names hands new hand (stepped.Undone (stops.Reopen faults) next) stays = (stays.0 ∙ ap (λ (j : JournalState). j.entries) same.journal, stays.1)
@@ -227,6 +235,7 @@ module _ {D : Type 0} (told : D → Told) where
       leaves = keeps_then told old.pages mid.pages new.pages keeps others.leaves;
       transactions = λ m apart. others.transactions m apart ∙ ap (λ (t : TransactionsState). transaction_of t.opens m) same.transactions;
       locks = λ m apart. others.locks m apart ∙ ap (λ (l : LockState). locks_of l m) same.locks;
+      dropped = λ m apart. others.dropped m apart ∙ ap (λ (l : List (List Dropped)). dropped_in l m) same.dropped;
       rights = λ m table apart holds. ap (λ (r : List (Option ℕ)). right_of r table) (sym same.rights) ∙ others.rights m table apart holds;
       promised = ap (λ share. new.journal.promised + share) (sym (shares_mid hands)) ∙ others.promised ∙ ap (λ (j : JournalState). j.promised + share_of (hand_in new.hands n) (transaction_of new.transactions.opens n)) same.journal;
     }

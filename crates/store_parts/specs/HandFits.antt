@@ -14,7 +14,7 @@ use Rattle.tx_table.specs.TxState.{IsOver}
 use Rattle.brin_desummarise.specs.declared.stage.Stage.{Stage as DesummariseStage}
 use Rattle.brin_desummarise.specs.declared.stage.Stage.TheVariants as desummarise_stages
 use Rattle.brin_desummarise.specs.Desummarises.{IsDesummariseOf, IsLeft, held_at}
-use Rattle.brin_insert.specs.Inserts.{AsksNothing, HasStepLeft, IsInsertFor}
+use Rattle.brin_insert.specs.Inserts.{HasStepLeft, IsInsertFor}
 use Rattle.brin_insert.specs.InsertLocks as inserts
 use Rattle.brin_scan.specs.Finds.{IsFindOf, IsScanning}
 use Rattle.brin_scan.specs.ScanHands.{IsJudging, IsScanOf}
@@ -55,7 +55,7 @@ abbrev pub IsHandFor : DiskLayout → Option Open → Hand → Type 0
 IsHandFor layout own (hands.Begins numbers) = (own ≡ None) × (numbers.items ≡ []) × (MAX_SESSIONS ≤ vec_capacity numbers)
 IsHandFor layout own hands.Commits = IsSome own
 IsHandFor layout own hands.RollsBack = IsSome own
-IsHandFor layout own (hands.Puts table values) = IsUnderWay own × (table < length layout.schema.tables) × HaveKinds (kinds_at layout table) values × AsksNothing layout table
+IsHandFor layout own (hands.Puts table values) = IsUnderWay own × (table < length layout.schema.tables) × HaveKinds (kinds_at layout table) values
 IsHandFor layout own (hands.Inserts insert) = IsUnderWay own × IsInsertFor layout insert × HasStepLeft insert × IsSome insert.place × IsOwnRow own insert.row.id.t
 IsHandFor layout own (hands.Selecting query) = IsUnderWay own × (query.table < length layout.schema.tables)
 IsHandFor layout own (hands.Selects scan) = IsUnderWay own × IsFindOf layout scan × IsScanning scan.judging.stage scan.next × (scan.judging.stage ≢ scan_stages.Extent)

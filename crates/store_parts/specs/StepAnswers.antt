@@ -17,14 +17,15 @@ use Rattle.store_parts.specs.declared.hand.Stepped.{Stepped}
 use Rattle.store_parts.specs.declared.hand.Stepped.TheVariants as stepped
 use Rattle.store_parts.specs.Hands.{statement_of}
 use Rattle.store_parts.specs.Shares.{share_of}
-use Rattle.store_parts.specs.StoreStates.{StoreState, hand_at}
+use Rattle.store_parts.specs.StoreStates.{StoreState, dropped_in, hand_at}
 
--- what a step of session n leaves to the others: their transactions, how many locks each holds, no summarise lock that they hadn't, and what of the journal is
--- promised beside its own
+-- what a step of session n leaves to the others: their transactions, how many locks each holds, no summarise lock that they hadn't, what each asked for
+-- in vain, and what of the journal is promised beside its own
 pub record LeavesSessions {D : Type 0} (told : D → Told) (old new : StoreState D) (n : ℕ) : Type 0 where
   pub leaves : Leaves told old.pages new.pages
   pub transactions : (m : ℕ) → m ≢ n → transaction_of new.transactions.opens m ≡ transaction_of old.transactions.opens m
   pub locks : (m : ℕ) → m ≢ n → locks_of new.locks m ≡ locks_of old.locks m
+  pub dropped : (m : ℕ) → m ≢ n → dropped_in new.dropped m ≡ dropped_in old.dropped m
   pub rights : (m table : ℕ) → m ≢ n → right_of new.rights table ≡ Some m → right_of old.rights table ≡ Some m
   pub promised : new.journal.promised + share_of (hand_at old n) (transaction_of old.transactions.opens n)
       ≡ old.journal.promised + share_of (hand_at new n) (transaction_of new.transactions.opens n)
@@ -56,6 +57,8 @@ pub record StaysAsItWas {D : Type 0} (told : D → Told) (old new : StoreState D
   pub locks : new.locks ≡ old.locks
   pub rights : new.rights ≡ old.rights
   pub journal : new.journal.entries ≡ old.journal.entries
+  pub queue : new.queue ≡ old.queue
+  pub dropped : new.dropped ≡ old.dropped
 
 -- session m is another one than n, and holds a page lock, or a table's summarise lock
 abbrev pub IsHolderOf : {D : Type 0} → StoreState D → (n m : ℕ) → Type 0

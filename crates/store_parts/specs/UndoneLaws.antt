@@ -58,6 +58,8 @@ pub record SameBesidePages {D : Type 0} (old new : Parts D) : Type 0 where
   pub locks : new.locks ≡ old.locks
   pub rights : new.rights ≡ old.rights
   pub journal : new.journal ≡ old.journal
+  pub queue : new.queue ≡ old.queue
+  pub dropped : new.dropped ≡ old.dropped
 
 -- the pages refuse the step
 abbrev pub RefusedIsUndone : {D : Type 0} → (D → Told) → Type 0
