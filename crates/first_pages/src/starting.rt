@@ -67,8 +67,11 @@ fn start_statuses<D: Disk + Drop>(pages: &mut PageStore<D>) -> Result<(), StoreE
     pages.known();
     let blocks = pages.layout().sizes().status_blocks;
     'statuses: for block in 0..blocks {
-        let relation = STATUSES;
-        match start_page(pages, Place { relation, block }) {
+        let place = Place {
+            relation: STATUSES,
+            block,
+        };
+        match start_page(pages, place) {
             Ok(()) => {}
             Err(error) => return Err(error),
         }

@@ -33,7 +33,7 @@ returns-clause-fresh g c = λ tells.
     let whole : IsWhole old.layout new.pages = subst (λ (layout : DiskLayout). IsWhole layout new.pages) same c.known.ensures.whole in
     let fresh_whole : IsWhole old.layout (fresh_pages old.layout) = subst (λ (layout : DiskLayout). IsWhole layout (fresh_pages layout)) told law.whole in
     let fresh_at : (place : Place) → IsPlace old.layout place → page_at (fresh_pages old.layout) place ≡ fresh_page old.layout place =
-        subst (λ (layout : DiskLayout). (place : Place) → IsPlace layout place → page_at (fresh_pages layout) place ≡ fresh_page layout place) told law.pages in
+    subst (λ (layout : DiskLayout). (place : Place) → IsPlace layout place → page_at (fresh_pages layout) place ≡ fresh_page layout place) told law.pages in
     c.maps_with_the_same_pages_are_equal.ensures old.layout new.pages (fresh_pages old.layout) whole fresh_whole
     (λ place is. all_fresh old.layout old.pages mid.pages new.pages (c.requires.unstarted tells) (c.in-Ok-start_statuses.ensures.fresh tells)
     (next_freshens old.layout mid.layout mid.pages new.pages first.layout (c.in-Ok-start_indexes.ensures.fresh (first.tells ∙ tells))) place is
