@@ -1,0 +1,6 @@
+mod Statuses
+mod NewIndexes
+mod NewTables
+mod Starts
+mod Fits
+mod Refusals
