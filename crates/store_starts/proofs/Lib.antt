@@ -1,6 +1,3 @@
-mod Statuses
-mod NewIndexes
-mod NewTables
 mod Starts
 mod Fits
 mod Refusals

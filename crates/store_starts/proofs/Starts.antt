@@ -20,7 +20,7 @@ use Rattle.store_parts.specs.OpeningLaws.{OpenedIsShown, place_opened}
 use Rattle.store_parts.specs.ShowsPlace.{IsPlaceOf}
 use Rattle.store_parts.specs.StoreStates.{ShownStore}
 use Rattle.fresh_store.specs.FreshPages.{fresh_pages}
-use Rattle.store_starts.specs.NewTables.{new_table}
+use Rattle.fresh_tables.specs.NewTables.{new_table}
 use Rattle.store_starts.specs.OpenedParts.{IsNewStore}
 
 -- a fact of the fresh pages of a layout, and of a store that has them

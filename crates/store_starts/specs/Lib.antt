@@ -1,2 +1,1 @@
-pub mod NewTables
 pub mod OpenedParts

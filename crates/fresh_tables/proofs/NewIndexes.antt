@@ -19,7 +19,7 @@ use Rattle.index_contents.specs.MapLaws.{is_of_map}
 use Rattle.index_contents.specs.Reading.{unstarted_kind}
 use Rattle.store_format.specs.FreshStore.{fresh_index_page, fresh_page, unstarted_page}
 use Rattle.store_format.proofs.Places.{fresh_index, index_others}
-use Rattle.store_starts.specs.NewTables.{IsNewIndex}
+use Rattle.fresh_tables.specs.NewTables.{IsNewIndex}
 
 -- a page has one list of entries, and a metapage one number
 abbrev pub HasOneMap : Type 0

@@ -7,9 +7,8 @@ use Rattle.page_store.specs.PageMap.{PageMap}
 use Rattle.coverage.specs.PageOrder.{AreNewPages}
 use Rattle.index_contents.specs.IndexContents.{IndexContents}
 use Rattle.table_coverage.specs.Machines.{table_state}
-use Rattle.table_coverage.specs.Table.{TableState}
+use Rattle.table_coverage.specs.Table.{Resting, TableState}
 use Rattle.index_steps.specs.ShownRows.{shown_by}
-use Rattle.store_parts.specs.OpeningLaws.{unseen_at_rest}
 
 -- an index without entries and tuples, whose first two pages alone are started
 pub record IsNewIndex (c : IndexContents) : Type 0 where
@@ -20,4 +19,4 @@ pub record IsNewIndex (c : IndexContents) : Type 0 where
 -- The table that pages and page locks show without a block of its heap, in which nobody is at anything: the rows of these transactions count, and no
 -- tuple was unnamed.
 abbrev pub new_table : DiskLayout → PageMap → LockState → (table : ℕ) → (counts : ℕ → Bool) → TableState
-new_table layout pages locks table counts = table_state (shown_by layout pages locks table []) (unseen_at_rest counts (λ i x. false))
+new_table layout pages locks table counts = table_state (shown_by layout pages locks table []) (record { summarise_lock = None; task = λ n. Resting; counts = counts; unnamed = λ i x. false })

@@ -20,7 +20,7 @@ use Rattle.index_steps.specs.IndexTuples.{contents_of, index_at, seen, shape_of}
 use Rattle.index_steps.specs.ShownTable.{indexes_of, shown_at}
 use Rattle.index_steps.proofs.Lawful.{its_pages}
 use Rattle.line_texts.specs.Starts.{IsDeclared, IsLaidOut}
-use Rattle.store_starts.specs.NewTables.{IsNewIndex, new_table}
+use Rattle.fresh_tables.specs.NewTables.{IsNewIndex, new_table}
 
 -- an element at a place below the length
 there_is : {A : Type 0} (xs : List A) (i : ℕ) → i < length xs → slice_get xs i ≡ None → ⊥

@@ -6,8 +6,8 @@ use Rattle.snapshot_core.specs.declared.statuses.Status.{Status}
 use Rattle.snapshot_core.specs.declared.statuses.Status.TheVariants.{Unused}
 use Rattle.tx_table.specs.Statuses.{number_limit}
 use Rattle.tx_table.specs.TxState.{IsNext}
-use Rattle.store_starts.proofs.Statuses.{fresh_started, fresh_statuses, heap_unstarted, next_of_unused, no_blocks}
-use Rattle.store_starts.proofs.laws.fresh_pages_show_a_new_database.Goals as goal
+use Rattle.fresh_tables.proofs.Statuses.{fresh_started, fresh_statuses, heap_unstarted, next_of_unused, no_blocks}
+use Rattle.fresh_tables.proofs.laws.fresh_pages_show_a_new_database.Goals as goal
 
 pub returns-clause-statuses : goal.returns-clause-statuses
 returns-clause-statuses c = fresh_statuses c.args.layout.now (fresh_pages c.args.layout.now) c.a_new_store_opens_to_fresh_pages.ensures.pages
