@@ -1,3 +1,2 @@
 mod Starts
 mod Fits
-mod Refusals

@@ -7,7 +7,9 @@ use Rattle.heap_rows.specs.HeapBlocks.{HasBlocks}
 use Rattle.index_contents.specs.IndexContents.{index_page}
 use Rattle.opened_pages.specs.PageOrder.{IsIndexInOrder}
 use Rattle.page_locks.specs.LockHolders.{LockState, holder}
-use Rattle.page_store.specs.PageMap.{PageMap}
+use Rattle.disk_trait.specs.Told.{Told}
+use Rattle.page_store.specs.Keeps.{Keeps, Tells}
+use Rattle.page_store.specs.PageMap.{PageMap, View}
 use Rattle.snapshot_core.specs.declared.statuses.Status.{Status}
 use Rattle.store_layout.specs.DiskLayout.{DiskLayout}
 use Rattle.table_coverage.specs.Table.{TableState}
@@ -18,10 +20,11 @@ use Rattle.line_texts.specs.Place.{Place}
 use Rattle.line_texts.specs.Starts.{IsLaidOut, IsStart}
 use Rattle.store_parts.specs.OpeningLaws.{OpenedIsShown, place_opened}
 use Rattle.store_parts.specs.ShowsPlace.{IsPlaceOf}
-use Rattle.store_parts.specs.StoreStates.{ShownStore}
+use Rattle.store_parts.specs.StoreStates.{ShownStore, shown_of, store_of}
+use Rattle.store_parts.specs.declared.parts.Parts.{Parts}
 use Rattle.fresh_store.specs.FreshPages.{fresh_pages}
 use Rattle.fresh_tables.specs.NewTables.{new_table}
-use Rattle.store_starts.specs.OpenedParts.{IsNewStore}
+use Rattle.store_starts.specs.OpenedParts.{AreOpened, IsNewStore, ShowsStart}
 
 -- a fact of the fresh pages of a layout, and of a store that has them
 pub of_store : (P : DiskLayout → PageMap → Type 0) (layout known : DiskLayout) (pages : PageMap) → known ≡ layout → pages ≡ fresh_pages known → P layout (fresh_pages layout) → P known pages
@@ -68,3 +71,22 @@ module _ (s : ShownStore) (new : IsNewStore s) (database : ShowsDatabase s.layou
 
   pub start_shown : (p : Place) × IsStart s.layout p × IsPlaceOf s p
   start_shown = (its_start, start, shown)
+
+-- parts over the fresh pages, which were opened, are a new store
+pub opened_start : {D : Type 0} (told : D → Told) (old : View D) (parts : Parts D) (known : DiskLayout) → ((s : ShownStore) → s.layout ≡ known → IsNewStore s → (p : Place) × IsStart known p × IsPlaceOf s p) → known ≡ parts.pages.layout → AreOpened told parts → Keeps told old parts.pages
+    → Tells told old → old.pages ≡ fresh_pages old.layout → ShowsStart old.layout (store_of parts [] [])
+opened_start told old parts known law is opened kept tells fresh =
+    let found = opened.over.statuses (kept.leaves.tells ∙ tells) in
+    let new : IsNewStore (shown_of (store_of parts [] [])) = record {
+      pages = kept.pages tells ∙ fresh ∙ ap fresh_pages (sym kept.leaves.layout);
+      opened = opened.opened;
+      stored = found.0;
+      has = found.1;
+      next = found.2;
+      unlocked = opened.unlocked;
+      free = opened.free;
+      entries = opened.entries;
+      names = refl;
+      hands = λ n. refl;
+    } in
+    subst (λ (l : DiskLayout). ShowsStart l (store_of parts [] [])) (is ∙ kept.leaves.layout) (law (shown_of (store_of parts [] [])) (sym is) new)
