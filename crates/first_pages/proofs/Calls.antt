@@ -1,6 +1,6 @@
 -- one call that makes pages fresh, and then another
-use Rattle.std.proofs.Common.{◌≡◌, ◌⊎◌, inl, inr, ⊎_elim, ◌≤◌, ℕ, refl, sym, ◌∙◌, subst, ap, arith}
-use Rattle.std.specs.Prelude.{None, Some, Result, Ok, Err}
+use Rattle.std.proofs.Common.{◌≡◌, ◌⊎◌, inl, ⊎_elim, refl, sym, ◌∙◌, subst, arith}
+use Rattle.std.specs.Prelude.{None}
 use Rattle.std.proofs.lemmas.Option.{none-some}
 use Rattle.block_model.specs.Causes.{rose_earlier}
 use Rattle.block_model.specs.declared.place.Place.{Place}
@@ -10,7 +10,7 @@ use Rattle.page_store.specs.declared.faults.StoreError.{StoreError}
 use Rattle.page_store.specs.declared.faults.StoreError.TheVariants as errors
 use Rattle.page_store.specs.Keeps.{Keeps, Leaves, Tells, Untold}
 use Rattle.page_store.specs.Outcome.{IsReopen, NamesPage, Refused}
-use Rattle.page_store.specs.PageMap.{PageMap, View, page_at}
+use Rattle.page_store.specs.PageMap.{PageMap, View}
 use Rattle.store_layout.specs.DiskLayout.{DiskLayout, IsPlace}
 use Rattle.first_pages.specs.FirstPages.{AreSomeFresh, NamesAPage, StartsFresh}
 use Rattle.first_pages.proofs.Fresh.{some_on}

@@ -1,17 +1,15 @@
 -- pages that become a new store's, one after the other
-use Rattle.std.proofs.Common.{◌≡◌, ◌≢◌, ◌⊎◌, inl, inr, ⊎_elim, ℕ, zero, suc, ◌+◌, ◌<◌, ◌≤◌, List, [], ◌∷◌, length, refl, sym, ◌∙◌, ap, subst, arith}
+use Rattle.std.proofs.Common.{◌≡◌, ◌≢◌, ◌⊎◌, inl, inr, ⊎_elim, ℕ, ◌+◌, ◌<◌, ◌≤◌, List, [], ◌∷◌, length, sym, ◌∙◌, ap, subst, arith}
 use Rattle.std.proofs.lemmas.Bool.{cases_eq, cases_lt}
 use Rattle.block_model.specs.declared.place.Place.{Place}
 use Rattle.index_contents.specs.IndexContents.{relation_of}
 use Rattle.page_layout.specs.PageContents.{IsUnstarted}
-use Rattle.page_redo.specs.Redo.{Redone}
 use Rattle.page_store.specs.Changed.{Changed, redone_once}
 use Rattle.page_store.specs.Forms.{form_of}
 use Rattle.page_store.specs.PageMap.{PageMap, page_at}
 use Rattle.store_format.specs.FreshStore.{fresh_page, unstarted_page}
 use Rattle.store_format.proofs.Places.{fresh_index, fresh_table, index_others}
 use Rattle.store_layout.specs.DiskLayout.{DiskLayout, IsPlace}
-use Rattle.store_layout.specs.RelationCounts.{count_relations}
 use Rattle.wal_record.specs.Changes.{FullPage}
 use Rattle.first_pages.specs.FirstPages.{AreSomeFresh, Freshens, IsFresh}
 

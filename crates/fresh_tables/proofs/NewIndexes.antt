@@ -1,15 +1,15 @@
 -- an index of fresh pages
-use Rattle.std.proofs.Common.{◌≡◌, inl, inr, ℕ, zero, suc, ◌+◌, ◌%◌, ◌<◌, ◌≤◌, Bool, true, false, List, [], length, refl, sym, ◌∙◌, ap, subst, arith, lit<}
-use Rattle.std.specs.Prelude.{◌==◌, drop, nat_le, replicate, slice_index, slice_index_or, Option, None, if◌then◌else◌}
-use Rattle.std.proofs.lemmas.Bool.{cases_eq, cases_lt, lt-leb}
+use Rattle.std.proofs.Common.{◌≡◌, inl, inr, ℕ, zero, suc, ◌%◌, ◌<◌, ◌≤◌, Bool, true, false, List, [], length, refl, sym, ◌∙◌, ap, arith, lit<}
+use Rattle.std.specs.Prelude.{drop, nat_le, replicate, slice_index, slice_index_or, Option, None, if◌then◌else◌}
+use Rattle.std.proofs.lemmas.Bool.{cases_lt, lt-leb}
 use Rattle.std.proofs.lemmas.List.{get_or-replicate, length-replicate}
 use Rattle.block_model.specs.declared.place.Place.{Place}
 use Rattle.block_model.specs.declared.place.Spot.{Spot}
 use Rattle.store_layout.specs.DiskLayout.{DiskLayout, HasBoundedSizes, IsPlace}
 use Rattle.store_layout.specs.RelationCounts.{blocks_of_index, count_relations}
-use Rattle.page_store.specs.PageMap.{IsWhole, PageMap, block_at, block_limit}
+use Rattle.page_store.specs.PageMap.{IsWhole, PageMap, block_at}
 use Rattle.index_layout.specs.declared.format.TheConstants.{MAP, MAP_ENTRIES, META}
-use Rattle.index_layout.specs.IndexPages.{AreEntries, IsMap, IsMeta, Slot, map_bytes, meta_bytes}
+use Rattle.index_layout.specs.IndexPages.{AreEntries, IsMap, IsMeta, meta_bytes}
 use Rattle.index_layout.specs.IndexReading.{entries_of, is_regular, map_pages_of, number_at, slots_in, slots_of}
 use Rattle.coverage.specs.IndexView.{Mapping, map_page_of}
 use Rattle.coverage.specs.PageOrder.{AreNewPages}

@@ -1,5 +1,5 @@
 -- new tables over new indexes
-use Rattle.std.proofs.Common.{◌≡◌, ℕ, zero, suc, ◌<◌, ◌≤◌, Bool, List, [], ◌∷◌, length, refl, sym, ◌∙◌, ap, subst, arith}
+use Rattle.std.proofs.Common.{◌≡◌, ℕ, zero, suc, ◌<◌, Bool, List, [], ◌∷◌, length, refl, sym, ap, arith}
 use Rattle.std.proofs.lemmas.Option.{none-some, same_Some}
 use Rattle.std.specs.Prelude.{Option, None, Some, slice_get, slice_index_or}
 use Rattle.std.specs.Option.{option_map}
@@ -11,7 +11,7 @@ use Rattle.store_layout.specs.FirstBrokenRule.{KeepsLimits}
 use Rattle.page_locks.specs.LockChanges.{page_of}
 use Rattle.page_locks.specs.LockHolders.{LockState, holder}
 use Rattle.page_store.specs.PageMap.{PageMap}
-use Rattle.heap_rows.specs.Heaps.{no_table, slots_a_page}
+use Rattle.heap_rows.specs.Heaps.{no_table}
 use Rattle.coverage.specs.PageOrder.{AreNewPages}
 use Rattle.coverage.specs.Statements.{AreLawful}
 use Rattle.index_contents.specs.IndexContents.{contents, relation_of}
@@ -19,7 +19,7 @@ use Rattle.table_coverage.specs.TableCovered.{IsNewTable}
 use Rattle.index_steps.specs.IndexTuples.{contents_of, index_at, seen, shape_of}
 use Rattle.index_steps.specs.ShownTable.{indexes_of, shown_at}
 use Rattle.index_steps.proofs.Lawful.{its_pages}
-use Rattle.line_texts.specs.Starts.{IsDeclared, IsLaidOut}
+use Rattle.line_texts.specs.Starts.{IsLaidOut}
 use Rattle.fresh_tables.specs.NewTables.{IsNewIndex, new_table}
 
 -- an element at a place below the length

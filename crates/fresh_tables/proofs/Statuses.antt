@@ -1,5 +1,5 @@
 -- the statuses and the tables of fresh pages
-use Rattle.std.proofs.Common.{◌≡◌, inl, inr, ℕ, zero, suc, ◌+◌, ◌*◌, ◌/◌, ◌%◌, ◌<◌, ◌≤◌, List, [], length, refl, sym, ◌∙◌, ap, subst, arith}
+use Rattle.std.proofs.Common.{◌≡◌, inr, ℕ, zero, suc, ◌+◌, ◌/◌, ◌%◌, ◌<◌, List, [], length, refl, sym, ◌∙◌, ap, subst, arith}
 use Rattle.std.specs.Prelude.{replicate, slice_index}
 use Rattle.std.proofs.lemmas.List.{length-replicate}
 use Rattle.block_model.specs.declared.place.Place.{Place}
@@ -11,10 +11,10 @@ use Rattle.snapshot_core.specs.declared.statuses.Status.{Status}
 use Rattle.snapshot_core.specs.declared.statuses.Status.TheVariants.{Unused}
 use Rattle.store_format.specs.FreshStore.{fresh_page, unstarted_page, unused_statuses}
 use Rattle.store_format.proofs.Places.{fresh_status, fresh_table}
-use Rattle.store_layout.specs.DiskLayout.{DiskLayout, HasBoundedSizes, IsPlace}
+use Rattle.store_layout.specs.DiskLayout.{DiskLayout, IsPlace}
 use Rattle.store_layout.specs.RelationCounts.{blocks_of_statuses, blocks_of_table, count_relations}
 use Rattle.tx_table.specs.LeavesRest.{AreStarted}
-use Rattle.tx_table.specs.Statuses.{HasEntry, HasStatuses, number_limit, status_named, status_of}
+use Rattle.tx_table.specs.Statuses.{HasStatuses, number_limit, status_named, status_of}
 use Rattle.tx_table.specs.TxState.{IsNext}
 
 -- zeros name unused statuses

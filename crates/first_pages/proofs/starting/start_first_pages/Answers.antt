@@ -1,10 +1,9 @@
 use Rattle.std.proofs.Common.{◌≡◌, sym, subst, ◌∙◌}
 use Rattle.block_model.specs.declared.place.Place.{Place}
-use Rattle.page_store.specs.PageMap.{IsWhole, PageMap, View, page_at}
+use Rattle.page_store.specs.PageMap.{IsWhole, page_at}
 use Rattle.store_format.specs.FreshStore.{fresh_page}
 use Rattle.store_layout.specs.DiskLayout.{DiskLayout, IsPlace}
 use Rattle.fresh_store.specs.FreshPages.{fresh_pages}
-use Rattle.first_pages.specs.FirstPages.{Freshens}
 use Rattle.first_pages.proofs.Calls.{starts_none, starts_then}
 use Rattle.first_pages.proofs.Fresh.{all_fresh, next_freshens}
 use Rattle.first_pages.proofs.starting.start_first_pages.Goals as goal

@@ -1,7 +1,6 @@
-use Rattle.std.proofs.Common.{◌≡◌, ◌<◌, length, ap, subst, sym, ◌∙◌, arith}
+use Rattle.std.proofs.Common.{◌≡◌, ◌<◌, length, ap, subst, ◌∙◌, arith}
 use Rattle.block_model.specs.declared.place.Place.{Place}
 use Rattle.index_contents.specs.IndexContents.{relation_of}
-use Rattle.page_store.specs.PageMap.{View}
 use Rattle.store_layout.specs.DiskLayout.{DiskLayout}
 use Rattle.store_layout.specs.RelationCounts.{count_relations}
 use Rattle.first_pages.specs.FirstPages.{Freshens}

@@ -1,4 +1,4 @@
-use Rattle.std.proofs.Common.{◌≡◌, List, ℕ, ap, subst, sym, ◌∙◌}
+use Rattle.std.proofs.Common.{◌≡◌, List, ℕ, ap, ◌∙◌}
 use Rattle.store_layout.specs.DiskLayout.{DiskLayout}
 use Rattle.store_format.specs.FreshStore.{fresh_page}
 use Rattle.first_pages.proofs.Calls.{kept_some, starts_page}

@@ -1,7 +1,6 @@
-use Rattle.std.proofs.Common.{◌≡◌, ◌<◌, length, refl, ap, subst, sym, ◌∙◌, arith}
+use Rattle.std.proofs.Common.{◌≡◌, refl, ap, subst, sym, ◌∙◌, arith}
 use Rattle.block_model.specs.declared.place.Place.{Place}
 use Rattle.block_model.specs.declared.schema.Sizes.{Sizes}
-use Rattle.page_store.specs.PageMap.{View}
 use Rattle.store_layout.specs.DiskLayout.{DiskLayout, IsPlace}
 use Rattle.store_layout.specs.RelationCounts.{blocks_of_statuses, count_relations}
 use Rattle.first_pages.specs.FirstPages.{Freshens}
