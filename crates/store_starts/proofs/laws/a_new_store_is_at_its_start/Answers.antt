@@ -27,9 +27,9 @@ returns c = λ s same new.
     let counts : ℕ → Bool = counts_of s.transactions database.stored in
     let blocks = of_store (λ (l : DiskLayout) (p : PageMap). (table : ℕ) → table < length l.schema.tables → HasBlocks l p table []) layout s.layout s.pages same new.pages law.blocks in
     let tables = of_store (λ (l : DiskLayout) (p : PageMap). (table : ℕ) → table < length l.schema.tables → IsNewTable (new_table l p s.locks table counts)) layout s.layout s.pages same new.pages
-        (λ table below. shows.tables s.locks table counts new.unlocked) in
+    (λ table below. shows.tables s.locks table counts new.unlocked) in
     let laid_out = of_store (λ (l : DiskLayout) (p : PageMap). (table : ℕ) → table < length l.schema.tables → IsLaidOut l table (new_table l p s.locks table counts)) layout s.layout s.pages same new.pages
-        (λ table below. shows.laid_out s.locks table counts) in
+    (λ table below. shows.laid_out s.locks table counts) in
     let order = of_store (λ (l : DiskLayout) (p : PageMap). (index : ℕ) → index < length l.schema.indexes → IsIndexInOrder l.sizes.index_blocks (index_page l p index)) layout s.layout s.pages same new.pages shows.order in
     subst (λ (l : DiskLayout). (p : Place) × IsStart l p × IsPlaceOf s p) same
     (start_shown s new database blocks tables laid_out order c.table_stays_covered.ensures.new c.an_opened_store_is_shown.ensures)

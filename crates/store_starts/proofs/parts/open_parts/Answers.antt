@@ -13,4 +13,7 @@ returns-in-Ok-start-clause-opened g c =
 
 pub returns-in-Ok-start-clause-starts : goal.returns-in-Ok-start-clause-starts
 returns-in-Ok-start-clause-starts g c = λ tells fresh.
-    opened_start g.D.Disk.told c.args.pages _ c.layout-2.result.now c.a_new_store_is_at_its_start.ensures c.layout-2.ensures (returns-in-Ok-start-clause-opened g c) c.start.ensures.kept tells fresh
+    opened_start g.D.Disk.told c.args.pages _ c.layout-in-Ok-start.result.now c.a_new_store_is_at_its_start.ensures c.layout-in-Ok-start.ensures (returns-in-Ok-start-clause-opened g c) c.start.ensures.kept tells fresh
+
+pub returns-in-Ok-start-clause-fits : goal.returns-in-Ok-start-clause-fits
+returns-in-Ok-start-clause-fits g c = λ n below. c.opened_parts_fit.ensures _ n (returns-in-Ok-start-clause-opened g c) below
