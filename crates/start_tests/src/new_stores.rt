@@ -37,7 +37,7 @@ const NEW: Beginning = Beginning {
     requests: 0,
 };
 
-fn beginning(parts: &Parts<SteadyDisk>) -> Option<Beginning> {
+fn begun_as(parts: &Parts<SteadyDisk>) -> Option<Beginning> {
     if count_relations(parts.pages.layout()) != 3 {
         return None;
     }
@@ -57,7 +57,7 @@ fn in_memory(alloc: Global) -> Option<Beginning> {
     let layout = indexed_layout(alloc, 1, FEW)?;
     let disk = SteadyDisk::new(alloc, 0).ok()?;
     let parts = plain_parts(alloc, disk, layout).ok()?;
-    beginning(&parts)
+    begun_as(&parts)
 }
 
 fn on_disk(alloc: Global) -> Option<Beginning> {
@@ -66,7 +66,7 @@ fn on_disk(alloc: Global) -> Option<Beginning> {
     format(&mut disk, &layout).ok()?;
     let pages = PageStore::start(alloc, disk).ok()?;
     let parts = open_parts(alloc, pages).ok()?;
-    beginning(&parts)
+    begun_as(&parts)
 }
 
 #[test]
