@@ -1,0 +1,124 @@
+-- what a line says, done by a store, has its text
+use Rattle.std.proofs.Common.{◌≡◌, ◌≢◌, ℕ, Bool, true, false, List, [], ◌++◌, refl, sym, ap, ◌∙◌, subst}
+use Rattle.std.specs.Prelude.{OnOk, IfErr, IsErrOf, Result, Ok, Err}
+use Rattle.block_model.specs.declared.reply.Refusal.TheVariants as refusals
+use Rattle.block_model.specs.declared.reply.Reply.TheVariants as replies
+use Rattle.query_words.specs.declared.line.Order.{Order}
+use Rattle.query_words.specs.declared.line.Order.TheVariants as orders
+use Rattle.query_words.specs.declared.line.Line.{Line}
+use Rattle.query_words.specs.declared.line.Line.TheVariants as lines
+use Rattle.query_words.specs.declared.line.LineFault.{LineFault}
+use Rattle.query_words.specs.declared.line.LineFault.TheVariants as line_faults
+use Rattle.query_words.specs.LineFits.{IsOrderFor}
+use Rattle.query_words.specs.Lines.{ReadsAs, line_of}
+use Rattle.reply_texts.specs.Texts.{reply_text}
+use Rattle.script_run.specs.declared.engine.AnswerFault.{AnswerFault}
+use Rattle.script_run.specs.declared.engine.AnswerFault.TheVariants.{Memory, Full}
+use Rattle.block_model.specs.declared.schema.Schema.{Schema}
+use Rattle.statements.specs.declared.limits.TheConstants.{MAX_SESSIONS}
+use Rattle.statements.specs.SessionNumbers.{session_number, is_past_sessions}
+use Rattle.line_texts.specs.LineTexts.{Answers, Does, IsLineText, IsNotRead, Orders, PastSessions, fault_text, named}
+use Rattle.line_texts.specs.Place.{Place}
+use Rattle.line_texts.specs.StatementSteps.{LacksRoom}
+use Rattle.line_texts.specs.Stops.{Amidst, Begun, ComesTo, IsLineStopped, LineComesTo, PastRoom, Undone, Unprinted}
+use Rattle.store_parts.specs.StoreStates.{StoreState}
+use Rattle.brin_steps.specs.declared.orders.Answer.{Answer}
+use Rattle.brin_steps.specs.Leading.{PlacesLead}
+use Rattle.brin_steps.specs.Orders.{BringsStatement, DoesSo, IsCutShort, IsStoppedSaying, answer_text}
+use Rattle.brin_steps.proofs.Leading.{led_as, led_still}
+
+-- an order that the engine answers brings a statement that a store takes
+pub brings_statement : (schema : Schema) (order : Order) → IsOrderFor schema order → BringsStatement schema order
+brings_statement schema (orders.Whole statement) fits = fits
+brings_statement schema (orders.Start statement) fits = absurd fits
+brings_statement schema orders.Step fits = tt
+brings_statement schema orders.Finish fits = tt
+
+-- ---- an order of a session, which the line makes
+
+module _ (name : List ℕ) (order : Order) (n : ℕ) (names : List (List ℕ)) (within : is_past_sessions names name ≡ false) (number : n ≡ session_number names name) (p m : Place) (same : p.names ≡ names) (made : m ≡ named p name) where
+  not_past : is_past_sessions p.names name ≡ false
+  not_past = ap (λ l. is_past_sessions l name) same ∙ within
+
+  its_number : n ≡ session_number p.names name
+  its_number = number ∙ ap (λ l. session_number l name) (sym same)
+
+  pub said_order : (answer : Answer) (q : Place) → DoesSo n order answer m q → Answers p (Ok (lines.Say name order)) (answer_text name answer) q
+  said_order answer q does =
+      Orders name order (answer_text name answer) q not_past
+      (subst (λ (x : Place). Does x (session_number p.names name) name order (answer_text name answer) q) made
+      (subst (λ (k : ℕ). Does m k name order (answer_text name answer) q) its_number (does name)))
+
+  line_comes : (q : Place) → ComesTo m n order q → LineComesTo p (Ok (lines.Say name order)) (session_number p.names name) q
+  line_comes q comes =
+      Begun name order q not_past
+      (subst (λ (x : Place). ComesTo x (session_number p.names name) order q) made (subst (λ (k : ℕ). ComesTo m k order q) its_number comes))
+
+  pub cut_order : (fault : AnswerFault) (q : Place) → IsCutShort n order fault m q → IsStoppedSaying (lines.Say name order) fault p q
+  cut_order Memory q cut schema line is =
+      Amidst (session_number p.names name) q (subst (λ r. LineComesTo p r (session_number p.names name) q) (sym is) (line_comes q cut.1))
+  cut_order Full q cut schema line is =
+      PastRoom (session_number p.names name) q (subst (λ r. LineComesTo p r (session_number p.names name) q) (sym is) (line_comes q cut.1))
+      (subst (λ (k : ℕ). LacksRoom q k) its_number cut.0)
+
+-- one session more than there may be
+pub said_past : (name : List ℕ) (order : Order) (names : List (List ℕ)) (limit : ℕ) (p : Place) → is_past_sessions names name ≡ true → limit ≡ MAX_SESSIONS → p.names ≡ names
+    → Answers p (Ok (lines.Say name order)) (reply_text name (replies.Refused (refusals.Limit limit))) p
+said_past name order names limit p past at same =
+    subst (λ (l : ℕ). Answers p (Ok (lines.Say name order)) (reply_text name (replies.Refused (refusals.Limit l))) p) (sym at)
+    (PastSessions name order (ap (λ l. is_past_sessions l name) same ∙ past))
+
+-- ---- lines that aren't answered
+
+pub undone : (said : Line) (fault : AnswerFault) (p : Place) → fault ≡ Memory → IsStoppedSaying said fault p p
+undone said fault p is schema line read = subst (λ f. IsLineStopped schema p line f p) (sym is) Undone
+
+-- all is done, and its text lost
+pub unprinted : (said : Line) (text : List ℕ) (fault : AnswerFault) (p q : Place) → fault ≡ Memory → Answers p (Ok said) text q → IsStoppedSaying said fault p q
+unprinted said text fault p q is answers schema line read =
+    subst (λ f. IsLineStopped schema p line f q) (sym is) (Unprinted text q (subst (λ r. Answers p r text q) (sym read) answers))
+
+-- ---- what is read of a line
+
+pub done_line : {D E : Type 0} (s s' : StoreState D) (line before after : List ℕ) (said : Line) (result : Result (Unit {0}) E) → line_of s.pages.layout.schema line ≡ Ok said
+    → OnOk result ((text : List ℕ) × (after ≡ before ++ text) × PlacesLead s s' (λ p q. Answers p (Ok said) text q))
+    → OnOk result ((text : List ℕ) × (after ≡ before ++ text) × PlacesLead s s' (λ p q. IsLineText s.pages.layout.schema p line text q))
+done_line s s' line before after said (Ok u) is h = (
+  h.0,
+  h.1,
+  led_as s s' (λ p q. Answers p (Ok said) h.0 q) (λ p q. IsLineText s.pages.layout.schema p line h.0 q) h.2 (λ p q _ _ done. subst (λ r. Answers p r h.0 q) (sym is) done),
+)
+done_line s s' line before after said (Err e) is h = tt
+
+pub stopped_line : {D : Type 0} (s s' : StoreState D) (line : List ℕ) (said : Line) (result : Result (Unit {0}) AnswerFault) → line_of s.pages.layout.schema line ≡ Ok said
+    → IfErr result (λ fault. PlacesLead s s' (IsStoppedSaying said fault)) → IfErr result (λ fault. PlacesLead s s' (λ p q. IsLineStopped s.pages.layout.schema p line fault q))
+stopped_line s s' line said (Ok u) is h = tt
+stopped_line s s' line said (Err fault) is h =
+    led_as s s' (IsStoppedSaying said fault) (λ p q. IsLineStopped s.pages.layout.schema p line fault q) h (λ p q _ _ stops. stops s.pages.layout.schema line is)
+
+-- a line that isn't read changes nothing
+pub stopped_unread : {D : Type 0} (s : StoreState D) (line : List ℕ) (result : Result (Unit {0}) AnswerFault) → ¬ (IsErrOf result Full)
+    → IfErr result (λ fault. PlacesLead s s (λ p q. IsLineStopped s.pages.layout.schema p line fault q))
+stopped_unread s line (Ok u) not = tt
+stopped_unread s line (Err Memory) not = led_still s s (λ p q. IsLineStopped s.pages.layout.schema p line Memory q) refl (λ p _. Undone)
+stopped_unread s line (Err Full) not = absurd (not refl)
+
+-- a fault that isn't want of memory is the line's
+fault_said : (said : Result Line LineFault) (fault : LineFault) → fault ≢ line_faults.Memory → ReadsAs {T = Line} (Err fault) said → said ≡ Err fault
+fault_said said (line_faults.Syntax at) not r = r
+fault_said said (line_faults.NoTable at) not r = r
+fault_said said (line_faults.NoIndex at) not r = r
+fault_said said (line_faults.NoColumn at) not r = r
+fault_said said (line_faults.Kind at) not r = r
+fault_said said line_faults.Memory not r = absurd (not refl)
+
+pub refused : {D E : Type 0} (s : StoreState D) (line before after : List ℕ) (fault : LineFault) (result : Result (Unit {0}) E) → ReadsAs {T = Line} (Err fault) (line_of s.pages.layout.schema line)
+    → OnOk result (fault ≢ line_faults.Memory) → OnOk result (after ≡ before ++ fault_text fault)
+    → OnOk result ((text : List ℕ) × (after ≡ before ++ text) × PlacesLead s s (λ p q. IsLineText s.pages.layout.schema p line text q))
+refused s line before after fault (Ok u) r not e = (
+  fault_text fault,
+  e,
+  led_still s s (λ p q. IsLineText s.pages.layout.schema p line (fault_text fault) q) refl
+      (λ p _. subst (λ said. Answers p said (fault_text fault) p) (sym (fault_said (line_of s.pages.layout.schema line) fault not r)) (IsNotRead fault)),
+)
+refused s line before after fault (Err e) r not h = tt
