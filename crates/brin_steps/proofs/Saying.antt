@@ -11,13 +11,14 @@ use Rattle.query_words.specs.declared.line.LineFault.{LineFault}
 use Rattle.query_words.specs.declared.line.LineFault.TheVariants as line_faults
 use Rattle.query_words.specs.LineFits.{IsOrderFor}
 use Rattle.query_words.specs.Lines.{ReadsAs, line_of}
+use Rattle.reply_texts.specs.declared.dropped.Dropped.{Dropped}
 use Rattle.reply_texts.specs.Texts.{reply_text}
 use Rattle.script_run.specs.declared.engine.AnswerFault.{AnswerFault}
 use Rattle.script_run.specs.declared.engine.AnswerFault.TheVariants.{Memory, Full}
 use Rattle.block_model.specs.declared.schema.Schema.{Schema}
 use Rattle.statements.specs.declared.limits.TheConstants.{MAX_SESSIONS}
 use Rattle.statements.specs.SessionNumbers.{session_number, is_past_sessions}
-use Rattle.line_texts.specs.LineTexts.{Answers, Does, IsLineText, IsNotRead, Orders, PastSessions, fault_text, named}
+use Rattle.line_texts.specs.LineTexts.{Answers, Does, IsLineText, IsNotRead, Orders, PastSessions, dropped_at, fault_text, named}
 use Rattle.line_texts.specs.Place.{Place}
 use Rattle.line_texts.specs.StatementSteps.{LacksRoom}
 use Rattle.line_texts.specs.Stops.{Amidst, Begun, ComesTo, IsLineStopped, LineComesTo, PastRoom, Undone, Unprinted}
@@ -43,11 +44,12 @@ module _ (name : List ℕ) (order : Order) (n : ℕ) (names : List (List ℕ)) (
   its_number : n ≡ session_number p.names name
   its_number = number ∙ ap (λ l. session_number l name) (sym same)
 
-  pub said_order : (answer : Answer) (q : Place) → DoesSo n order answer m q → Answers p (Ok (lines.Say name order)) (answer_text name answer) q
-  said_order answer q does =
-      Orders name order (answer_text name answer) q not_past
-      (subst (λ (x : Place). Does x (session_number p.names name) name order (answer_text name answer) q) made
-      (subst (λ (k : ℕ). Does m k name order (answer_text name answer) q) its_number (does name)))
+  pub said_order : (answer : Answer) (dropped : List Dropped) (q : Place) → dropped ≡ dropped_at q n → DoesSo n order answer m q → Answers p (Ok (lines.Say name order)) (answer_text name dropped answer) q
+  said_order answer dropped q told does =
+      Orders name order (answer_text name dropped answer) q not_past
+      (subst (λ (x : Place). Does x (session_number p.names name) name order (answer_text name dropped answer) q) made
+      (subst (λ (k : ℕ). Does m k name order (answer_text name dropped answer) q) its_number
+      (subst (λ (l : List Dropped). Does m n name order (answer_text name l answer) q) (sym told) (does name))))
 
   line_comes : (q : Place) → ComesTo m n order q → LineComesTo p (Ok (lines.Say name order)) (session_number p.names name) q
   line_comes q comes =

@@ -1,19 +1,16 @@
 -- steps of a store as those of the definition of texts
-use Rattle.std.proofs.Common.{◌≡◌, ◌≢◌, ℕ, List, [], ◌++◌, Option, None, Some, false, Ok, Err, refl, sym, ap, ◌∙◌, subst}
-use Rattle.std.specs.Prelude.{IsSome}
+use Rattle.std.proofs.Common.{◌≡◌, ◌≢◌, ℕ, List, [], Option, None, Some, false, Ok, Err, refl, sym, ap, subst}
 use Rattle.std.specs.Option.{is_some}
 use Rattle.std.proofs.lemmas.Bool.{false≢true}
 use Rattle.block_model.specs.declared.reply.Point.{Point}
 use Rattle.block_model.specs.declared.reply.Refusal.{Refusal}
 use Rattle.block_model.specs.declared.reply.Refusal.TheVariants as refusals
-use Rattle.block_model.specs.declared.reply.Reply.TheVariants as replies
 use Rattle.statements.specs.declared.statement.Statement.{Statement}
 use Rattle.query_words.specs.declared.line.Order.TheVariants as orders
 use Rattle.script_run.specs.declared.engine.AnswerFault.{AnswerFault}
 use Rattle.script_run.specs.declared.engine.AnswerFault.TheVariants.{Full}
-use Rattle.table_coverage.specs.Accounts.{Account, Asked}
-use Rattle.line_texts.specs.LineTexts.{Does, Finishes, LastStep, Further, Starts, RefusesStart, StepsOnce, IsFinished, NoStep, NoFinish, Plain, RefusesPlain, Submits, dropped_at, outcome_text}
-use Rattle.line_texts.specs.Names.{dropped_of, name_of}
+use Rattle.table_coverage.specs.Accounts.{Account}
+use Rattle.line_texts.specs.LineTexts.{Finishes, LastStep, Further, Starts, RefusesStart, StepsOnce, IsFinished, NoStep, NoFinish, Plain, RefusesPlain, Submits}
 use Rattle.line_texts.specs.Place.{Hand as HandAt, Place}
 use Rattle.line_texts.specs.StatementSteps.{Outcome, Moved, Ended, Waits, Steps, LacksRoom}
 use Rattle.line_texts.specs.Stops.{ComesTo, OfStep, OfFinish, OfPlain, MovedTo, Still, OnTo}
@@ -24,30 +21,20 @@ use Rattle.store_parts.specs.declared.hand.Hand.{Hand}
 use Rattle.store_parts.specs.Hands.{HandShows}
 use Rattle.store_parts.specs.ShowsPlace.{ShowsPlace}
 use Rattle.store_parts.specs.StepIs.{StepIs}
-use Rattle.store_parts.specs.StoreStates.{StoreState, hand_at, hand_in}
-use Rattle.store_parts.specs.SubmitLaws.{NothingIsDropped}
+use Rattle.store_parts.specs.StoreStates.{StoreState, hand_at}
 use Rattle.session_steps.specs.Sessions.{IsInHandThen}
 use Rattle.brin_steps.specs.declared.orders.Answer.{Answer}
 use Rattle.brin_steps.specs.declared.orders.Answer.TheVariants as answers
-use Rattle.brin_steps.specs.Orders.{DoesSo, FinishesSo, IsCutShort, IsHalted, IsInHandStill, IsNotMade, StepsSo, WantsRoom, answer_of, answer_text, step_answer}
+use Rattle.brin_steps.specs.Orders.{DoesSo, FinishesSo, IsCutShort, IsHalted, IsInHandStill, IsNotMade, StepsSo, step_answer}
 
 -- ---- one step
 
--- no statement of a store has asked for a summary in vain
-pub nothing_dropped : {D : Type 0} → NothingIsDropped → (s : StoreState D) (n : ℕ) (q : Place) → ShowsPlace s q → dropped_at q n ≡ []
-nothing_dropped law s n q shown = ap (λ (l : List Asked). dropped_of q.layout l) (law (hand_in s.hands n) (q.hands n) (q.accounts n) (shown.hands n))
+pub step_told : (n : ℕ) (names : List (List ℕ)) (step : Step) (p q : Place) → p.names ≡ names → StepIs p n (Ok step) q → StepsSo n (step_answer names step) p q
+step_told n names (steps.Moved point) p q same is = is
+step_told n names (steps.Done reply) p q same is = is
+step_told n names (steps.Blocked what by) p q same is = subst (λ (l : List (List ℕ)). StepsSo n (step_answer l (steps.Blocked what by)) p q) same is
 
-pub step_told : (n : ℕ) (names : List (List ℕ)) (step : Step) (p q : Place) → p.names ≡ names → dropped_at q n ≡ [] → StepIs p n (Ok step) q → StepsSo n (step_answer names step) p q
-step_told n names (steps.Moved point) p q same none is = record { outcome = Moved point; told = refl; steps = is; none_dropped = none }
-step_told n names (steps.Done reply) p q same none is = record { outcome = Ended reply; told = refl; steps = is; none_dropped = none }
-step_told n names (steps.Blocked what by) p q same none is = record {
-  outcome = Waits (refusals.Blocked what (name_of p by));
-  told = sym (ap (λ (l : List (List ℕ)). step_answer l (steps.Blocked what by)) same);
-  steps = is;
-  none_dropped = none;
-}
-
-pub not_made : (n entries : ℕ) (p q : Place) → StepIs p n (Err (stops.Spent entries)) q → IsNotMade n Full p q
+pub not_made : (n entries : ℕ) (p q : Place) → StepIs p n (Err (stops.Spent entries)) q → IsNotMade n p q
 not_made n entries p q is = (subst (λ (r : Place). LacksRoom r n) (sym is.2) is.0, is.2)
 
 pub still_in_hand : (names : List (List ℕ)) (step : Step) (hand : Option Hand) → IsInHandThen (Ok step) hand → IsInHandStill (step_answer names step) hand
@@ -56,12 +43,6 @@ still_in_hand names (steps.Done reply) hand there = tt
 still_in_hand names (steps.Blocked what by) hand there = tt
 
 -- ---- all steps
-
--- a step that is answered as one that goes on is one
-moved_outcome : (outcome : Outcome) (point : Point) → answers.Moved point ≡ answer_of outcome → outcome ≡ Moved point
-moved_outcome (Moved other) point is = let same : point ≡ other = cc in ap Moved (sym same)
-moved_outcome (Ended reply) point is = absurd (cc)
-moved_outcome (Waits refusal) point is = absurd (cc)
 
 one_more : (n : ℕ) (p q r : Place) (point : Point) → MovedTo n p q → Steps q n (Moved point) r → MovedTo n p r
 one_more n _ _ r point (Still p) step = OnTo p r r point step (Still r)
@@ -72,49 +53,47 @@ finishes_behind n _ _ r outcome (Still p) finishes = finishes
 finishes_behind n _ _ r outcome (OnTo p m q first before more) finishes = Further p m r first outcome before (finishes_behind n m q r outcome more finishes)
 
 pub moved_on : (n : ℕ) (point : Point) (p q r : Place) → MovedTo n p q → StepsSo n (answers.Moved point) q r → MovedTo n p r
-moved_on n point p q r before step = one_more n p q r point before (subst (λ (o : Outcome). Steps q n o r) (moved_outcome step.outcome point step.told) step.steps)
+moved_on n point p q r before step = one_more n p q r point before step
+
+ended : (n : ℕ) (outcome : Outcome) (p q r : Place) → ((point : Point) → outcome ≢ Moved point) → MovedTo n p q → Steps q n outcome r → Finishes n p outcome r
+ended n outcome p q r last before step = finishes_behind n p q r outcome before (LastStep q r outcome last step)
 
 pub finished_by : (n : ℕ) (answer : Answer) (p q r : Place) → ((point : Point) → answer ≢ answers.Moved point) → MovedTo n p q → StepsSo n answer q r → FinishesSo n answer p r
-finished_by n answer p q r last before step = record {
-  outcome = step.outcome;
-  told = step.told;
-  finishes = finishes_behind n p q r step.outcome before (LastStep q r step.outcome (λ point is. last point (step.told ∙ ap answer_of is)) step.steps);
-  none_dropped = step.none_dropped;
-}
+finished_by n answers.Started p q r last before step = step
+finished_by n (answers.Moved point) p q r last before step = absurd (last point refl)
+finished_by n (answers.Ended reply) p q r last before step = ended n (Ended reply) p q r (λ point is. cc) before step
+finished_by n (answers.Refused refusal) p q r last before step = ended n (Waits refusal) p q r (λ point is. cc) before step
 
-pub halted : (n : ℕ) (fault : AnswerFault) (p q r : Place) → MovedTo n p q → IsNotMade n fault q r → IsHalted n fault p r
-halted n fault p q r before stops = (stops.0, subst (λ (x : Place). MovedTo n p x) (sym stops.1) before)
+pub halted : (n : ℕ) (fault : AnswerFault) (p q r : Place) → fault ≡ Full → MovedTo n p q → IsNotMade n q r → IsHalted n fault p r
+halted n fault p q r full before stops = subst (λ f. IsHalted n f p r) (sym full) (stops.0, subst (λ (x : Place). MovedTo n p x) (sym stops.1) before)
 
 -- ---- orders
 
--- the text of what comes of a step, where no summary was asked for in vain
-text_told : (name : List ℕ) (outcome : Outcome) → outcome_text name [] outcome ≡ answer_text name (answer_of outcome)
-text_told name (Moved point) = refl
-text_told name (Ended reply) = refl
-text_told name (Waits refusal) = refl
-
-text_is : (name : List ℕ) (n : ℕ) (outcome : Outcome) (answer : Answer) (q : Place) → dropped_at q n ≡ [] → answer ≡ answer_of outcome → outcome_text name (dropped_at q n) outcome ≡ answer_text name answer
-text_is name n outcome answer q none told = ap (λ dropped. outcome_text name dropped outcome) none ∙ text_told name outcome ∙ ap (answer_text name) (sym told)
-
 pub stepped : (n : ℕ) (answer : Answer) (p q : Place) → StepsSo n answer p q → DoesSo n orders.Step answer p q
-stepped n answer p q step name =
-    subst (λ text. Does p n name orders.Step text q) (text_is name n step.outcome answer q step.none_dropped step.told) (StepsOnce step.outcome q step.steps)
+stepped n answers.Started p q step name = absurd step
+stepped n (answers.Moved point) p q step name = StepsOnce (Moved point) q step
+stepped n (answers.Ended reply) p q step name = StepsOnce (Ended reply) q step
+stepped n (answers.Refused refusal) p q step name = StepsOnce (Waits refusal) q step
 
 pub finished : (n : ℕ) (answer : Answer) (p q : Place) → FinishesSo n answer p q → DoesSo n orders.Finish answer p q
-finished n answer p q finish name =
-    subst (λ text. Does p n name orders.Finish text q) (text_is name n finish.outcome answer q finish.none_dropped finish.told) (IsFinished finish.outcome q finish.finishes)
+finished n answers.Started p q finish name = absurd finish
+finished n (answers.Moved point) p q finish name = absurd finish
+finished n (answers.Ended reply) p q finish name = IsFinished (Ended reply) q finish
+finished n (answers.Refused refusal) p q finish name = IsFinished (Waits refusal) q finish
 
 pub plain : (n : ℕ) (statement : Statement) (answer : Answer) (p q r : Place) → Submits p n statement None q → FinishesSo n answer q r → DoesSo n (orders.Whole statement) answer p r
-plain n statement answer p q r taken finish name =
-    subst (λ text. Does p n name (orders.Whole statement) text r) (text_is name n finish.outcome answer r finish.none_dropped finish.told) (Plain statement finish.outcome q r taken finish.finishes)
+plain n statement answers.Started p q r taken finish name = absurd finish
+plain n statement (answers.Moved point) p q r taken finish name = absurd finish
+plain n statement (answers.Ended reply) p q r taken finish name = Plain statement (Ended reply) q r taken finish
+plain n statement (answers.Refused refusal) p q r taken finish name = Plain statement (Waits refusal) q r taken finish
 
-pub plain_refused : (n : ℕ) (statement : Statement) (refusal : Refusal) (p q : Place) → Submits p n statement (Some refusal) q → DoesSo n (orders.Whole statement) (answers.Told (replies.Refused refusal)) p q
+pub plain_refused : (n : ℕ) (statement : Statement) (refusal : Refusal) (p q : Place) → Submits p n statement (Some refusal) q → DoesSo n (orders.Whole statement) (answers.Refused refusal) p q
 plain_refused n statement refusal p q refused name = RefusesPlain statement refusal q refused
 
 pub started : (n : ℕ) (statement : Statement) (p q : Place) → Submits p n statement None q → DoesSo n (orders.Start statement) answers.Started p q
 started n statement p q taken name = Starts statement q taken
 
-pub start_refused : (n : ℕ) (statement : Statement) (refusal : Refusal) (p q : Place) → Submits p n statement (Some refusal) q → DoesSo n (orders.Start statement) (answers.Told (replies.Refused refusal)) p q
+pub start_refused : (n : ℕ) (statement : Statement) (refusal : Refusal) (p q : Place) → Submits p n statement (Some refusal) q → DoesSo n (orders.Start statement) (answers.Refused refusal) p q
 start_refused n statement refusal p q refused name = RefusesStart statement refusal q refused
 
 -- a session that has nothing in hand has nothing in hand at the place either
@@ -125,14 +104,14 @@ empty_there (Some hand) shown account not shows = absurd (false≢true (sym not)
 pub nothing_in_hand : {D : Type 0} (s : StoreState D) (n : ℕ) (p : Place) → is_some (hand_at s n) ≡ false → ShowsPlace s p → p.hands n ≡ None
 nothing_in_hand s n p not shown = empty_there (hand_at s n) (p.hands n) (p.accounts n) not (shown.hands n)
 
-pub no_step : (n : ℕ) (p : Place) → p.hands n ≡ None → DoesSo n orders.Step (answers.Told (replies.Refused refusals.NothingStarted)) p p
+pub no_step : (n : ℕ) (p : Place) → p.hands n ≡ None → DoesSo n orders.Step (answers.Refused refusals.NothingStarted) p p
 no_step n p none name = NoStep none
 
-pub no_finish : (n : ℕ) (p : Place) → p.hands n ≡ None → DoesSo n orders.Finish (answers.Told (replies.Refused refusals.NothingStarted)) p p
+pub no_finish : (n : ℕ) (p : Place) → p.hands n ≡ None → DoesSo n orders.Finish (answers.Refused refusals.NothingStarted) p p
 no_finish n p none name = NoFinish none
 
-pub step_cut : (n : ℕ) (fault : AnswerFault) (p q : Place) → IsNotMade n fault p q → IsCutShort n orders.Step fault p q
-step_cut n fault p q stops = (stops.0, subst (λ (r : Place). ComesTo p n orders.Step r) (sym stops.1) (OfStep))
+pub step_cut : (n : ℕ) (fault : AnswerFault) (p q : Place) → fault ≡ Full → IsNotMade n p q → IsCutShort n orders.Step fault p q
+step_cut n fault p q full stops = subst (λ f. IsCutShort n orders.Step f p q) (sym full) (stops.0, subst (λ (r : Place). ComesTo p n orders.Step r) (sym stops.1) OfStep)
 
 pub finish_cut : (n : ℕ) (fault : AnswerFault) (p q : Place) → IsHalted n fault p q → IsCutShort n orders.Finish fault p q
 finish_cut n fault p q stops = (stops.0, OfFinish q stops.1)

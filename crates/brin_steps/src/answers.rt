@@ -12,7 +12,9 @@ use crate::sessions::Sessions;
 use block_model::{Name, NoMemory, Refusal, Reply};
 use disk_trait::SteadyDisk;
 use query_words::{Line, LineFault, Order, read_line};
-use reply_texts::{render, render_moved, render_refusal, render_started};
+use reply_texts::{
+    Dropped, render, render_dropped, render_moved, render_refusal, render_started,
+};
 use script_run::AnswerFault;
 use session_steps::{SessionFault, Store};
 
@@ -81,17 +83,26 @@ fn say(
         Err(SessionFault::Memory) => return Err(AnswerFault::Memory),
     };
     let answer = act(store, number, order)?;
-    tell(session, &answer, out)?;
+    tell(session, &answer, store.dropped(number), out)?;
     Ok(())
 }
 
-/// Appends the text of an answer to the session of that name.
-fn tell(session: &Name, answer: &Answer, out: &mut Vec<u8>) -> Result<(), NoMemory>
-    ensures { OnOk result (out.new.items ≡ out.old.items ++ answer_text session.now answer.now) }
+/// Appends the text of an answer to the session of that name, whose statement has asked in vain for these summaries.
+fn tell(
+    session: &Name,
+    answer: &Answer,
+    dropped: &[Dropped],
+    out: &mut Vec<u8>,
+) -> Result<(), NoMemory>
+    ensures { OnOk result (out.new.items ≡ out.old.items ++ answer_text session.now dropped.now answer.now) }
 {
     match answer {
         Answer::Started => render_started(session, out),
         Answer::Moved(point) => render_moved(session, *point, out),
-        Answer::Told(reply) => render(session, reply, out),
+        Answer::Ended(reply) => {
+            render_dropped(dropped, out)?;
+            render(session, reply, out)
+        }
+        Answer::Refused(refusal) => render(session, &Reply::Refused(*refusal), out),
     }
 }

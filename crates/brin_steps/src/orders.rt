@@ -1,6 +1,6 @@
 //! What an order of a session does.
 
-ghost use Rattle.std.specs.Prelude.{◌≡◌, ◌<◌, None, IfOk, IfErr, IsSome, length};
+ghost use Rattle.std.specs.Prelude.{◌≡◌, ◌<◌, None, IfOk, IfErr, OnErr, IsSome, length};
 ghost use Rattle.store_parts.specs.StoreStates.{hand_at};
 ghost use Rattle.session_steps.specs.Sessions.{NamesASession};
 ghost use Rattle.statements.specs.StatementFits.{IsStatementFor};
@@ -13,14 +13,15 @@ use query_words::Order;
 use script_run::AnswerFault;
 use session_steps::{Step, Store, StoreFault};
 use statements::Statement;
-use store_parts::a_submitted_statement_is_shown;
 
-/// What an order of a session is answered: its statement is started; it goes on behind a step of this name; or it is told this.
+/// What an order of a session is answered: its statement is started; goes on behind a step of this name; ends with this reply; or this is why
+/// it isn't taken, or isn't stepped.
 #[derive(Debug, Drop)]
 pub enum Answer {
     Started,
     Moved(Point),
-    Told(Reply),
+    Ended(Reply),
+    Refused(Refusal),
 }
 
 /// Does what an order of the session says.
@@ -33,6 +34,7 @@ pub fn act(
     requires order { BringsStatement store.old.pages.layout.schema order }
     requires ready { store.old.pages.failed ≡ None }
     ensures ready { store.new.pages.failed ≡ None }
+    ensures names { store.new.names ≡ store.old.names }
     ensures ok { IfOk result (λ answer. PlacesLead store.old store.new (DoesSo session order answer)) }
     ensures stops { IfErr result (λ fault. PlacesLead store.old store.new (IsCutShort session order fault)) }
 {
@@ -54,12 +56,13 @@ fn whole(
     requires statement { IsStatementFor store.old.pages.layout.schema statement }
     requires ready { store.old.pages.failed ≡ None }
     ensures ready { store.new.pages.failed ≡ None }
+    ensures names { store.new.names ≡ store.old.names }
     ensures ok { IfOk result (λ answer. PlacesLead store.old store.new (DoesSo session (Order.Whole statement) answer)) }
     ensures stops { IfErr result (λ fault. PlacesLead store.old store.new (IsCutShort session (Order.Whole statement) fault)) }
 {
     match store.submit(session, statement) {
         Ok(()) => finish(store, session),
-        Err(refusal) => Ok(Answer::Told(Reply::Refused(refusal))),
+        Err(refusal) => Ok(Answer::Refused(refusal)),
     }
 }
 
@@ -69,11 +72,12 @@ fn start(store: &mut Store<SteadyDisk>, session: u32, statement: Statement) -> A
     requires statement { IsStatementFor store.old.pages.layout.schema statement }
     requires ready { store.old.pages.failed ≡ None }
     ensures ready { store.new.pages.failed ≡ None }
+    ensures names { store.new.names ≡ store.old.names }
     ensures ok { PlacesLead store.old store.new (DoesSo session (Order.Start statement) result) }
 {
     match store.submit(session, statement) {
         Ok(()) => Answer::Started,
-        Err(refusal) => Answer::Told(Reply::Refused(refusal)),
+        Err(refusal) => Answer::Refused(refusal),
     }
 }
 
@@ -82,11 +86,12 @@ fn step_once(store: &mut Store<SteadyDisk>, session: u32) -> Result<Answer, Answ
     requires session { session < length store.old.names }
     requires ready { store.old.pages.failed ≡ None }
     ensures ready { store.new.pages.failed ≡ None }
+    ensures names { store.new.names ≡ store.old.names }
     ensures ok { IfOk result (λ answer. PlacesLead store.old store.new (DoesSo session Order.Step answer)) }
     ensures stops { IfErr result (λ fault. PlacesLead store.old store.new (IsCutShort session Order.Step fault)) }
 {
     if !store.in_hand(session) {
-        return Ok(Answer::Told(Reply::Refused(Refusal::NothingStarted)));
+        return Ok(Answer::Refused(Refusal::NothingStarted));
     }
     step(store, session)
 }
@@ -96,11 +101,12 @@ fn step_through(store: &mut Store<SteadyDisk>, session: u32) -> Result<Answer, A
     requires session { session < length store.old.names }
     requires ready { store.old.pages.failed ≡ None }
     ensures ready { store.new.pages.failed ≡ None }
+    ensures names { store.new.names ≡ store.old.names }
     ensures ok { IfOk result (λ answer. PlacesLead store.old store.new (DoesSo session Order.Finish answer)) }
     ensures stops { IfErr result (λ fault. PlacesLead store.old store.new (IsCutShort session Order.Finish fault)) }
 {
     if !store.in_hand(session) {
-        return Ok(Answer::Told(Reply::Refused(Refusal::NothingStarted)));
+        return Ok(Answer::Refused(Refusal::NothingStarted));
     }
     finish(store, session)
 }
@@ -112,6 +118,7 @@ fn finish(store: &mut Store<SteadyDisk>, session: u32) -> Result<Answer, AnswerF
     requires hand { IsSome (hand_at store.old session) }
     requires ready { store.old.pages.failed ≡ None }
     ensures ready { store.new.pages.failed ≡ None }
+    ensures names { store.new.names ≡ store.old.names }
     ensures ok { IfOk result (λ answer. PlacesLead store.old store.new (FinishesSo session answer)) }
     ensures stops { IfErr result (λ fault. PlacesLead store.old store.new (IsHalted session fault)) }
 {
@@ -129,11 +136,12 @@ fn step(store: &mut Store<SteadyDisk>, session: u32) -> Result<Answer, AnswerFau
     requires hand { IsSome (hand_at store.old session) }
     requires ready { store.old.pages.failed ≡ None }
     ensures ready { store.new.pages.failed ≡ None }
+    ensures names { store.new.names ≡ store.old.names }
     ensures hand { IfOk result (λ answer. IsInHandStill answer (hand_at store.new session)) }
     ensures ok { IfOk result (λ answer. PlacesLead store.old store.new (StepsSo session answer)) }
-    ensures stops { IfErr result (λ fault. PlacesLead store.old store.new (IsNotMade session fault)) }
+    ensures full { IfErr result (λ fault. fault ≡ AnswerFault.Full) }
+    ensures stops { OnErr result (PlacesLead store.old store.new (IsNotMade session)) }
 {
-    a_submitted_statement_is_shown();
     match store.step(session) {
         Ok(step) => Ok(told(store, step)),
         Err(StoreFault::Spent { .. }) => Err(AnswerFault::Full),
@@ -150,10 +158,10 @@ fn told(store: &Store<SteadyDisk>, step: Step) -> Answer
 {
     match step {
         Step::Moved(point) => Answer::Moved(point),
-        Step::Done(reply) => Answer::Told(reply),
+        Step::Done(reply) => Answer::Ended(reply),
         Step::Blocked { what, holder } => {
             let holder = store.name_of(holder);
-            Answer::Told(Reply::Refused(Refusal::Blocked { what, holder }))
+            Answer::Refused(Refusal::Blocked { what, holder })
         }
     }
 }

@@ -5,7 +5,7 @@ ghost use Rattle.std.specs.Option.{is_some};
 ghost use Rattle.statements.specs.StatementFits.{IsStatementFor};
 ghost use Rattle.page_store.specs.Keeps.{Leaves, Tells};
 ghost use Rattle.engine_pages.specs.Kinds.{LeavesNothing};
-ghost use Rattle.line_texts.specs.LineTexts.{Submits, named};
+ghost use Rattle.line_texts.specs.LineTexts.{Submits, dropped_at, named};
 ghost use Rattle.line_texts.specs.Place.{Place};
 ghost use Rattle.line_texts.specs.Starts.{IsStart};
 ghost use Rattle.store_parts.specs.ShowsPlace.{ShowsPlace};
@@ -17,6 +17,7 @@ ghost use Rattle.session_steps.specs.Sessions.{HasSession, IsInHandThen, NamesAS
 use crate::faults::SessionFault;
 use block_model::{Entry, Name, NoMemory, Refusal};
 use disk_trait::Disk;
+use reply_texts::Dropped;
 use statements::Statement;
 use std::alloc::Global;
 use std::convert::Infallible;
@@ -121,6 +122,14 @@ impl<D: Disk + Drop> Store<D> {
     pub fn name_of(&self, session: u32) -> Name
         requires { session < length self.now.names }
         ensures { result ≡ slice_index_or self.now.names session [] }
+    {
+        match self.never {}
+    }
+
+    /// The summaries for which the session's last statement asked in vain, so far.
+    pub fn dropped(&self, session: u32) -> &[Dropped]
+        requires { session < length self.now.names }
+        ensures { (p : Place) → ShowsPlace self.now p → result.now ≡ dropped_at p session }
     {
         match self.never {}
     }
