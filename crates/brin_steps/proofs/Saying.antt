@@ -1,8 +1,7 @@
 -- what a line says, done by a store, has its text
-use Rattle.std.proofs.Common.{◌≡◌, ◌≢◌, ℕ, Bool, true, false, List, [], ◌++◌, refl, sym, ap, ◌∙◌, subst}
+use Rattle.std.proofs.Common.{◌≡◌, ◌≢◌, ℕ, Bool, true, false, List, [], ◌++◌, refl, sym, ap, ◌∙◌, subst, inl, inr}
 use Rattle.std.specs.Prelude.{OnOk, IfErr, IsErrOf, Result, Ok, Err}
 use Rattle.block_model.specs.declared.reply.Refusal.TheVariants as refusals
-use Rattle.block_model.specs.declared.reply.Reply.TheVariants as replies
 use Rattle.query_words.specs.declared.line.Order.{Order}
 use Rattle.query_words.specs.declared.line.Order.TheVariants as orders
 use Rattle.query_words.specs.declared.line.Line.{Line}
@@ -12,21 +11,23 @@ use Rattle.query_words.specs.declared.line.LineFault.TheVariants as line_faults
 use Rattle.query_words.specs.LineFits.{IsOrderFor}
 use Rattle.query_words.specs.Lines.{ReadsAs, line_of}
 use Rattle.reply_texts.specs.declared.dropped.Dropped.{Dropped}
-use Rattle.reply_texts.specs.Texts.{reply_text}
 use Rattle.script_run.specs.declared.engine.AnswerFault.{AnswerFault}
 use Rattle.script_run.specs.declared.engine.AnswerFault.TheVariants.{Memory, Full}
 use Rattle.block_model.specs.declared.schema.Schema.{Schema}
 use Rattle.statements.specs.declared.limits.TheConstants.{MAX_SESSIONS}
 use Rattle.statements.specs.SessionNumbers.{session_number, is_past_sessions}
-use Rattle.line_texts.specs.LineTexts.{Answers, Does, IsLineText, IsNotRead, Orders, PastSessions, dropped_at, fault_text, named}
+use Rattle.line_texts.specs.LineTexts.{Answers, Does, IsLineText, IsNotRead, Orders, PastSessions, dropped_at, fault_text, named, refused_text}
 use Rattle.line_texts.specs.Place.{Place}
 use Rattle.line_texts.specs.StatementSteps.{LacksRoom}
 use Rattle.line_texts.specs.Stops.{Amidst, Begun, ComesTo, IsLineStopped, LineComesTo, PastRoom, Undone, Unprinted}
 use Rattle.store_parts.specs.StoreStates.{StoreState}
+use Rattle.session_steps.specs.declared.faults.SessionFault.{SessionFault}
+use Rattle.session_steps.specs.declared.faults.SessionFault.TheVariants as sessions
+use Rattle.session_steps.specs.Sessions.{HasSession}
 use Rattle.brin_steps.specs.declared.orders.Answer.{Answer}
 use Rattle.brin_steps.specs.Leading.{PlacesLead}
-use Rattle.brin_steps.specs.Orders.{BringsStatement, DoesSo, IsCutShort, IsStoppedSaying, answer_text}
-use Rattle.brin_steps.proofs.Leading.{led_as, led_still}
+use Rattle.brin_steps.specs.Orders.{BringsStatement, DoesSo, IsCutShort, IsLost, IsStoppedSaying, answer_text}
+use Rattle.brin_steps.proofs.Leading.{led_as, led_further, led_still}
 
 -- an order that the engine answers brings a statement that a store takes
 pub brings_statement : (schema : Schema) (order : Order) → IsOrderFor schema order → BringsStatement schema order
@@ -35,7 +36,24 @@ brings_statement schema (orders.Start statement) fits = absurd fits
 brings_statement schema orders.Step fits = tt
 brings_statement schema orders.Finish fits = tt
 
--- ---- an order of a session, which the line makes
+-- ---- lines that aren't answered
+
+undone : (said : Line) (fault : AnswerFault) (p : Place) → fault ≡ Memory → IsStoppedSaying said fault p p
+undone said fault p is schema line read = subst (λ f. IsLineStopped schema p line f p) (sym is) Undone
+
+-- all is done, and its text lost
+unprinted : (said : Line) (text : List ℕ) (fault : AnswerFault) (p q : Place) → fault ≡ Memory → Answers p (Ok said) text q → IsStoppedSaying said fault p q
+unprinted said text fault p q is answers schema line read =
+    subst (λ f. IsLineStopped schema p line f q) (sym is) (Unprinted text q (subst (λ r. Answers p r text q) (sym read) answers))
+
+-- ---- an order of a session of that number
+
+-- what is told of it, with the summaries that are told to be asked for in vain
+pub told_order : (n : ℕ) (name : List ℕ) (order : Order) (answer : Answer) (dropped : List Dropped) (p q : Place) → dropped ≡ dropped_at q n → DoesSo n order answer p q
+    → Does p n name order (answer_text name dropped answer) q
+told_order n name order answer dropped p q told does = subst (λ (l : List Dropped). Does p n name order (answer_text name l answer) q) (sym told) (does name)
+
+-- ---- the same, of a session that the line makes
 
 module _ (name : List ℕ) (order : Order) (n : ℕ) (names : List (List ℕ)) (within : is_past_sessions names name ≡ false) (number : n ≡ session_number names name) (p m : Place) (same : p.names ≡ names) (made : m ≡ named p name) where
   not_past : is_past_sessions p.names name ≡ false
@@ -44,41 +62,71 @@ module _ (name : List ℕ) (order : Order) (n : ℕ) (names : List (List ℕ)) (
   its_number : n ≡ session_number p.names name
   its_number = number ∙ ap (λ l. session_number l name) (sym same)
 
-  pub said_order : (answer : Answer) (dropped : List Dropped) (q : Place) → dropped ≡ dropped_at q n → DoesSo n order answer m q → Answers p (Ok (lines.Say name order)) (answer_text name dropped answer) q
-  said_order answer dropped q told does =
-      Orders name order (answer_text name dropped answer) q not_past
-      (subst (λ (x : Place). Does x (session_number p.names name) name order (answer_text name dropped answer) q) made
-      (subst (λ (k : ℕ). Does m k name order (answer_text name dropped answer) q) its_number
-      (subst (λ (l : List Dropped). Does m n name order (answer_text name l answer) q) (sym told) (does name))))
+  said_order : (text : List ℕ) (q : Place) → Does m n name order text q → Answers p (Ok (lines.Say name order)) text q
+  said_order text q does =
+      Orders name order text q not_past
+      (subst (λ (x : Place). Does x (session_number p.names name) name order text q) made (subst (λ (k : ℕ). Does m k name order text q) its_number does))
 
-  line_comes : (q : Place) → ComesTo m n order q → LineComesTo p (Ok (lines.Say name order)) (session_number p.names name) q
-  line_comes q comes =
-      Begun name order q not_past
-      (subst (λ (x : Place). ComesTo x (session_number p.names name) order q) made (subst (λ (k : ℕ). ComesTo m k order q) its_number comes))
+  line_comes : (schema : Schema) (line : List ℕ) → line_of schema line ≡ Ok (lines.Say name order) → (q : Place) → ComesTo m n order q → LineComesTo p (line_of schema line) (session_number p.names name) q
+  line_comes schema line is q comes =
+      subst (λ r. LineComesTo p r (session_number p.names name) q) (sym is)
+      (Begun name order q not_past (subst (λ (x : Place). ComesTo x (session_number p.names name) order q) made (subst (λ (k : ℕ). ComesTo m k order q) its_number comes)))
 
-  pub cut_order : (fault : AnswerFault) (q : Place) → IsCutShort n order fault m q → IsStoppedSaying (lines.Say name order) fault p q
-  cut_order Memory q cut schema line is =
-      Amidst (session_number p.names name) q (subst (λ r. LineComesTo p r (session_number p.names name) q) (sym is) (line_comes q cut.1))
+  cut_order : (fault : AnswerFault) (q : Place) → IsCutShort n order fault m q → IsStoppedSaying (lines.Say name order) fault p q
+  cut_order Memory q cut schema line is = Amidst (session_number p.names name) q (line_comes schema line is q cut.1)
   cut_order Full q cut schema line is =
-      PastRoom (session_number p.names name) q (subst (λ r. LineComesTo p r (session_number p.names name) q) (sym is) (line_comes q cut.1))
-      (subst (λ (k : ℕ). LacksRoom q k) its_number cut.0)
+      PastRoom (session_number p.names name) q (line_comes schema line is q cut.1) (subst (λ (k : ℕ). LacksRoom q k) its_number cut.0)
+
+  lost_order : (fault : AnswerFault) (q : Place) → IsLost n name order fault m q → IsStoppedSaying (lines.Say name order) fault p q
+  lost_order fault q (inl cut) = cut_order fault q cut
+  lost_order fault q (inr lost) = unprinted (lines.Say name order) lost.1 fault p q lost.0 (said_order lost.1 q lost.2)
 
 -- one session more than there may be
-pub said_past : (name : List ℕ) (order : Order) (names : List (List ℕ)) (limit : ℕ) (p : Place) → is_past_sessions names name ≡ true → limit ≡ MAX_SESSIONS → p.names ≡ names
-    → Answers p (Ok (lines.Say name order)) (reply_text name (replies.Refused (refusals.Limit limit))) p
+said_past : (name : List ℕ) (order : Order) (names : List (List ℕ)) (limit : ℕ) (p : Place) → is_past_sessions names name ≡ true → limit ≡ MAX_SESSIONS → p.names ≡ names
+    → Answers p (Ok (lines.Say name order)) (refused_text name (refusals.Limit limit)) p
 said_past name order names limit p past at same =
-    subst (λ (l : ℕ). Answers p (Ok (lines.Say name order)) (reply_text name (replies.Refused (refusals.Limit l))) p) (sym at)
+    subst (λ (l : ℕ). Answers p (Ok (lines.Say name order)) (refused_text name (refusals.Limit l)) p) (sym at)
     (PastSessions name order (ap (λ l. is_past_sessions l name) same ∙ past))
 
--- ---- lines that aren't answered
+-- what a session is told is what the line that makes it is answered
+pub say_done : {D E : Type 0} (s t u : StoreState D) (name : List ℕ) (order : Order) (n : ℕ) (before after : List ℕ) (result : Result (Unit {0}) E) → is_past_sessions s.names name ≡ false → n ≡ session_number s.names name
+    → PlacesLead s t (λ p m. m ≡ named p name) → OnOk result ((text : List ℕ) × (after ≡ before ++ text) × PlacesLead t u (λ m q. Does m n name order text q))
+    → OnOk result ((text : List ℕ) × (after ≡ before ++ text) × PlacesLead s u (λ p q. Answers p (Ok (lines.Say name order)) text q))
+say_done s t u name order n before after (Ok v) within number made h = (
+  h.0,
+  h.1,
+  led_further s t u (λ p m. m ≡ named p name) (λ m q. Does m n name order h.0 q) (λ p q. Answers p (Ok (lines.Say name order)) h.0 q) made h.2
+      (λ p m q shown _ _ is does. said_order name order n s.names within number p m shown.names is h.0 q does),
+)
+say_done s t u name order n before after (Err e) within number made h = tt
 
-pub undone : (said : Line) (fault : AnswerFault) (p : Place) → fault ≡ Memory → IsStoppedSaying said fault p p
-undone said fault p is schema line read = subst (λ f. IsLineStopped schema p line f p) (sym is) Undone
+pub say_lost : {D : Type 0} (s t u : StoreState D) (name : List ℕ) (order : Order) (n : ℕ) (result : Result (Unit {0}) AnswerFault) → is_past_sessions s.names name ≡ false → n ≡ session_number s.names name
+    → PlacesLead s t (λ p m. m ≡ named p name) → IfErr result (λ fault. PlacesLead t u (IsLost n name order fault)) → IfErr result (λ fault. PlacesLead s u (IsStoppedSaying (lines.Say name order) fault))
+say_lost s t u name order n (Ok v) within number made h = tt
+say_lost s t u name order n (Err fault) within number made h =
+    led_further s t u (λ p m. m ≡ named p name) (IsLost n name order fault) (IsStoppedSaying (lines.Say name order) fault) made h
+    (λ p m q shown _ _ is lost. lost_order name order n s.names within number p m shown.names is fault q lost)
 
--- all is done, and its text lost
-pub unprinted : (said : Line) (text : List ℕ) (fault : AnswerFault) (p q : Place) → fault ≡ Memory → Answers p (Ok said) text q → IsStoppedSaying said fault p q
-unprinted said text fault p q is answers schema line read =
-    subst (λ f. IsLineStopped schema p line f q) (sym is) (Unprinted text q (subst (λ r. Answers p r text q) (sym read) answers))
+-- a line for which there is no session changes nothing
+unmade : {D : Type 0} (s s' : StoreState D) (name : List ℕ) (fault : SessionFault) → HasSession s name s' (Err fault) → s' ≡ s
+unmade s s' name (sessions.Limit limit) has = has.2
+unmade s s' name sessions.Memory has = has.1
+
+pub say_refused : {D E : Type 0} (s s' : StoreState D) (name : List ℕ) (order : Order) (fault : SessionFault) (before after : List ℕ) (result : Result (Unit {0}) E) → HasSession s name s' (Err fault)
+    → OnOk result ((limit : ℕ) × (fault ≡ sessions.Limit limit) × (after ≡ before ++ refused_text name (refusals.Limit limit)))
+    → OnOk result ((text : List ℕ) × (after ≡ before ++ text) × PlacesLead s s' (λ p q. Answers p (Ok (lines.Say name order)) text q))
+say_refused s s' name order fault before after (Ok v) has h =
+    let past = subst (λ (f : SessionFault). HasSession s name s' (Err f)) h.1 has in (
+      refused_text name (refusals.Limit h.0),
+      h.2,
+      led_still s s' (λ p q. Answers p (Ok (lines.Say name order)) (refused_text name (refusals.Limit h.0)) q) past.2 (λ p shown. said_past name order s.names h.0 p past.0 past.1 shown.names),
+    )
+say_refused s s' name order fault before after (Err e) has h = tt
+
+pub say_unmade : {D : Type 0} (s s' : StoreState D) (name : List ℕ) (order : Order) (fault : SessionFault) (result : Result (Unit {0}) AnswerFault) → HasSession s name s' (Err fault)
+    → IfErr result (λ why. why ≡ Memory) → IfErr result (λ why. PlacesLead s s' (IsStoppedSaying (lines.Say name order) why))
+say_unmade s s' name order fault (Ok v) has is = tt
+say_unmade s s' name order fault (Err why) has is = led_still s s' (IsStoppedSaying (lines.Say name order) why) (unmade s s' name fault has) (λ p _. undone (lines.Say name order) why p is)
 
 -- ---- what is read of a line
 

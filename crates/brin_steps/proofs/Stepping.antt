@@ -1,5 +1,6 @@
 -- steps of a store as those of the definition of texts
-use Rattle.std.proofs.Common.{◌≡◌, ◌≢◌, ℕ, List, [], Option, None, Some, false, Ok, Err, refl, sym, ap, subst}
+use Rattle.std.proofs.Common.{◌≡◌, ◌≢◌, ℕ, List, [], Option, None, Some, false, refl, sym, ap, subst}
+use Rattle.std.specs.Prelude.{IfErr, OnErr, Result, Ok, Err}
 use Rattle.std.specs.Option.{is_some}
 use Rattle.std.proofs.lemmas.Bool.{false≢true}
 use Rattle.block_model.specs.declared.reply.Point.{Point}
@@ -25,7 +26,9 @@ use Rattle.store_parts.specs.StoreStates.{StoreState, hand_at}
 use Rattle.session_steps.specs.Sessions.{IsInHandThen}
 use Rattle.brin_steps.specs.declared.orders.Answer.{Answer}
 use Rattle.brin_steps.specs.declared.orders.Answer.TheVariants as answers
+use Rattle.brin_steps.specs.Leading.{PlacesLead}
 use Rattle.brin_steps.specs.Orders.{DoesSo, FinishesSo, IsCutShort, IsHalted, IsInHandStill, IsNotMade, StepsSo, step_answer}
+use Rattle.brin_steps.proofs.Leading.{led_as}
 
 -- ---- one step
 
@@ -110,8 +113,13 @@ no_step n p none name = NoStep none
 pub no_finish : (n : ℕ) (p : Place) → p.hands n ≡ None → DoesSo n orders.Finish (answers.Refused refusals.NothingStarted) p p
 no_finish n p none name = NoFinish none
 
-pub step_cut : (n : ℕ) (fault : AnswerFault) (p q : Place) → fault ≡ Full → IsNotMade n p q → IsCutShort n orders.Step fault p q
+step_cut : (n : ℕ) (fault : AnswerFault) (p q : Place) → fault ≡ Full → IsNotMade n p q → IsCutShort n orders.Step fault p q
 step_cut n fault p q full stops = subst (λ f. IsCutShort n orders.Step f p q) (sym full) (stops.0, subst (λ (r : Place). ComesTo p n orders.Step r) (sym stops.1) OfStep)
+
+pub step_stops : {D : Type 0} (s s' : StoreState D) (n : ℕ) (result : Result Answer AnswerFault) → IfErr result (λ fault. fault ≡ Full) → OnErr result (PlacesLead s s' (IsNotMade n))
+    → IfErr result (λ fault. PlacesLead s s' (IsCutShort n orders.Step fault))
+step_stops s s' n (Ok answer) full stops = tt
+step_stops s s' n (Err fault) full stops = led_as s s' (IsNotMade n) (IsCutShort n orders.Step fault) stops (λ p q _ _ is. step_cut n fault p q full is)
 
 pub finish_cut : (n : ℕ) (fault : AnswerFault) (p q : Place) → IsHalted n fault p q → IsCutShort n orders.Finish fault p q
 finish_cut n fault p q stops = (stops.0, OfFinish q stops.1)

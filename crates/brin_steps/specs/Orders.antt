@@ -1,5 +1,5 @@
 -- what an order of a session is answered, and what becomes of one that isn't
-use Rattle.std.specs.Prelude.{◌≡◌, ℕ, List, [], ◌++◌, slice_index_or, Option, IsSome, Ok}
+use Rattle.std.specs.Prelude.{◌≡◌, ◌⊎◌, ℕ, List, [], ◌++◌, slice_index_or, Option, IsSome, Ok}
 use Rattle.block_model.specs.declared.reply.Refusal.TheVariants as refusals
 use Rattle.block_model.specs.declared.schema.Schema.{Schema}
 use Rattle.statements.specs.StatementFits.{IsStatementFor}
@@ -73,6 +73,10 @@ IsHalted n fault p q = WantsRoom n fault q × MovedTo n p q
 -- an order of session n stops so
 abbrev pub IsCutShort : ℕ → Order → AnswerFault → Place → Place → Type 0
 IsCutShort n order fault p q = WantsRoom n fault q × ComesTo p n order q
+
+-- an order of session n, of that name, has no text: it stops, or memory is short for the text
+abbrev pub IsLost : ℕ → List ℕ → Order → AnswerFault → Place → Place → Type 0
+IsLost n name order fault p q = IsCutShort n order fault p q ⊎ ((fault ≡ Memory) × (text : List ℕ) × Does p n name order text q)
 
 -- what a line says stops so: whatever line says it
 abbrev pub IsStoppedSaying : Line → AnswerFault → Place → Place → Type 0

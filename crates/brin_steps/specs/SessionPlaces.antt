@@ -1,5 +1,5 @@
 -- what the sessions of a script do with a line
-use Rattle.std.specs.Prelude.{ℕ, List}
+use Rattle.std.specs.Prelude.{◌≡◌, ℕ, List}
 use Rattle.line_texts.specs.LineTexts.{IsLineText}
 use Rattle.line_texts.specs.Place.{Place}
 use Rattle.line_texts.specs.Stops.{IsLineStopped}

@@ -1,10 +1,10 @@
 //! What a line of a script is answered.
 
-ghost use Rattle.std.specs.Prelude.{◌≡◌, ◌≢◌, ◌++◌, None, Ok, IfErr, OnOk, IsErrOf, ℕ, List};
+ghost use Rattle.std.specs.Prelude.{◌≡◌, ◌≢◌, ◌<◌, ◌++◌, None, Ok, IfErr, OnOk, IsErrOf, ℕ, List, length};
 ghost use Rattle.query_words.specs.LineFits.{IsLineFor, IsOrderFor};
-ghost use Rattle.line_texts.specs.LineTexts.{Answers, fault_text};
+ghost use Rattle.line_texts.specs.LineTexts.{Answers, Does, fault_text, refused_text};
 ghost use Rattle.brin_steps.specs.Leading.{PlacesLead};
-ghost use Rattle.brin_steps.specs.Orders.{IsStoppedSaying, answer_text};
+ghost use Rattle.brin_steps.specs.Orders.{BringsStatement, IsLost, IsStoppedSaying, answer_text};
 ghost use Rattle.brin_steps.specs.SessionPlaces.{AnswersLine, StopsLine};
 
 use crate::orders::{Answer, act};
@@ -60,7 +60,7 @@ fn obey(store: &mut Store<SteadyDisk>, line: Line, out: &mut Vec<u8>) -> Result<
     }
 }
 
-/// Does what an order of the session of that name says, and appends its text.
+/// Does what an order of the session of that name says, and appends its text. The session is made where it is new.
 fn say(
     store: &mut Store<SteadyDisk>,
     session: &Name,
@@ -73,18 +73,44 @@ fn say(
     ensures ok { OnOk result ((text : List ℕ) × (out.new.items ≡ out.old.items ++ text) × PlacesLead store.old store.new (λ p q. Answers p (Ok (Line.Say session.now order)) text q)) }
     ensures stops { IfErr result (λ fault. PlacesLead store.old store.new (IsStoppedSaying (Line.Say session.now order) fault)) }
 {
-    let number = match store.session(*session) {
-        Ok(number) => number,
-        Err(SessionFault::Limit { limit }) => {
-            let reply = Reply::Refused(Refusal::Limit { limit });
-            render(session, &reply, out)?;
-            return Ok(());
-        }
-        Err(SessionFault::Memory) => return Err(AnswerFault::Memory),
-    };
+    match store.session(*session) {
+        Ok(number) => answer_order(store, number, session, order, out),
+        Err(fault) => refuse_session(fault, session, out),
+    }
+}
+
+/// Does what an order of the session of that number and name says, and appends its text.
+fn answer_order(
+    store: &mut Store<SteadyDisk>,
+    number: u32,
+    session: &Name,
+    order: Order,
+    out: &mut Vec<u8>,
+) -> Result<(), AnswerFault>
+    requires session { number < length store.old.names }
+    requires order { BringsStatement store.old.pages.layout.schema order }
+    requires ready { store.old.pages.failed ≡ None }
+    ensures ready { store.new.pages.failed ≡ None }
+    ensures ok { OnOk result ((text : List ℕ) × (out.new.items ≡ out.old.items ++ text) × PlacesLead store.old store.new (λ p q. Does p number session.now order text q)) }
+    ensures stops { IfErr result (λ fault. PlacesLead store.old store.new (IsLost number session.now order fault)) }
+{
     let answer = act(store, number, order)?;
     tell(session, &answer, store.dropped(number), out)?;
     Ok(())
+}
+
+/// Appends the text of an order for which there is no session: there are as many as there may be. Want of memory has no text.
+fn refuse_session(fault: SessionFault, session: &Name, out: &mut Vec<u8>) -> Result<(), AnswerFault>
+    ensures ok { OnOk result ((limit : ℕ) × (fault ≡ SessionFault.Limit limit) × (out.new.items ≡ out.old.items ++ refused_text session.now (Refusal.Limit limit))) }
+    ensures memory { IfErr result (λ why. why ≡ AnswerFault.Memory) }
+{
+    match fault {
+        SessionFault::Limit { limit } => {
+            render(session, &Reply::Refused(Refusal::Limit { limit }), out)?;
+            Ok(())
+        }
+        SessionFault::Memory => Err(AnswerFault::Memory),
+    }
 }
 
 /// Appends the text of an answer to the session of that name, whose statement has asked in vain for these summaries.
