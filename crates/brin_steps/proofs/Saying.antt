@@ -1,5 +1,5 @@
 -- what a line says, done by a store, has its text
-use Rattle.std.proofs.Common.{◌≡◌, ◌≢◌, ℕ, Bool, true, false, List, [], ◌++◌, refl, sym, ap, ◌∙◌, subst, inl, inr}
+use Rattle.std.proofs.Common.{◌≡◌, ◌≢◌, ℕ, true, false, List, ◌++◌, refl, sym, ap, ◌∙◌, subst, inl, inr}
 use Rattle.std.specs.Prelude.{OnOk, IfErr, IsErrOf, Result, Ok, Err}
 use Rattle.block_model.specs.declared.reply.Refusal.TheVariants as refusals
 use Rattle.query_words.specs.declared.line.Order.{Order}

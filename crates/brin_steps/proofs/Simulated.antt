@@ -1,7 +1,6 @@
 -- a run of an engine is one of the engine that it simulates
-use Rattle.std.proofs.Common.{◌≡◌, ◌≢◌, ℕ, List, [], ◌∷◌, Option, Ok, Err, refl, sym, ◌∙◌, subst, ◌⊎◌, inl, inr}
+use Rattle.std.proofs.Common.{◌≡◌, ◌≢◌, ℕ, List, [], ◌∷◌, Option, Ok, Err, refl, sym, subst, ◌⊎◌, inl, inr}
 use Rattle.script_run.specs.declared.engine.AnswerFault.{AnswerFault}
-use Rattle.script_run.specs.declared.engine.AnswerFault.TheVariants.{Memory}
 use Rattle.script_run.specs.declared.fault.RunFault.TheVariants as faults
 use Rattle.script_run.specs.Answers.{AreAnswers}
 use Rattle.script_run.specs.Runs.{Ran, RunEnd, Stopped, Wrote}
@@ -61,7 +60,7 @@ module _ {S P : Type 0} (Shows : S → P → Type 0) (R : S → List ℕ → Lis
           far.0,
           far.1,
           wrote_at far.0 (λ other. absurd (other one.0 one.1))
-          (λ fault e. subst (λ (g : AnswerFault). Stopped U' f far.0 script left done g) (same_fault one.0 fault end one.1 e) far.2),
+              (λ fault e. subst (λ (g : AnswerFault). Stopped U' f far.0 script left done g) (same_fault one.0 fault end one.1 e) far.2),
         )
     wrote_by (inr other) = (f, subst (λ (u : S). Shows u f) (sym (wrote.state other)) ends, wrote_at f (λ _. refl) (λ fault e. absurd (other fault e)))
 

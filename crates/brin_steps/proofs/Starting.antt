@@ -1,6 +1,5 @@
 -- a place at which a script over new tables of a layout starts
-use Rattle.std.proofs.Common.{◌≡◌, ℕ, zero, suc, ◌<◌, ◌≤◌, true, false, List, [], ◌∷◌, length, slice_get, Option, None, Some, refl, sym, subst, arith}
-use Rattle.std.specs.List.{list_all}
+use Rattle.std.proofs.Common.{◌≡◌, ℕ, zero, suc, ◌<◌, ◌≤◌, false, List, [], ◌∷◌, length, slice_get, Option, None, Some, refl, sym, subst, arith}
 use Rattle.std.proofs.lemmas.Bool.{and_parts, leb-true}
 use Rattle.std.proofs.lemmas.List.Sums.{AllPass-from_list_all}
 use Rattle.std.specs.Prelude.{nat_le}
@@ -121,7 +120,7 @@ module _ (listed : AreListed) (lawful : AreLawfulInLayouts) (layout : DiskLayout
   ranged : (n : ℕ) → n < length layout.schema.indexes → 0 < (index_at layout n).pages_per_range
   ranged n below =
       let least = leb-true 1 _ (and_parts (nat_le 1 (index_at layout n).pages_per_range) (nat_le (index_at layout n).pages_per_range 131072)
-          (AllPass-from_list_all (λ (i : declared.Index). is_within 1 131072 i.pages_per_range) layout.schema.indexes (keeps 5) n no_index below)).0 in
+      (AllPass-from_list_all (λ (i : declared.Index). is_within 1 131072 i.pages_per_range) layout.schema.indexes (keeps 5) n no_index below)).0 in
       omega (arith, least)
 
   new : (table : ℕ) → IsNewTable (new_table layout table)

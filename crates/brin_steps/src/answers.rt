@@ -12,9 +12,7 @@ use crate::sessions::Sessions;
 use block_model::{Name, NoMemory, Refusal, Reply};
 use disk_trait::SteadyDisk;
 use query_words::{Line, LineFault, Order, read_line};
-use reply_texts::{
-    Dropped, render, render_dropped, render_moved, render_refusal, render_started,
-};
+use reply_texts::{Dropped, render, render_dropped, render_moved, render_refusal, render_started};
 use script_run::AnswerFault;
 use session_steps::{SessionFault, Store};
 

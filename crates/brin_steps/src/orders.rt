@@ -25,11 +25,7 @@ pub enum Answer {
 }
 
 /// Does what an order of the session says.
-pub fn act(
-    store: &mut Store<SteadyDisk>,
-    session: u32,
-    order: Order,
-) -> Result<Answer, AnswerFault>
+pub fn act(store: &mut Store<SteadyDisk>, session: u32, order: Order) -> Result<Answer, AnswerFault>
     requires session { session < length store.old.names }
     requires order { BringsStatement store.old.pages.layout.schema order }
     requires ready { store.old.pages.failed ≡ None }

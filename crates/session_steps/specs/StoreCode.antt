@@ -2,15 +2,13 @@
 use Rattle.std.specs.Prelude.{ℕ, List, Option, refl}
 use Rattle.std.specs.Coded.{Coded, code_by, coded×, coded_list, coded_option, coded_ℕ}
 use Rattle.heap_versions.specs.HeapState.{coded_view}
-use Rattle.page_locks.specs.LockHolders.{LockState, coded_locks}
-use Rattle.page_store.specs.PageMap.{View}
+use Rattle.page_locks.specs.LockHolders.{coded_locks}
 use Rattle.row_versions.specs.declared.sessions.Open.{Open}
 use Rattle.row_versions.specs.contracts.sessions.Open as open_contract
 use Rattle.transactions.specs.TransactionsState.{TransactionsState}
 use Rattle.tx_table.specs.TxState.{TxState}
-use Rattle.store_parts.specs.declared.hand.Hand.{Hand}
 use Rattle.store_parts.specs.contracts.hand.Hand as hand_contract
-use Rattle.store_parts.specs.JournalState.{JournalState, coded_journal}
+use Rattle.store_parts.specs.JournalState.{coded_journal}
 use Rattle.store_parts.specs.StoreStates.{StoreState}
 
 abbrev pub coded_tx : Coded TxState

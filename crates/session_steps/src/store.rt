@@ -49,7 +49,6 @@ impl<D: Disk + Drop> Store<D> {
     pub fn plain(alloc: Global, disk: D, layout: Layout) -> Result<Store<D>, NoMemory>
         requires nothing { LeavesNothing (D.told disk) }
         ensures starts { IfOk result (λ store. Tells D.told store.pages → (p : Place) × IsStart layout p × ShowsPlace store p) }
-        ensures disk { IfOk result (λ store. store.pages.disk ≡ disk) }
         ensures layout { IfOk result (λ store. store.pages.layout ≡ layout) }
         ensures ready { IfOk result (λ store. store.pages.failed ≡ None) }
     {

@@ -2,7 +2,6 @@ use Rattle.std.proofs.Common.{[], refl, sym, subst}
 use Rattle.std.specs.Prelude.{Ok, OnOk, ◌≡◌, ◌++◌, ℕ, List}
 use Rattle.std.proofs.lemmas.List.{append-nil}
 use Rattle.query_words.specs.declared.line.Line.{Line}
-use Rattle.query_words.specs.declared.line.Line.TheVariants as lines
 use Rattle.line_texts.specs.LineTexts.{Answers, SaysNothing}
 use Rattle.brin_steps.specs.Leading.{PlacesLead}
 use Rattle.brin_steps.proofs.Leading.{led_still}

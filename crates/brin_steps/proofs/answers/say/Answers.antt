@@ -3,7 +3,7 @@ use Rattle.disk_trait.specs.Steady.{told_by_steady}
 use Rattle.line_texts.specs.LineTexts.{named}
 use Rattle.line_texts.specs.Place.{Place}
 use Rattle.brin_steps.proofs.Leading.{led_beside}
-use Rattle.brin_steps.proofs.Saying.{brings_statement, say_done, say_lost, say_refused, say_unmade}
+use Rattle.brin_steps.proofs.Saying.{say_done, say_lost, say_refused, say_unmade}
 use Rattle.brin_steps.proofs.answers.say.Goals as goal
 
 pub returns-in-Ok-clause-ok : goal.returns-in-Ok-clause-ok

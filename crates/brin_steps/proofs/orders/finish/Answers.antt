@@ -1,10 +1,8 @@
-use Rattle.std.proofs.Common.{◌≡◌, Ok, Err, refl, sym, subst, ap, ◌∙◌}
+use Rattle.std.proofs.Common.{refl, ◌∙◌}
 use Rattle.std.proofs.lemmas.Result.{err_from_is_err_and}
 use Rattle.script_run.specs.declared.engine.AnswerFault.TheVariants.{Memory}
 use Rattle.line_texts.specs.Stops.{MovedTo, Still}
-use Rattle.brin_steps.specs.declared.orders.Answer.{Answer}
 use Rattle.brin_steps.specs.declared.orders.Answer.TheVariants as answers
-use Rattle.brin_steps.specs.Leading.{PlacesLead}
 use Rattle.brin_steps.specs.Orders.{FinishesSo, IsHalted, IsNotMade, StepsSo}
 use Rattle.brin_steps.proofs.Leading.{led_as, led_further, led_still}
 use Rattle.brin_steps.proofs.Stepping.{finished_by, halted, moved_on}
