@@ -7,6 +7,7 @@ use Rattle.row_versions.specs.declared.sessions.Open.{Open}
 use Rattle.row_versions.specs.contracts.sessions.Open as open_contract
 use Rattle.transactions.specs.TransactionsState.{TransactionsState}
 use Rattle.tx_table.specs.TxState.{TxState}
+use Rattle.reply_texts.specs.contracts.dropped.Dropped as dropped_contract
 use Rattle.store_parts.specs.contracts.hand.Hand as hand_contract
 use Rattle.store_parts.specs.JournalState.{coded_journal}
 use Rattle.store_parts.specs.StoreStates.{StoreState}
