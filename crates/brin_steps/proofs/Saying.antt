@@ -3,12 +3,10 @@ use Rattle.std.proofs.Common.{◌≡◌, ◌≢◌, ℕ, true, false, List, ◌+
 use Rattle.std.specs.Prelude.{OnOk, IfErr, IsErrOf, Result, Ok, Err}
 use Rattle.block_model.specs.declared.reply.Refusal.TheVariants as refusals
 use Rattle.query_words.specs.declared.line.Order.{Order}
-use Rattle.query_words.specs.declared.line.Order.TheVariants as orders
 use Rattle.query_words.specs.declared.line.Line.{Line}
 use Rattle.query_words.specs.declared.line.Line.TheVariants as lines
 use Rattle.query_words.specs.declared.line.LineFault.{LineFault}
 use Rattle.query_words.specs.declared.line.LineFault.TheVariants as line_faults
-use Rattle.query_words.specs.LineFits.{IsOrderFor}
 use Rattle.query_words.specs.Lines.{ReadsAs, line_of}
 use Rattle.reply_texts.specs.declared.dropped.Dropped.{Dropped}
 use Rattle.script_run.specs.declared.engine.AnswerFault.{AnswerFault}
@@ -26,15 +24,8 @@ use Rattle.session_steps.specs.declared.faults.SessionFault.TheVariants as sessi
 use Rattle.session_steps.specs.Sessions.{HasSession}
 use Rattle.brin_steps.specs.declared.orders.Answer.{Answer}
 use Rattle.brin_steps.specs.Leading.{PlacesLead}
-use Rattle.brin_steps.specs.Orders.{BringsStatement, DoesSo, IsCutShort, IsLost, IsStoppedSaying, answer_text}
+use Rattle.brin_steps.specs.Orders.{DoesSo, IsCutShort, IsLost, IsStoppedSaying, answer_text}
 use Rattle.brin_steps.proofs.Leading.{led_as, led_further, led_still}
-
--- an order that the engine answers brings a statement that a store takes
-pub brings_statement : (schema : Schema) (order : Order) → IsOrderFor schema order → BringsStatement schema order
-brings_statement schema (orders.Whole statement) fits = fits
-brings_statement schema (orders.Start statement) fits = absurd fits
-brings_statement schema orders.Step fits = tt
-brings_statement schema orders.Finish fits = tt
 
 -- ---- lines that aren't answered
 

@@ -101,7 +101,7 @@ start_refused n statement refusal p q refused name = RefusesStart statement refu
 
 -- a session that has nothing in hand has nothing in hand at the place either
 empty_there : (hand : Option Hand) (shown : Option HandAt) (account : Account) → is_some hand ≡ false → HandShows hand shown account → shown ≡ None
-empty_there None shown account not shows = shows.0
+empty_there None shown account not shows = shows
 empty_there (Some hand) shown account not shows = absurd (false≢true (sym not))
 
 pub nothing_in_hand : {D : Type 0} (s : StoreState D) (n : ℕ) (p : Place) → is_some (hand_at s n) ≡ false → ShowsPlace s p → p.hands n ≡ None

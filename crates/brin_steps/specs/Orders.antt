@@ -2,10 +2,8 @@
 use Rattle.std.specs.Prelude.{◌≡◌, ◌⊎◌, ℕ, List, [], ◌++◌, slice_index_or, Option, IsSome, Ok}
 use Rattle.block_model.specs.declared.reply.Refusal.TheVariants as refusals
 use Rattle.block_model.specs.declared.schema.Schema.{Schema}
-use Rattle.statements.specs.StatementFits.{IsStatementFor}
 use Rattle.query_words.specs.declared.line.Line.{Line}
 use Rattle.query_words.specs.declared.line.Order.{Order}
-use Rattle.query_words.specs.declared.line.Order.TheVariants as orders
 use Rattle.query_words.specs.Lines.{line_of}
 use Rattle.reply_texts.specs.declared.dropped.Dropped.{Dropped}
 use Rattle.reply_texts.specs.DroppedTexts.{dropped_text}
@@ -81,9 +79,3 @@ IsLost n name order fault p q = IsCutShort n order fault p q ⊎ ((fault ≡ Mem
 -- what a line says stops so: whatever line says it
 abbrev pub IsStoppedSaying : Line → AnswerFault → Place → Place → Type 0
 IsStoppedSaying said fault p q = (schema : Schema) (line : List ℕ) → line_of schema line ≡ Ok said → IsLineStopped schema p line fault q
-
--- a statement that an order brings is one that a store takes
-abbrev pub BringsStatement : Schema → Order → Type 0
-BringsStatement schema (orders.Whole statement) = IsStatementFor schema statement
-BringsStatement schema (orders.Start statement) = IsStatementFor schema statement
-BringsStatement schema order = Unit {0}

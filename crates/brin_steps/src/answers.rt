@@ -4,7 +4,7 @@ ghost use Rattle.std.specs.Prelude.{◌≡◌, ◌≢◌, ◌<◌, ◌++◌, Non
 ghost use Rattle.query_words.specs.LineFits.{IsLineFor, IsOrderFor};
 ghost use Rattle.line_texts.specs.LineTexts.{Answers, Does, fault_text, refused_text};
 ghost use Rattle.brin_steps.specs.Leading.{PlacesLead};
-ghost use Rattle.brin_steps.specs.Orders.{BringsStatement, IsLost, IsStoppedSaying, answer_text};
+ghost use Rattle.brin_steps.specs.Orders.{IsLost, IsStoppedSaying, answer_text};
 ghost use Rattle.brin_steps.specs.SessionPlaces.{AnswersLine, StopsLine};
 
 use crate::orders::{Answer, act};
@@ -86,7 +86,7 @@ fn answer_order(
     out: &mut Vec<u8>,
 ) -> Result<(), AnswerFault>
     requires session { number < length store.old.names }
-    requires order { BringsStatement store.old.pages.layout.schema order }
+    requires order { IsOrderFor store.old.pages.layout.schema order }
     requires ready { store.old.pages.failed ≡ None }
     ensures ready { store.new.pages.failed ≡ None }
     ensures ok { OnOk result ((text : List ℕ) × (out.new.items ≡ out.old.items ++ text) × PlacesLead store.old store.new (λ p q. Does p number session.now order text q)) }

@@ -3,9 +3,10 @@
 ghost use Rattle.std.specs.Prelude.{◌≡◌, ◌<◌, None, IfOk, IfErr, OnErr, IsSome, length};
 ghost use Rattle.store_parts.specs.StoreStates.{hand_at};
 ghost use Rattle.session_steps.specs.Sessions.{NamesASession};
+ghost use Rattle.query_words.specs.LineFits.{IsOrderFor};
 ghost use Rattle.statements.specs.StatementFits.{IsStatementFor};
 ghost use Rattle.brin_steps.specs.Leading.{PlacesLead};
-ghost use Rattle.brin_steps.specs.Orders.{BringsStatement, IsCutShort, DoesSo, FinishesSo, IsHalted, IsInHandStill, IsNotMade, StepsSo, step_answer};
+ghost use Rattle.brin_steps.specs.Orders.{IsCutShort, DoesSo, FinishesSo, IsHalted, IsInHandStill, IsNotMade, StepsSo, step_answer};
 
 use block_model::{Point, Refusal, Reply};
 use disk_trait::SteadyDisk;
@@ -27,7 +28,7 @@ pub enum Answer {
 /// Does what an order of the session says.
 pub fn act(store: &mut Store<SteadyDisk>, session: u32, order: Order) -> Result<Answer, AnswerFault>
     requires session { session < length store.old.names }
-    requires order { BringsStatement store.old.pages.layout.schema order }
+    requires order { IsOrderFor store.old.pages.layout.schema order }
     requires ready { store.old.pages.failed ≡ None }
     ensures ready { store.new.pages.failed ≡ None }
     ensures names { store.new.names ≡ store.old.names }

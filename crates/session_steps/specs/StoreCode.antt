@@ -7,6 +7,7 @@ use Rattle.row_versions.specs.declared.sessions.Open.{Open}
 use Rattle.row_versions.specs.contracts.sessions.Open as open_contract
 use Rattle.transactions.specs.TransactionsState.{TransactionsState}
 use Rattle.tx_table.specs.TxState.{TxState}
+use Rattle.reply_texts.specs.contracts.dropped.Dropped as dropped_contract
 use Rattle.store_parts.specs.contracts.hand.Hand as hand_contract
 use Rattle.store_parts.specs.JournalState.{coded_journal}
 use Rattle.store_parts.specs.StoreStates.{StoreState}
@@ -26,6 +27,18 @@ coded_store {D} code =
     (coded× coded_transactions
     (coded× coded_locks
     (coded× (coded_list (coded_option coded_ℕ))
-    (coded× coded_journal (coded× (coded_list (coded_list coded_ℕ)) (coded_list (coded_option hand_contract.the_row.coded))))))))
-    (λ (s : StoreState D). (s.pages, (s.transactions, (s.locks, (s.rights, (s.journal, (s.names, s.hands)))))))
-    (λ p. record { pages = p.0; transactions = p.1.0; locks = p.1.1.0; rights = p.1.1.1.0; journal = p.1.1.1.1.0; names = p.1.1.1.1.1.0; hands = p.1.1.1.1.1.1 }) (λ _. refl)
+    (coded× coded_journal
+    (coded× (coded_list (coded× coded_ℕ coded_ℕ))
+    (coded× (coded_list (coded_list dropped_contract.the_row.coded)) (coded× (coded_list (coded_list coded_ℕ)) (coded_list (coded_option hand_contract.the_row.coded))))))))))
+    (λ (s : StoreState D). (s.pages, (s.transactions, (s.locks, (s.rights, (s.journal, (s.queue, (s.dropped, (s.names, s.hands)))))))))
+    (λ p. record {
+      pages = p.0;
+      transactions = p.1.0;
+      locks = p.1.1.0;
+      rights = p.1.1.1.0;
+      journal = p.1.1.1.1.0;
+      queue = p.1.1.1.1.1.0;
+      dropped = p.1.1.1.1.1.1.0;
+      names = p.1.1.1.1.1.1.1.0;
+      hands = p.1.1.1.1.1.1.1.1;
+    }) (λ _. refl)

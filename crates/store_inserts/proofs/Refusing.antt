@@ -102,6 +102,7 @@ module _ {D : Type 0} (told : D → Told) (changes : HandChanges) (of_stores : F
     leaves = left.leaves;
     transactions = theirs;
     locks = left.others;
+    dropped = λ m apart. refl;
     promised = let less = left.promised in omega (arith, share_now, share_was, less);
   })
 
@@ -156,6 +157,7 @@ module _ {D : Type 0} (told : D → Told) (changes : HandChanges) (of_stores : F
       leaves = left.leaves;
       transactions = λ m other. refl;
       locks = left.others;
+      dropped = λ m apart. refl;
       promised = let same = left.share in let promised = left.promised in omega (arith, same, promised);
     });
     stays = λ names hand_list has. enters_none told _ _ was hand error left.entries left.statement;

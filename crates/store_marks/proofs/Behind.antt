@@ -64,7 +64,7 @@ module _ {D : Type 0} (told : D → Told) (old : Parts D) (pages : View D) (n : 
   still_in_use table hit used tells = subst (λ (l : DiskLayout). IsInUse l pages.pages table hit.spot) (sym keeps.leaves.layout) (subst (λ (map : PageMap). IsInUse old.pages.layout map table hit.spot) (sym (keeps.pages tells)) used)
 
   pub behind : (new : Parts D) (answer : Stepped) → old.pages.failed ≡ None → pages.failed ≡ None → StepsSo told mid new n (hands.Marks marking) answer → StepsSo told old new n (hands.Marks marking) answer
-  behind new answer ready still steps = steps_behind told old mid new n (hands.Marks marking) answer keeps ready still (record { transactions = refl; locks = refl; rights = refl; journal = refl }) steps
+  behind new answer ready still steps = steps_behind told old mid new n (hands.Marks marking) answer keeps ready still (record { transactions = refl; locks = refl; rights = refl; journal = refl; queue = refl; dropped = refl }) steps
 
 -- the row of the next hit stands on the pages
 pub in_use : {D : Type 0} (told : D → Told) (sessions : SessionsAreShown) (copies : CopyStands) (parts : Parts D) (n : ℕ) (marking : Marking) (hit : Hit) → IsFit told parts n (hands.Marks marking)

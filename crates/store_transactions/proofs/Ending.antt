@@ -103,6 +103,8 @@ pub record EndsSo {D : Type 0} (told : D → Told) (old new : Parts D) (n : ℕ)
   pub room : length new.journal.entries ≤ MAX_ENTRIES
   pub locks : new.locks ≡ old.locks
   pub rights : new.rights ≡ old.rights
+  pub queue : new.queue ≡ old.queue
+  pub dropped : new.dropped ≡ old.dropped
 
 module _ {D : Type 0} (told : D → Told) (with_laws : EndLaws) (old new : Parts D) (n : ℕ) (hand : Hand) (e : Entry) (answer : Answer) (reply : Reply) (so : EndsSo told old new n hand e answer reply) where
   first_same : new.transactions.tx.first ≡ old.transactions.tx.first
@@ -135,6 +137,8 @@ module _ {D : Type 0} (told : D → Told) (with_laws : EndLaws) (old new : Parts
     pages = λ place apart. so.rest.pages tells place apart;
     locks = so.locks;
     rights = so.rights;
+    queue = so.queue;
+    dropped = so.dropped;
   }
 
   request : DoesRequestNow told old new n hand e answer reply
@@ -202,6 +206,8 @@ module _ {D : Type 0} (told : D → Told) (laws : TransactionLaws) (old : Parts 
       over = over;
       locks = refl;
       rights = refl;
+      queue = refl;
+      dropped = refl;
       entries = so.room;
       none_held = none_held;
       promised = promised;
@@ -240,6 +246,8 @@ module _ {D : Type 0} (told : D → Told) (laws : TransactionLaws) (old : Parts 
         room = more_entries (request_entry n 0 requests.Commit) longer;
         locks = refl;
         rights = refl;
+        queue = refl;
+        dropped = refl;
       })
 
   pub rolls_back : IsFit told old n hands.RollsBack → IsSome (transaction_of old.transactions.opens n)
@@ -267,4 +275,6 @@ module _ {D : Type 0} (told : D → Told) (laws : TransactionLaws) (old : Parts 
         room = more_entries (request_entry n 0 requests.Rollback) longer;
         locks = refl;
         rights = refl;
+        queue = refl;
+        dropped = refl;
       })
