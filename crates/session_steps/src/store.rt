@@ -1,0 +1,198 @@
+//! The store of sessions.
+
+ghost use Rattle.std.specs.Prelude.{◌≡◌, ◌<◌, [], length, slice_index_or, None, IfOk, IfErr, OnOk, OnErr, IsSome};
+ghost use Rattle.std.specs.Option.{is_some};
+ghost use Rattle.statements.specs.StatementFits.{IsStatementFor};
+ghost use Rattle.page_store.specs.Keeps.{Leaves, Tells};
+ghost use Rattle.engine_pages.specs.Kinds.{LeavesNothing};
+ghost use Rattle.line_texts.specs.LineTexts.{Submits, named};
+ghost use Rattle.line_texts.specs.Place.{Place};
+ghost use Rattle.line_texts.specs.Starts.{IsStart};
+ghost use Rattle.store_parts.specs.ShowsPlace.{ShowsPlace};
+ghost use Rattle.store_parts.specs.StepAnswers.{HasFaultCause, StaysReady};
+ghost use Rattle.store_parts.specs.StepIs.{LeadsOn, StepIs};
+ghost use Rattle.store_parts.specs.StoreStates.{hand_at};
+ghost use Rattle.session_steps.specs.Sessions.{HasSession, IsInHandThen, NamesASession, refusal_in};
+ghost use Rattle.session_steps.specs.Submitting.{refusal_here};
+
+use crate::faults::SessionFault;
+use crate::laws::laws_of_sessions;
+use crate::sessions::{
+    Session, add_session, has_hand, number_of, put_hand, put_spare, take_hand, take_spare,
+};
+use crate::steps::{answered, step_of};
+use crate::submitting::{block_refusal, hand_for, standing_refusal};
+use crate::waiting::new_parts;
+use block_model::{Entry, Name, NoMemory, Refusal};
+use disk_trait::Disk;
+use statements::{MAX_SESSIONS, Statement};
+use std::alloc::Global;
+use std::marker::Model;
+use store_layout::Layout;
+use store_parts::{Parts, Step, StoreFault, few_locks_are_held};
+
+/// A store of sessions over pages on a disk.
+#[derive(Drop)]
+pub struct Store<D: Disk + Drop> {
+    parts: Parts<D>,
+    /// The sessions by their numbers.
+    sessions: Vec<Session>,
+}
+
+impl<D: Disk + Drop> Model for Store<D> {
+    ghost use Rattle.store_parts.specs.StoreStates.{StoreState, store_of};
+    ghost use Rattle.session_steps.specs.SessionLists.{hands_of, names_of, spares_of};
+    ghost use Rattle.session_steps.specs.StoreCode.{coded_store};
+    ghost use Rattle.session_steps.specs.StoreKept.{IsStoreKept};
+
+    ghost Value = { StoreState D };
+
+    ghost coded = { coded_store D.code };
+
+    ghost view = { λ a. store_of a.parts (names_of a.sessions.items) (hands_of a.sessions.items) };
+
+    ghost invariant = { λ a. IsStoreKept D.told (store_of a.parts (names_of a.sessions.items) (hands_of a.sessions.items)) (spares_of a.sessions.items) };
+}
+
+impl<D: Disk + Drop> Store<D> {
+    /// A store of this layout, without sessions and rows, on pages in memory alone, beside a disk that no call touches.
+    pub fn plain(alloc: Global, disk: D, layout: Layout) -> Result<Store<D>, NoMemory>
+        requires nothing { LeavesNothing (D.told disk) }
+        ensures starts { IfOk result (λ store. Tells D.told store.pages → (p : Place) × IsStart layout p × ShowsPlace store p) }
+        ensures disk { IfOk result (λ store. store.pages.disk ≡ disk) }
+        ensures layout { IfOk result (λ store. store.pages.layout ≡ layout) }
+        ensures ready { IfOk result (λ store. store.pages.failed ≡ None) }
+    {
+        let parts = new_parts(alloc, disk, layout)?;
+        laws_of_sessions(&parts);
+        let sessions = Vec::new(alloc);
+        Ok(Store { parts, sessions })
+    }
+
+    /// Does nothing; tells its caller what every store shows where its disk tells its contents and no disk fault was kept.
+    pub fn known(&self)
+        ensures shown { Tells D.told self.now.pages → self.now.pages.failed ≡ None → (p : Place) × ShowsPlace self.now p }
+    {
+        // The toolchain opens the invariant where a field is read.
+        let _ = &self.parts;
+    }
+
+    /// The tables, indexes and sizes.
+    pub fn layout(&self) -> &Layout
+        ensures { result.now ≡ self.now.pages.layout }
+    {
+        self.parts.pages.layout()
+    }
+
+    /// The number of the session of that name, from 0 in the order in which they were made; it is made where it is new. `Limit`
+    /// comes exactly where it would be one more than there may be. After a refusal nothing is changed.
+    pub fn session(&mut self, name: Name) -> Result<u32, SessionFault>
+        ensures named { HasSession self.old name self.new result }
+        ensures places { IfOk result (λ n. LeadsOn D.told self.old self.new (λ p q. q ≡ named p name)) }
+    {
+        laws_of_sessions(&self.parts);
+        let number = number_of(self.sessions.as_slice(), &name);
+        if number >= MAX_SESSIONS {
+            return Err(SessionFault::Limit {
+                limit: MAX_SESSIONS as u64,
+            });
+        }
+        if number == self.sessions.len() {
+            let Ok(()) = add_session(&mut self.sessions, name) else {
+                return Err(SessionFault::Memory);
+            };
+        }
+        Ok(number as u32)
+    }
+
+    /// Takes a statement of the session, whose steps do it then. It is refused where one is in hand, where its block isn't below the greatest
+    /// number of blocks, or where its transaction doesn't allow it; a begin, an explain and maintenance also for want of memory. Nothing is
+    /// changed then.
+    pub fn submit(&mut self, session: u32, statement: Statement) -> Result<(), Refusal>
+        requires session { session < length self.old.names }
+        requires statement { IsStatementFor self.old.pages.layout.schema statement }
+        ensures submits { LeadsOn D.told self.old self.new (λ p q. Submits p session statement (refusal_in result) q) }
+        ensures pages { self.new.pages ≡ self.old.pages }
+        ensures names { self.new.names ≡ self.old.names }
+        ensures same { OnErr result (self.new ≡ self.old) }
+        ensures in_hand { OnOk result (IsSome (hand_at self.new session)) }
+    {
+        laws_of_sessions(&self.parts);
+        if let Some(refusal) = self.refusal(session, &statement) {
+            return Err(refusal);
+        }
+        let Ok(hand) = hand_for(&mut self.parts, statement) else {
+            return Err(Refusal::Memory);
+        };
+        put_hand(&mut self.sessions, session, Some(hand));
+        Ok(())
+    }
+
+    /// Makes one step of the statement that the session has in hand. `Spent` comes exactly where the requests that it would enter don't
+    /// all fit into the journal; nothing is changed then, nor where it is blocked. Where a page is refused the statement stays in hand too.
+    pub fn step(&mut self, session: u32) -> Result<Step, StoreFault>
+        requires { IsSome (hand_at self.old session) }
+        ensures steps { LeadsOn D.told self.old self.new (λ p q. StepIs p session result q) }
+        ensures hand { IsInHandThen result (hand_at self.new session) }
+        ensures holder { IfOk result (NamesASession (length self.old.names)) }
+        ensures names { self.new.names ≡ self.old.names }
+        ensures leaves { Leaves D.told self.old.pages self.new.pages }
+        ensures journal { OnErr result (self.new.journal.entries ≡ self.old.journal.entries) }
+        ensures ready { OnOk result (StaysReady self.old.pages self.new.pages) }
+        ensures cause { IfErr result (HasFaultCause D.told self.old.pages self.new.pages) }
+    {
+        laws_of_sessions(&self.parts);
+        few_locks_are_held(&self.parts.locks);
+        let hand = take_hand(&mut self.sessions, session);
+        let mut spare = take_spare(&mut self.sessions, session);
+        let stepped = step_of(&mut self.parts, session, hand, &mut spare);
+        let (answer, hand) = answered(stepped);
+        put_spare(&mut self.sessions, session, spare);
+        put_hand(&mut self.sessions, session, hand);
+        answer
+    }
+
+    /// Whether the session has a statement in hand.
+    pub fn in_hand(&self, session: u32) -> bool
+        requires { session < length self.now.names }
+        ensures { result ≡ is_some (hand_at self.now session) }
+    {
+        has_hand(self.sessions.as_slice(), session)
+    }
+
+    /// The session's name.
+    pub fn name_of(&self, session: u32) -> Name
+        requires { session < length self.now.names }
+        ensures { result ≡ slice_index_or self.now.names session [] }
+    {
+        self.sessions[session as usize].name
+    }
+
+    /// The requests of all statements so far, in their order. Only tests ask for them.
+    pub fn journal(&self) -> &[Entry]
+        ensures { result.now ≡ self.now.journal.entries }
+    {
+        self.parts.journal.as_slice()
+    }
+
+    /// The disk, as it is: open transactions are dropped as by a stop. Makes no device call.
+    pub fn into_disk(self) -> D
+        ensures { result ≡ self.pages.disk }
+    {
+        self.parts.pages.into_disk()
+    }
+
+    /// Why a statement of the session isn't taken.
+    fn refusal(&self, session: u32, statement: &Statement) -> Option<Refusal>
+        requires { session < length self.now.names }
+        ensures { result ≡ refusal_here self.now session statement.now }
+    {
+        if has_hand(self.sessions.as_slice(), session) {
+            return Some(Refusal::InHand);
+        }
+        if let Some(refusal) = block_refusal(self.parts.pages.layout(), statement) {
+            return Some(refusal);
+        }
+        standing_refusal(self.parts.transactions.standing(session), statement)
+    }
+}

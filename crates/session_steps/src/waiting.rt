@@ -1,0 +1,119 @@
+//! Stand-ins for what other crates make.
+
+ghost use Rattle.std.specs.Prelude.{◌≡◌, ◌+◌, ◌≤◌, ◌<◌, ℕ, [], None, IfOk};
+ghost use Rattle.engine_pages.specs.Kinds.{LeavesNothing};
+ghost use Rattle.page_locks.specs.LockHolders.{count_of};
+ghost use Rattle.page_store.specs.Keeps.{Tells};
+ghost use Rattle.brin_insert.specs.Inserts.{AsksNothing};
+ghost use Rattle.line_texts.specs.Place.{Place};
+ghost use Rattle.line_texts.specs.Starts.{IsStart};
+ghost use Rattle.store_parts.specs.declared.limits.TheConstants.{LOCKS_A_SESSION, MAX_LOCKS};
+ghost use Rattle.store_parts.specs.ShowsPlace.{ShowsPlace};
+ghost use Rattle.store_parts.specs.StepAnswers.{HasCause};
+ghost use Rattle.store_parts.specs.Stepping.{IsFit, IsShown, LeavesTheOthers, MakesItsStep, StaysFit, StaysUndone};
+ghost use Rattle.store_parts.specs.StoreStates.{store_of};
+ghost use Rattle.session_steps.specs.NewParts.{AreNewParts};
+
+use block_model::{NoMemory, Query};
+use brin_scan::Scan;
+use brin_summarise::Summarise;
+use disk_trait::Disk;
+use std::alloc::Global;
+use store_layout::Layout;
+use store_parts::{Parts, Stepped};
+
+pub(crate) fn begin_select<D: Disk + Drop>(
+    parts: &mut Parts<D>,
+    session: u32,
+    query: Query,
+) -> Stepped
+    requires fit { IsFit D.told parts.old session (Hand.Selecting query) }
+    requires shown { IsShown D.told parts.old session (Hand.Selecting query) }
+    ensures steps { MakesItsStep D.told parts.old parts.new session (Hand.Selecting query) result }
+    ensures fit { StaysFit D.told parts.old parts.new session (Hand.Selecting query) result }
+    ensures others { LeavesTheOthers D.told parts.old parts.new session (Hand.Selecting query) result }
+    ensures stays { StaysUndone D.told parts.old parts.new session (Hand.Selecting query) result }
+    ensures cause { HasCause D.told parts.old.pages parts.new.pages result }
+{
+    unreachable!()
+}
+
+pub(crate) fn select_on<D: Disk + Drop>(parts: &mut Parts<D>, session: u32, scan: Scan) -> Stepped
+    requires fit { IsFit D.told parts.old session (Hand.Selects scan) }
+    requires shown { IsShown D.told parts.old session (Hand.Selects scan) }
+    ensures steps { MakesItsStep D.told parts.old parts.new session (Hand.Selects scan) result }
+    ensures fit { StaysFit D.told parts.old parts.new session (Hand.Selects scan) result }
+    ensures others { LeavesTheOthers D.told parts.old parts.new session (Hand.Selects scan) result }
+    ensures stays { StaysUndone D.told parts.old parts.new session (Hand.Selects scan) result }
+    ensures cause { HasCause D.told parts.old.pages parts.new.pages result }
+{
+    unreachable!()
+}
+
+pub(crate) fn begin_delete<D: Disk + Drop>(
+    parts: &mut Parts<D>,
+    session: u32,
+    query: Query,
+) -> Stepped
+    requires fit { IsFit D.told parts.old session (Hand.Deleting query) }
+    requires shown { IsShown D.told parts.old session (Hand.Deleting query) }
+    ensures steps { MakesItsStep D.told parts.old parts.new session (Hand.Deleting query) result }
+    ensures fit { StaysFit D.told parts.old parts.new session (Hand.Deleting query) result }
+    ensures others { LeavesTheOthers D.told parts.old parts.new session (Hand.Deleting query) result }
+    ensures stays { StaysUndone D.told parts.old parts.new session (Hand.Deleting query) result }
+    ensures cause { HasCause D.told parts.old.pages parts.new.pages result }
+{
+    unreachable!()
+}
+
+pub(crate) fn delete_on<D: Disk + Drop>(parts: &mut Parts<D>, session: u32, scan: Scan) -> Stepped
+    requires fit { IsFit D.told parts.old session (Hand.Deletes scan) }
+    requires shown { IsShown D.told parts.old session (Hand.Deletes scan) }
+    ensures steps { MakesItsStep D.told parts.old parts.new session (Hand.Deletes scan) result }
+    ensures fit { StaysFit D.told parts.old parts.new session (Hand.Deletes scan) result }
+    ensures others { LeavesTheOthers D.told parts.old parts.new session (Hand.Deletes scan) result }
+    ensures stays { StaysUndone D.told parts.old parts.new session (Hand.Deletes scan) result }
+    ensures cause { HasCause D.told parts.old.pages parts.new.pages result }
+{
+    unreachable!()
+}
+
+pub(crate) fn summarise_on<D: Disk + Drop>(
+    parts: &mut Parts<D>,
+    session: u32,
+    summarise: Summarise,
+) -> Stepped
+    requires fit { IsFit D.told parts.old session (Hand.Summarises summarise) }
+    requires few { count_of parts.old.locks + LOCKS_A_SESSION ≤ MAX_LOCKS }
+    requires shown { IsShown D.told parts.old session (Hand.Summarises summarise) }
+    ensures steps { MakesItsStep D.told parts.old parts.new session (Hand.Summarises summarise) result }
+    ensures fit { StaysFit D.told parts.old parts.new session (Hand.Summarises summarise) result }
+    ensures others { LeavesTheOthers D.told parts.old parts.new session (Hand.Summarises summarise) result }
+    ensures stays { StaysUndone D.told parts.old parts.new session (Hand.Summarises summarise) result }
+    ensures cause { HasCause D.told parts.old.pages parts.new.pages result }
+{
+    unreachable!()
+}
+
+/// No index asks for summaries.
+pub(crate) fn nothing_is_asked(_layout: &Layout)
+    ensures { (table : ℕ) → AsksNothing _layout.now table }
+{
+    unreachable!()
+}
+
+/// The parts of a new store of this layout, on pages in memory alone, beside a disk that no call touches.
+pub(crate) fn new_parts<D: Disk + Drop>(
+    _alloc: Global,
+    disk: D,
+    layout: Layout,
+) -> Result<Parts<D>, NoMemory>
+    requires nothing { LeavesNothing (D.told disk) }
+    ensures new { IfOk result (AreNewParts D.told) }
+    ensures starts { IfOk result (λ parts. Tells D.told parts.pages → (p : Place) × IsStart layout p × ShowsPlace (store_of parts [] []) p) }
+    ensures disk { IfOk result (λ parts. parts.pages.disk ≡ disk) }
+    ensures layout { IfOk result (λ parts. parts.pages.layout ≡ layout) }
+    ensures ready { IfOk result (λ parts. parts.pages.failed ≡ None) }
+{
+    unreachable!()
+}
