@@ -18,7 +18,7 @@ use Rattle.store_parts.specs.StoreStates.{hand_in, store_of}
 use Rattle.session_steps.specs.SessionLaws.{SessionLaws}
 use Rattle.session_steps.specs.StoreKept.{HoldsNothing, IsStoreKept}
 use Rattle.session_steps.proofs.Lists.{inside}
-use Rattle.session_steps.proofs.Waiting.{rights_stay}
+use Rattle.session_steps.proofs.Awaited.{rights_stay}
 
 module _ {D : Type 0} (told : D → Told) (laws : SessionLaws told) (parts : Parts D) (names : List (List ℕ)) (hands : List (Option Hand)) (spares : List (Option Insert))
     (kept : IsStoreKept told (store_of parts names hands) spares) where

@@ -1,7 +1,7 @@
 pub mod Lists
 pub mod Kept
 pub mod Stepping
-pub mod Submitting
+pub mod Taking
 pub mod Naming
 pub mod New
-pub mod Waiting
+pub mod Awaited

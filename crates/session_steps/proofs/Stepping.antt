@@ -28,7 +28,7 @@ use Rattle.session_steps.specs.Sessions.{IsInHandThen, NamesASession}
 use Rattle.session_steps.specs.StoreKept.{IsStoreKept}
 use Rattle.session_steps.proofs.Kept.{fits_now, nobody_now, promised_now, session_below}
 use Rattle.session_steps.proofs.Lists.{spares_set}
-use Rattle.session_steps.proofs.Waiting.{IsHolderOf, names_a_holder}
+use Rattle.session_steps.proofs.Awaited.{IsHolderOf, names_a_holder}
 
 -- all that a step of the store promises
 pub record IsStepOf {D : Type 0} (told : D → Told) (old new : StoreState D) (n : ℕ) (answer : Result Step StoreFault) : Type 0 where
