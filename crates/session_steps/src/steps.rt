@@ -8,14 +8,13 @@ ghost use Rattle.store_parts.specs.StepAnswers.{HasCause};
 ghost use Rattle.store_parts.specs.StepIs.{answer_of, hand_after};
 ghost use Rattle.store_parts.specs.Stepping.{IsFit, IsShown, LeavesTheOthers, MakesItsStep, StaysFit, StaysUndone};
 
-use crate::waiting::{begin_delete, begin_select, delete_on, select_on, summarise_on};
+use crate::waiting::{
+    begin, begin_delete, begin_select, commit, delete_on, desummarise_on, explain_on, insert_on,
+    mark, put_row, roll_back, select_on, summarise_on,
+};
 use brin_insert::Insert;
 use disk_trait::Disk;
-use store_inserts::{insert_on, put_row};
-use store_marks::mark;
 use store_parts::{Hand, Parts, Step, StoreFault, Stepped};
-use store_transactions::{begin, commit, roll_back};
-use store_upkeep::explain_on;
 
 /// Makes the next step of the statement. The session's spare machine serves the next row of its table.
 pub(crate) fn step_of<D: Disk + Drop>(
@@ -48,6 +47,7 @@ pub(crate) fn step_of<D: Disk + Drop>(
         Hand::Marks(marking) => mark(parts, session, marking),
         Hand::Explains(explain) => explain_on(parts, session, explain),
         Hand::Summarises(summarise) => summarise_on(parts, session, summarise),
+        Hand::Desummarises(desummarise) => desummarise_on(parts, session, desummarise),
     }
 }
 

@@ -6,8 +6,8 @@ ghost use Rattle.line_texts.specs.LineTexts.{block_refusal, may_want_memory};
 ghost use Rattle.statements.specs.StatementFits.{IsQueryFor, IsStatementFor};
 ghost use Rattle.session_steps.specs.Submitting.{TakesHand, begin_refusal, end_refusal, request_refusal, standing_refusal};
 
-use crate::waiting::nothing_is_asked;
 use block_model::{NoMemory, Query, Refusal, Values};
+use brin_desummarise::Desummarise;
 use brin_scan::Explain;
 use brin_summarise::{Summarise, Wish};
 use disk_trait::Disk;
@@ -103,9 +103,8 @@ pub(crate) fn hand_for<D: Disk + Drop>(
         Statement::Delete(query) => Ok(Hand::Deleting(query)),
         Statement::Explain(query) => explain_hand(parts, query),
         Statement::Summarize { index, block } => summarise_hand(parts, index, block),
-        Statement::Desummarize { .. } | Statement::Vacuum { .. } | Statement::Work => {
-            unreachable!()
-        }
+        Statement::Desummarize { index, block } => desummarise_hand(parts, index, block),
+        Statement::Vacuum { .. } | Statement::Work => unreachable!(),
     }
 }
 
@@ -122,7 +121,6 @@ fn insert_hand<D: Disk + Drop>(parts: &Parts<D>, table: u8, values: Values) -> H
     requires { IsStatementFor parts.now.pages.layout.schema (Statement.Insert table values) }
     ensures { TakesHand parts.now parts.now (Statement.Insert table values) result }
 {
-    nothing_is_asked(parts.pages.layout());
     Hand::Puts { table, values }
 }
 
@@ -148,4 +146,16 @@ fn summarise_hand<D: Disk + Drop>(
     };
     let summarise = Summarise::new(parts.alloc, index, wish, parts.pages.layout())?;
     Ok(Hand::Summarises(summarise))
+}
+
+fn desummarise_hand<D: Disk + Drop>(
+    parts: &Parts<D>,
+    index: u8,
+    block: u32,
+) -> Result<Hand, NoMemory>
+    requires { index < length parts.now.pages.layout.schema.indexes }
+    ensures { IfOk result (TakesHand parts.now parts.now (Statement.Desummarize index block)) }
+{
+    let desummarise = Desummarise::new(parts.alloc, index, block)?;
+    Ok(Hand::Desummarises(desummarise))
 }
