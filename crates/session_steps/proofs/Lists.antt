@@ -1,8 +1,8 @@
 -- lists by the sessions' numbers, where one element changes or one is added
-use Rattle.std.proofs.Common.{◌≡◌, ◌≢◌, ℕ, zero, suc, ◌<◌, List, [], ◌∷◌, ◌++◌, length, get_or, set, map, true, false, Option, None, Some, IfSome, if◌then◌else◌, refl, sym, ap, subst, ◌∙◌, get_or-set_same, get_or-set_other, arith, Bool}
+use Rattle.std.proofs.Common.{◌≡◌, ◌≢◌, inl, inr, ℕ, zero, suc, ◌<◌, List, [], ◌∷◌, ◌++◌, length, get_or, set, Option, None, Some, IfSome, refl, sym, ap, subst, ◌∙◌, get_or-set_same, get_or-set_other, arith}
 use Rattle.std.proofs.Math.ListN.{get_or-map}
 use Rattle.std.proofs.lemmas.Bool.{cases_eq}
-use Rattle.std.proofs.lemmas.List.{map-set, set-get_or, set-set}
+use Rattle.std.proofs.lemmas.List.{map-set, set-get_or}
 use Rattle.std.proofs.lemmas.Option.{none-some}
 use Rattle.brin_insert.specs.declared.insert.Insert.{Insert}
 use Rattle.store_parts.specs.declared.hand.Hand.{Hand}

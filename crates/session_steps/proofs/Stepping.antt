@@ -19,8 +19,8 @@ use Rattle.store_parts.specs.declared.parts.Parts.{Parts}
 use Rattle.store_parts.specs.ShowsPlace.{ShowsPlace}
 use Rattle.store_parts.specs.StepAnswers.{HasCause, HasFaultCause, LeavesSessions, StaysReady, StaysWhereUndone}
 use Rattle.store_parts.specs.StepIs.{LeadsOn, StepIs, answer_of, hand_after}
-use Rattle.store_parts.specs.Stepping.{LeavesTheOthers, MakesItsStep, StaysFit, StaysUndone}
 use Rattle.store_parts.specs.StoreLaws.{HasHand}
+use Rattle.store_parts.specs.UndoneLaws.{StepsSo}
 use Rattle.store_parts.specs.StoreStates.{StoreState, hand_at, hand_in, store_of, with_hand}
 use Rattle.session_steps.specs.SessionLaws.{SessionLaws}
 use Rattle.session_steps.specs.SessionLists.{spare_in}
@@ -89,8 +89,7 @@ module _ {D : Type 0} (told : D → Told) (old new : StoreState D) (n : ℕ) (ha
 
 module _ {D : Type 0} (told : D → Told) (laws : SessionLaws told) (parts : Parts D) (names : List (List ℕ)) (hands : List (Option Hand)) (spares : List (Option Insert))
     (kept : IsStoreKept told (store_of parts names hands) spares) (new : Parts D) (n : ℕ) (hand : Hand) (is : hand_in hands n ≡ Some hand) (answer : Stepped)
-    (steps : MakesItsStep told parts new n hand answer) (fit : StaysFit told parts new n hand answer) (leaves : LeavesTheOthers told parts new n hand answer)
-    (stays : StaysUndone told parts new n hand answer) (cause : HasCause told parts.pages new.pages answer) where
+    (so : StepsSo told parts new n hand answer) where
   abbrev now : List (Option Hand)
   now = with_hand hands n (hand_after answer)
 
@@ -101,7 +100,7 @@ module _ {D : Type 0} (told : D → Told) (laws : SessionLaws told) (parts : Par
   after = store_of new names now
 
   others : LeavesSessions told before after n
-  others = leaves names hands is
+  others = so.others names hands is
 
   changes : HasHand hands now n (hand_after answer)
   changes = laws.changes hands n hand (hand_after answer) is
@@ -112,9 +111,9 @@ module _ {D : Type 0} (told : D → Told) (laws : SessionLaws told) (parts : Par
   shown_now : Tells told new.pages → new.pages.failed ≡ None → (p : Place) × ShowsPlace after p
   shown_now tells ready =
       let told_before = sym others.leaves.tells ∙ tells in
-      let ready_before = was_ready told before after n hand answer cause ready in
+      let ready_before = was_ready told before after n hand answer so.cause ready in
       let was = kept.shown told_before ready_before in
-      let led = steps names hands is told_before ready_before ready was.0 was.1 in
+      let led = so.steps names hands is told_before ready_before ready was.0 was.1 in
       (led.0, led.1)
 
   -- a number that holds something is one of a session
@@ -132,9 +131,9 @@ module _ {D : Type 0} (told : D → Told) (laws : SessionLaws told) (parts : Par
     few_sessions = kept.few_sessions;
     a_hand_each = length-set hands n (hand_after answer) ∙ kept.a_hand_each;
     a_spare_each = length-set spares n spare ∙ kept.a_spare_each;
-    fits = fits_now told laws parts names hands spares kept new n now (hand_after answer) there changes (fit names hands is) others;
-    nobody = nobody_now told laws parts names hands spares kept new n now (hand_after answer) there changes (fit names hands is) others;
-    promised = promised_now told laws parts names hands spares kept new n now (hand_after answer) there changes (fit names hands is) others;
+    fits = fits_now told laws parts names hands spares kept new n now (hand_after answer) there changes (so.fit names hands is) others;
+    nobody = nobody_now told laws parts names hands spares kept new n now (hand_after answer) there changes (so.fit names hands is) others;
+    promised = promised_now told laws parts names hands spares kept new n now (hand_after answer) there changes (so.fit names hands is) others;
     spares = subst (λ (layout : DiskLayout). (m : ℕ) → IfSome (spare_in (set spares n spare) m) (IsInsertFor layout)) (sym others.leaves.layout)
         (spares_set (IsInsertFor parts.pages.layout) spares n spare (omega (arith, there, kept.a_spare_each)) kept.spares fits);
     shown = shown_now;
@@ -142,12 +141,12 @@ module _ {D : Type 0} (told : D → Told) (laws : SessionLaws told) (parts : Par
 
   pub is_step : IsStepOf told before after n (answer_of answer)
   is_step = record {
-    steps = steps names hands is;
+    steps = so.steps names hands is;
     hand = subst (λ (h : Option Hand). IsInHandThen (answer_of answer) h) (sym changes.own) (hand_then answer);
-    holder = holder_is told before after n hand answer is_session (stays names hands is);
+    holder = holder_is told before after n hand answer is_session (so.stays names hands is);
     names = refl;
     leaves = others.leaves;
-    journal = enters_nothing told before after n hand answer (stays names hands is);
-    ready = stays_ready told before after n hand answer cause;
-    cause = fault_cause told before after n hand answer cause;
+    journal = enters_nothing told before after n hand answer (so.stays names hands is);
+    ready = stays_ready told before after n hand answer so.cause;
+    cause = fault_cause told before after n hand answer so.cause;
   }

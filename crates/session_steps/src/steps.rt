@@ -4,9 +4,9 @@ ghost use Rattle.std.specs.Prelude.{◌≡◌, ◌+◌, ◌≤◌, IfSome};
 ghost use Rattle.page_locks.specs.LockHolders.{count_of};
 ghost use Rattle.brin_insert.specs.Inserts.{IsInsertFor};
 ghost use Rattle.store_parts.specs.declared.limits.TheConstants.{LOCKS_A_SESSION, MAX_LOCKS};
-ghost use Rattle.store_parts.specs.StepAnswers.{HasCause};
 ghost use Rattle.store_parts.specs.StepIs.{answer_of, hand_after};
-ghost use Rattle.store_parts.specs.Stepping.{IsFit, IsShown, LeavesTheOthers, MakesItsStep, StaysFit, StaysUndone};
+ghost use Rattle.store_parts.specs.Stepping.{IsFit, IsShown};
+ghost use Rattle.store_parts.specs.UndoneLaws.{StepsSo};
 
 use crate::waiting::{
     begin, begin_delete, begin_select, commit, delete_on, desummarise_on, explain_on, insert_on,
@@ -27,11 +27,7 @@ pub(crate) fn step_of<D: Disk + Drop>(
     requires few { count_of parts.old.locks + LOCKS_A_SESSION ≤ MAX_LOCKS }
     requires shown { IsShown D.told parts.old session hand }
     requires spare { IfSome spare.old (IsInsertFor parts.old.pages.layout) }
-    ensures steps { MakesItsStep D.told parts.old parts.new session hand result }
-    ensures fit { StaysFit D.told parts.old parts.new session hand result }
-    ensures others { LeavesTheOthers D.told parts.old parts.new session hand result }
-    ensures stays { StaysUndone D.told parts.old parts.new session hand result }
-    ensures cause { HasCause D.told parts.old.pages parts.new.pages result }
+    ensures so { StepsSo D.told parts.old parts.new session hand result }
     ensures spare { IfSome spare.new (IsInsertFor parts.old.pages.layout) }
 {
     match hand {

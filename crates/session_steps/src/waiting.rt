@@ -22,7 +22,7 @@ use brin_summarise::Summarise;
 use disk_trait::Disk;
 use std::alloc::Global;
 use store_layout::Layout;
-use store_parts::{Marking, Parts, Stepped};
+use store_parts::{Hand, Marking, Parts, Stepped};
 
 pub(crate) fn begin<D: Disk + Drop>(
     parts: &mut Parts<D>,
