@@ -40,7 +40,7 @@ kept_new told layout parts new starts = record {
   fits = fits;
   nobody = λ n high. record { transaction = new.idle n; locks = new.locks n; rights = λ table is. none-some n (sym (new.free table) ∙ is) };
   promised = new.promised ∙ sym (no_shares MAX_SESSIONS parts.transactions.opens new.idle);
-  spares = λ n. tt;
+  spare = λ n. tt;
   shown = λ tells ready. let start = starts tells in (start.0, start.2);
 }
   where

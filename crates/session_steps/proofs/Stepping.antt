@@ -134,8 +134,8 @@ module _ {D : Type 0} (told : D → Told) (laws : SessionLaws told) (parts : Par
     fits = fits_now told laws parts names hands spares kept new n now (hand_after answer) there changes (so.fit names hands is) others;
     nobody = nobody_now told laws parts names hands spares kept new n now (hand_after answer) there changes (so.fit names hands is) others;
     promised = promised_now told laws parts names hands spares kept new n now (hand_after answer) there changes (so.fit names hands is) others;
-    spares = subst (λ (layout : DiskLayout). (m : ℕ) → IfSome (spare_in (set spares n spare) m) (IsInsertFor layout)) (sym others.leaves.layout)
-        (spares_set (IsInsertFor parts.pages.layout) spares n spare (omega (arith, there, kept.a_spare_each)) kept.spares fits);
+    spare = subst (λ (layout : DiskLayout). (m : ℕ) → IfSome (spare_in (set spares n spare) m) (IsInsertFor layout)) (sym others.leaves.layout)
+        (spares_set (IsInsertFor parts.pages.layout) spares n spare (omega (arith, there, kept.a_spare_each)) kept.spare fits);
     shown = shown_now;
   }
 

@@ -219,7 +219,7 @@ module _ {D : Type 0} (told : D → Told) (laws : SessionLaws told) (parts : Par
       fits = fits_now told laws parts names hands spares kept new n now (Some hand) there changes fit_now others;
       nobody = nobody_now told laws parts names hands spares kept new n now (Some hand) there changes fit_now others;
       promised = promised_now told laws parts names hands spares kept new n now (Some hand) there changes fit_now others;
-      spares = kept.spares;
+      spare = kept.spare;
       shown = λ tells ready. let was = kept.shown tells ready in (with_statement was.0 n statement, shown_there was.0 was.1);
     }
 

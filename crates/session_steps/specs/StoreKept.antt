@@ -31,5 +31,5 @@ pub record IsStoreKept {D : Type 0} (told : D → Told) (s : StoreState D) (spar
   pub fits : (n : ℕ) → n < MAX_SESSIONS → FitsStore told s n
   pub nobody : (n : ℕ) → length s.names ≤ n → HoldsNothing s n
   pub promised : s.journal.promised ≡ shares_below MAX_SESSIONS s.hands s.transactions.opens
-  pub spares : (n : ℕ) → IfSome (spare_in spares n) (IsInsertFor s.pages.layout)
+  pub spare : (n : ℕ) → IfSome (spare_in spares n) (IsInsertFor s.pages.layout)
   pub shown : Tells told s.pages → s.pages.failed ≡ None → (p : Place) × ShowsPlace s p
