@@ -28,10 +28,6 @@ abbrev pub AsksAt : DiskLayout → (n : ℕ) → Spot → Type 0
 AsksAt layout n x = IsTrue (index_at layout n).auto × (x.slot ≡ 0) × (x.block / (index_at layout n).pages_per_range * (index_at layout n).pages_per_range ≡ x.block)
     × (0 < x.block / (index_at layout n).pages_per_range)
 
--- no index of the table asks for summaries
-abbrev pub AsksNothing : DiskLayout → (table : ℕ) → Type 0
-AsksNothing layout table = (at n : ℕ) → slice_get (indexes_of layout table) at ≡ Some n → (index_at layout n).auto ≡ false
-
 -- the tuple with the row is one of the index
 abbrev pub IsOfItsIndex : DiskLayout → InsertHand → Type 0
 IsOfItsIndex layout hand = parts_of hand.widened.columns ≡ classes_of (shape_of layout hand.index)

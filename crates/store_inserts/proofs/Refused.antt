@@ -44,6 +44,7 @@ use Rattle.line_texts.specs.Requests.{refused_request}
 use Rattle.line_texts.specs.StatementSteps.{Ended, LacksRoom, Outcome, RefusesSo, Steps, StepsTo}
 use Rattle.store_parts.specs.declared.hand.Hand.{Hand}
 use Rattle.store_parts.specs.Hands.{HandShows}
+use Rattle.store_parts.specs.HandsAsk.{IsNoInsert}
 use Rattle.store_parts.specs.HandsInTables.{table_in}
 use Rattle.store_parts.specs.LeadLaws.{FailureCountsNoMore, FewerCountsFew, RequestLeads}
 use Rattle.store_parts.specs.Leaving.{GivesLocks, LeavesOthers, StepsInTable}
@@ -68,6 +69,8 @@ pub record Refuses (old new : ShownStore) (n table : ℕ) (values : List Value) 
   pub failed : new.transactions ≡ with_failed old.transactions n o
   pub entries : new.entries ≡ old.entries ++ tagged_entry n table (requests.Put values) tag ∷ []
   pub room : length old.entries + 1 ≤ MAX_ENTRIES
+  pub queue : new.queue ≡ old.queue
+  pub dropped : new.dropped ≡ old.dropped
   pub now : hand_in new.hands n ≡ None
   pub below : table < length old.layout.schema.tables
   pub was_in : (other : ℕ) → table_in old.layout (hand_in old.hands n) ≡ Some other → other ≡ table
@@ -147,7 +150,7 @@ module _ (laws : RefusalLaws) (old new : ShownStore) (n table : ℕ) (values : L
   journal_is = r.entries ∙ ap (λ (l : List Entry). l ++ e ∷ []) (sym shown.journal)
 
   -- the refusal of a statement whose turn it is
-  module _ (h : HandAt) (in_hand : p.hands n ≡ Some h) (makes : refused_request n tag h.statement ≡ e ∷ []) (account : Account) (nothing : account.dropped ≡ []) (why : causes.Refusal) (told : Refusal)
+  module _ (h : HandAt) (in_hand : p.hands n ≡ Some h) (makes : refused_request n tag h.statement ≡ e ∷ []) (account : Account) (nothing : account.dropped ≡ (p.accounts n).dropped) (why : causes.Refusal) (told : Refusal)
       (turns : TurnsIn p n h.statement table (refused_in n counts (p.tables table)) account) (because : refusal_in turns ≡ Some why) (so : RefusesSo p table h.statement why tag told) (quiet : IsQuiet ((p.tables table).task n)) where
     abbrev q : Place
     q = place_after p n table None (refused_in n counts (p.tables table)) account counts new.entries
@@ -168,11 +171,12 @@ module _ (laws : RefusalLaws) (old new : ShownStore) (n table : ℕ) (values : L
           (laws.leads old new p n None account e (fails_so (database_at p) n table copy.0 values tag failing (laws.is_failure (database_at p) n table copy.0 copy.1)).0 shown refl
           (laws.legal (database_at p) n table copy.0 values tag copy.1 copy.2) r.entries does
           (record {
-            hand = subst (λ (o : Option Hand). HandShows o None account) (sym r.now) (refl, nothing);
+            hand = subst (λ (o : Option Hand). HandShows o None account) (sym r.now) refl;
             own = λ hand is. absurd (none-some hand (sym r.now ∙ is));
             order = λ index below. same_order old new r.pages index;
           }))
-          (laws.table_shown old new stored n table (p.tables table) shows r.others r.pages r.given r.rights quiet in_none turns.step),
+          (laws.table_shown old new stored n table (p.tables table) shows r.others r.pages r.given r.rights quiet in_none turns.step)
+          (record { queue = r.queue; dropped = r.dropped; told = nothing; hand = subst IsNoInsert (sym r.now) tt }),
       record { hand = h; in_hand = in_hand; steps = steps; fits = fits },
     )
 

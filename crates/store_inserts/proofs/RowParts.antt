@@ -89,7 +89,8 @@ at_no_heap_status layout insert none same =
     omega (arith, e)
 
 -- what the put of the row left beside the pages and the locks
-pub record PutLeft {D : Type 0} (parts : Parts D) (transactions : TransactionsState) (journal : JournalState) (n : ℕ) (before : Insert) (o : Open) : Type 0 where
+pub record PutLeft {D : Type 0} (parts : Parts D) (transactions : TransactionsState) (journal : JournalState) (n : ℕ) (before after : Insert) (o : Open) : Type 0 where
+  pub none : after.dropped.items ≡ []
   pub nowhere : before.place ≡ None
   pub open_is : transaction_of parts.transactions.opens n ≡ Some o
   pub next : next_row_of o ≡ Some before.row.id
@@ -99,7 +100,7 @@ pub record PutLeft {D : Type 0} (parts : Parts D) (transactions : TransactionsSt
   pub room : length parts.journal.entries + 1 ≤ MAX_ENTRIES
 
 module _ {D : Type 0} (told : D → Told) (changes : HandChanges) (of_parts : FitOfParts told) (of_stores : FitOfStores told) (parts : Parts D) (pages : View D) (locks : LockState) (transactions : TransactionsState) (journal : JournalState) (n : ℕ)
-    (before after : Insert) (fit : IsFit told (unpromised parts) n (hands.Puts before.row.table before.row.values)) (left : MachineLeft told parts pages locks n before after) (o : Open) (put : PutLeft parts transactions journal n before o) where
+    (before after : Insert) (fit : IsFit told (unpromised parts) n (hands.Puts before.row.table before.row.values)) (left : MachineLeft told parts pages locks n before after) (o : Open) (put : PutLeft parts transactions journal n before after o) where
   abbrev was : Hand
   was = hands.Puts before.row.table before.row.values
 
@@ -146,6 +147,7 @@ module _ {D : Type 0} (told : D → Told) (changes : HandChanges) (of_parts : Fi
     in_hand = subst (λ (l : DiskLayout). FitsHand l (transaction_of transactions.opens n) h) (sym left.others.leaves.layout) in_hand;
     limit = left.counts.limit ∙ fits.limit;
     own = own;
+    held = λ table holds. absurd (none-some table (fits.held table holds));
     rights = fits.rights ∙ ap (λ (l : DiskLayout). length l.schema.tables) (sym left.others.leaves.layout);
     entries = let room = put.room in omega (arith, many, room);
     share = let promised = put.promised in let enough = fits.share in let two = share_now h free in omega (arith, share_was, two, promised, enough);
@@ -156,6 +158,8 @@ module _ {D : Type 0} (told : D → Told) (changes : HandChanges) (of_parts : Fi
     leaves = left.others.leaves;
     transactions = others_open;
     locks = λ m other. left.counts.adds.others m other;
+    dropped = λ m apart. refl;
+    rights = refl;
     promised = let promised = put.promised in let two = share_now (hand_after answer) free in omega (arith, share_was, two, promised);
   })
 
@@ -193,6 +197,9 @@ module _ {D : Type 0} (told : D → Told) (changes : HandChanges) (of_parts : Fi
       counted = put.counted;
       entries = put.entries;
       room = put.room;
+      queue = refl;
+      dropped = refl;
+      none = put.none;
     }
 
   abbrev SteppedSo : Did → Type 0
@@ -273,6 +280,8 @@ module _ {D : Type 0} (told : D → Told) (changes : HandChanges) (of_stores : F
     failed = left.failed;
     entries = left.entries;
     room = left.room;
+    queue = refl;
+    dropped = refl;
     now = (changes hand_list n refuser None has).own;
     below = left.fits.in_hand.1;
     was_in = λ other is. absurd (none-some other (ap (table_in parts.pages.layout) (sym has) ∙ is));

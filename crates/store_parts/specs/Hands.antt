@@ -67,9 +67,10 @@ AnswersAre hand answers = answers ≡ []
 abbrev pub TellsSo : Hand → Account → Type 0
 TellsSo (hands.Summarises a) account = account ≡ record no_account { ranges = count_of a }
 TellsSo (hands.Desummarises a) account = account ≡ record no_account { ranges = count_at a.stage }
+TellsSo (hands.Inserts insert) account = account ≡ record no_account { dropped = account.dropped }
 TellsSo hand account = account ≡ no_account
 
--- so it stands in a place of the definition; nothing in hand is nothing there, and behind a reply no summary was asked for in vain
+-- so it stands in a place of the definition; nothing in hand is nothing there
 abbrev pub HandShows : Option Hand → Option HandAt → Account → Type 0
-HandShows None shown account = (shown ≡ None) × (account.dropped ≡ [])
+HandShows None shown account = shown ≡ None
 HandShows (Some hand) shown account = (at : HandAt) × (shown ≡ Some at) × (at.statement ≡ statement_of hand) × AnswersAre hand at.answers × TellsSo hand account

@@ -86,6 +86,7 @@ module _ {D : Type 0} (told : D → Told) (parts : Parts D) (pages : View D) (n 
     leaves = keeps.leaves;
     transactions = λ m apart. refl;
     locks = λ m apart. refl;
+    dropped = λ m apart. refl;
     promised = ap (λ (h : Option Hand). parts.journal.promised + share_of h (transaction_of parts.transactions.opens n)) is
         ∙ ap (λ (s : ℕ). parts.journal.promised + s) share
         ∙ ap (λ (h : Option Hand). parts.journal.promised + share_of h (transaction_of parts.transactions.opens n)) (sym (hand_changes hand_list n (hands.Explains before) (hand_after answer) is).own);
@@ -112,6 +113,8 @@ module _ {D : Type 0} (told : D → Told) (parts : Parts D) (pages : View D) (n 
       transactions = refl;
       locks = refl;
       rights = refl;
+      queue = refl;
+      dropped = refl;
       entries = refl;
     }
 
@@ -167,7 +170,7 @@ module _ {D : Type 0} (told : D → Told) (parts : Parts D) (pages : View D) (n 
       → Refused told (Tells told parts.pages → IsDamagedAt parts.pages.layout parts.pages.pages before.judging.indexes before.judging.stage) parts.pages pages error
       → StepsSo told parts new n (hands.Explains before) (stepped.Undone (fault_of error) (hands.Explains before))
   undone_so law shown known error refused =
-      refused_is_undone told parts new n (hands.Explains before) error fit over keeps.leaves (record { transactions = refl; locks = refl; rights = refl; journal = refl }) (refused_by law shown known error refused)
+      refused_is_undone told parts new n (hands.Explains before) error fit over keeps.leaves (record { transactions = refl; locks = refl; rights = refl; journal = refl; queue = refl; dropped = refl }) (refused_by law shown known error refused)
 
   -- ---- as the machine's step tells it
 
