@@ -1,5 +1,5 @@
 -- a store in which a session's hand and share change
-use Rattle.std.proofs.Common.{◌≡◌, ◌≢◌, inl, inr, ℕ, ◌<◌, ◌≤◌, List, length, Option, sym, subst, ◌∙◌, arith}
+use Rattle.std.proofs.Common.{◌≡◌, ◌≢◌, inl, inr, ℕ, ◌<◌, ◌≤◌, List, length, Option, Some, sym, subst, ◌∙◌, arith}
 use Rattle.std.proofs.lemmas.Bool.{cases_eq, cases_lt}
 use Rattle.disk_trait.specs.Told.{Told}
 use Rattle.statements.specs.declared.limits.TheConstants.{MAX_SESSIONS}
@@ -18,7 +18,6 @@ use Rattle.store_parts.specs.StoreStates.{hand_in, store_of}
 use Rattle.session_steps.specs.SessionLaws.{SessionLaws}
 use Rattle.session_steps.specs.StoreKept.{HoldsNothing, IsStoreKept}
 use Rattle.session_steps.proofs.Lists.{inside}
-use Rattle.session_steps.proofs.Awaited.{rights_stay}
 
 module _ {D : Type 0} (told : D → Told) (laws : SessionLaws told) (parts : Parts D) (names : List (List ℕ)) (hands : List (Option Hand)) (spares : List (Option Insert))
     (kept : IsStoreKept told (store_of parts names hands) spares) where
@@ -63,5 +62,13 @@ module _ {D : Type 0} (told : D → Told) (laws : SessionLaws told) (parts : Par
         record {
           transaction = others.transactions m other ∙ was.transaction;
           locks = others.locks m other ∙ was.locks;
-          rights = λ table is. was.rights table (rights_stay told (store_of parts names hands) (store_of new names now) n others m table other is);
+          rights = λ table is. was.rights table (others.rights m table other is);
         }
+
+-- the same store, whose sessions are kept in another list
+pub kept_as : {D : Type 0} (told : D → Told) (parts : Parts D) (names more : List (List ℕ)) (hands now : List (Option Hand)) (spares then : List (Option Insert))
+    → more ≡ names → now ≡ hands → then ≡ spares → IsStoreKept told (store_of parts names hands) spares → IsStoreKept told (store_of parts more now) then
+kept_as told parts names more hands now spares then a b c kept =
+    subst (λ (l : List (List ℕ)). IsStoreKept told (store_of parts l now) then) (sym a)
+    (subst (λ (l : List (Option Hand)). IsStoreKept told (store_of parts names l) then) (sym b)
+    (subst (λ (l : List (Option Insert)). IsStoreKept told (store_of parts names hands) l) (sym c) kept))

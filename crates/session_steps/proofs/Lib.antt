@@ -5,4 +5,3 @@ pub mod Stepping
 pub mod Taking
 pub mod Naming
 pub mod New
-pub mod Awaited

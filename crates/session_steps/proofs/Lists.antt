@@ -2,7 +2,7 @@
 use Rattle.std.proofs.Common.{◌≡◌, ◌≢◌, inl, inr, ℕ, zero, suc, ◌<◌, List, [], ◌∷◌, ◌++◌, length, get_or, set, Option, None, Some, IfSome, refl, sym, ap, subst, ◌∙◌, get_or-set_same, get_or-set_other, arith}
 use Rattle.std.proofs.Math.ListN.{get_or-map}
 use Rattle.std.proofs.lemmas.Bool.{cases_eq}
-use Rattle.std.proofs.lemmas.List.{map-set, set-get_or}
+use Rattle.std.proofs.lemmas.List.{length-map, map-set, set-get_or}
 use Rattle.std.proofs.lemmas.Option.{none-some}
 use Rattle.brin_insert.specs.declared.insert.Insert.{Insert}
 use Rattle.store_parts.specs.declared.hand.Hand.{Hand}
@@ -60,3 +60,6 @@ pub spares_kept : (sessions : List Session) (n : ℕ) (old s : Session) → old 
 spares_kept sessions n old s is same =
     let spare = λ (s : Session). s.spare in
     map-set spare sessions n s ∙ ap (set (spares_of sessions) n) (same ∙ ap spare is ∙ sym (get_or-map spare sessions n old)) ∙ set-get_or (spares_of sessions) n old.spare
+
+pub stands : (sessions : List Session) (names : List (List ℕ)) (n : ℕ) → names_of sessions ≡ names → n < length names → n < length sessions
+stands sessions names n is below = omega (arith, below, ap length is, length-map sessions (λ (s : Session). s.name))

@@ -17,7 +17,7 @@ use Rattle.store_parts.specs.declared.hand.Stepped.{Stepped}
 use Rattle.store_parts.specs.declared.hand.Stepped.TheVariants as stepped
 use Rattle.store_parts.specs.declared.parts.Parts.{Parts}
 use Rattle.store_parts.specs.ShowsPlace.{ShowsPlace}
-use Rattle.store_parts.specs.StepAnswers.{HasCause, HasFaultCause, LeavesSessions, StaysReady, StaysWhereUndone}
+use Rattle.store_parts.specs.StepAnswers.{HasCause, HasFaultCause, IsHolderOf, LeavesSessions, StaysReady, StaysWhereUndone}
 use Rattle.store_parts.specs.StepIs.{LeadsOn, StepIs, answer_of, hand_after}
 use Rattle.store_parts.specs.StoreLaws.{HasHand}
 use Rattle.store_parts.specs.UndoneLaws.{StepsSo}
@@ -28,7 +28,6 @@ use Rattle.session_steps.specs.Sessions.{IsInHandThen, NamesASession}
 use Rattle.session_steps.specs.StoreKept.{IsStoreKept}
 use Rattle.session_steps.proofs.Kept.{fits_now, nobody_now, promised_now, session_below}
 use Rattle.session_steps.proofs.Lists.{spares_set}
-use Rattle.session_steps.proofs.Awaited.{IsHolderOf, names_a_holder}
 
 -- all that a step of the store promises
 pub record IsStepOf {D : Type 0} (told : D → Told) (old new : StoreState D) (n : ℕ) (answer : Result Step StoreFault) : Type 0 where
@@ -44,13 +43,13 @@ pub record IsStepOf {D : Type 0} (told : D → Told) (old new : StoreState D) (n
 -- ---- of each answer
 
 hand_then : (answer : Stepped) → IsInHandThen (answer_of answer) (hand_after answer)
-hand_then (stepped.Moved point hand) = tt
+hand_then (stepped.Moved point hand) = refl
 hand_then (stepped.Done reply) = refl
-hand_then (stepped.Blocked what holder hand) = tt
-hand_then (stepped.Undone fault hand) = tt
+hand_then (stepped.Blocked what holder hand) = refl
+hand_then (stepped.Undone fault hand) = refl
 
 module _ {D : Type 0} (told : D → Told) (old new : StoreState D) (n : ℕ) (hand : Hand) where
-  enters_nothing : (answer : Stepped) → StaysWhereUndone told old new hand answer → OnErr (answer_of answer) (new.journal.entries ≡ old.journal.entries)
+  enters_nothing : (answer : Stepped) → StaysWhereUndone told old new n hand answer → OnErr (answer_of answer) (new.journal.entries ≡ old.journal.entries)
   enters_nothing (stepped.Moved point now) stays = tt
   enters_nothing (stepped.Done reply) stays = tt
   enters_nothing (stepped.Blocked what holder now) stays = tt
@@ -81,10 +80,10 @@ module _ {D : Type 0} (told : D → Told) (old new : StoreState D) (n : ℕ) (ha
   was_ready (stepped.Undone (stops.Reopen faults) now) cause ready = absurd (none-some _ (sym ready ∙ cause.1))
   was_ready (stepped.Undone (stops.Damaged at) now) cause ready = cause.0
 
-  holder_is : (answer : Stepped) → ((m : ℕ) → IsHolderOf old n m → m < length old.names) → StaysWhereUndone told old new hand answer → IfOk (answer_of answer) (NamesASession (length old.names))
+  holder_is : (answer : Stepped) → ((m : ℕ) → IsHolderOf old n m → m < length old.names) → StaysWhereUndone told old new n hand answer → IfOk (answer_of answer) (NamesASession (length old.names))
   holder_is (stepped.Moved point now) session stays = tt
   holder_is (stepped.Done reply) session stays = tt
-  holder_is (stepped.Blocked what holder now) session stays = session holder (names_a_holder told old new n hand what holder now stays)
+  holder_is (stepped.Blocked what holder now) session stays = session holder stays.2
   holder_is (stepped.Undone fault now) session stays = tt
 
 module _ {D : Type 0} (told : D → Told) (laws : SessionLaws told) (parts : Parts D) (names : List (List ℕ)) (hands : List (Option Hand)) (spares : List (Option Insert))
@@ -150,3 +149,12 @@ module _ {D : Type 0} (told : D → Told) (laws : SessionLaws told) (parts : Par
     ready = stays_ready told before after n hand answer so.cause;
     cause = fault_cause told before after n hand answer so.cause;
   }
+
+-- the same step, of the same stores
+pub step_as : {D : Type 0} (told : D → Told) (old before : StoreState D) (new : Parts D) (names more : List (List ℕ)) (hands now : List (Option Hand)) (n : ℕ) (answer told_so : Result Step StoreFault)
+    → before ≡ old → more ≡ names → now ≡ hands → told_so ≡ answer → IsStepOf told before (store_of new names hands) n answer → IsStepOf told old (store_of new more now) n told_so
+step_as told old before new names more hands now n answer told_so a b c d step =
+    subst (λ (s : StoreState _). IsStepOf told s (store_of new more now) n told_so) a
+    (subst (λ (l : List (List ℕ)). IsStepOf told before (store_of new l now) n told_so) (sym b)
+    (subst (λ (l : List (Option Hand)). IsStepOf told before (store_of new names l) n told_so) (sym c)
+    (subst (λ (r : Result Step StoreFault). IsStepOf told before (store_of new names hands) n r) (sym d) step)))

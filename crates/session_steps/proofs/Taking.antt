@@ -1,5 +1,5 @@
 -- a store in which a session's statement is taken, or isn't
-use Rattle.std.proofs.Common.{◌≡◌, ◌≢◌, ℕ, ◌+◌, ◌<◌, ◌≤◌, true, false, Bool, List, length, set, Option, None, Some, if◌then◌else◌, refl, sym, ap, subst, ◌∙◌, arith, length-set}
+use Rattle.std.proofs.Common.{◌≡◌, ◌≢◌, ℕ, ◌+◌, ◌<◌, ◌≤◌, true, false, Bool, List, length, set, Option, None, Some, IsSome, if◌then◌else◌, refl, sym, ap, subst, ◌∙◌, arith, length-set}
 use Rattle.std.proofs.lemmas.Option.{none-some}
 use Rattle.block_model.specs.declared.reply.Refusal.{Refusal}
 use Rattle.block_model.specs.declared.reply.Refusal.TheVariants as refusals
@@ -21,9 +21,10 @@ use Rattle.table_coverage.specs.Accounts.{Account}
 use Rattle.brin_insert.specs.declared.insert.Insert.{Insert}
 use Rattle.line_texts.specs.LineTexts.{NotTaken, Submits, Taken, WantsMemory, block_refusal, in_hand_refusal, may_want_memory, or_else, submit_refusal, with_statement}
 use Rattle.line_texts.specs.Place.{Hand as HandAt, Place, database_at}
+use Rattle.reply_texts.specs.declared.dropped.Dropped.{Dropped}
 use Rattle.store_parts.specs.declared.hand.Hand.{Hand}
 use Rattle.store_parts.specs.declared.parts.Parts.{Parts}
-use Rattle.store_parts.specs.HandFits.{FitsHand, FitsStore, IsHandFor, IsUnderWay, locks_held}
+use Rattle.store_parts.specs.HandFits.{FitsHand, FitsStore, IsHandFor, IsUnderWay, locks_held, right_held}
 use Rattle.store_parts.specs.Hands.{HandShows, statement_of}
 use Rattle.store_parts.specs.JournalState.{JournalState}
 use Rattle.store_parts.specs.Shares.{hand_share}
@@ -32,7 +33,7 @@ use Rattle.store_parts.specs.StepAnswers.{LeavesSessions}
 use Rattle.store_parts.specs.StepIs.{LeadsOn}
 use Rattle.store_parts.specs.StoreLaws.{HasHand}
 use Rattle.store_parts.specs.StoreStates.{StoreState, hand_at, hand_in, shown_of, store_of, with_hand}
-use Rattle.store_parts.specs.SubmitLaws.{HasNotBegun}
+use Rattle.store_parts.specs.SubmitLaws.{ForgetsDropped, HasNotBegun}
 use Rattle.session_steps.specs.SessionLaws.{SessionLaws}
 use Rattle.session_steps.specs.StoreKept.{IsStoreKept}
 use Rattle.session_steps.specs.Submitting.{Allows, TakesHand, begin_refusal, end_refusal, refusal_here, request_refusal, standing_refusal}
@@ -42,7 +43,7 @@ use Rattle.session_steps.proofs.Lists.{has_hand_set}
 -- ---- why a statement isn't taken
 
 in_hand_shown : (hand : Option Hand) (at : Option HandAt) (account : Account) → HandShows hand at account → in_hand_refusal hand ≡ in_hand_refusal at
-in_hand_shown None at account shows = sym (ap (λ (o : Option HandAt). in_hand_refusal o) shows.0)
+in_hand_shown None at account shows = sym (ap (λ (o : Option HandAt). in_hand_refusal o) shows)
 in_hand_shown (Some hand) at account shows = sym (ap (λ (o : Option HandAt). in_hand_refusal o) shows.1)
 
 begin_shown : (failed : Bool) → begin_refusal (if failed then standings.Failed else standings.UnderWay) ≡ Some refusals.UnderWay
@@ -108,7 +109,7 @@ begins_alone (Some o) none = absurd (none-some refusals.UnderWay (sym none ∙ b
 
 ends_one : (own : Option Open) → end_refusal (open_standing own) ≡ None → IsSome own
 ends_one None none = absurd (none-some refusals.NoTransaction (sym none))
-ends_one (Some o) none = tt
+ends_one (Some o) none = refl
 
 not_failed : (failed : Bool) → request_refusal (if failed then standings.Failed else standings.UnderWay) ≡ None → failed ≡ false
 not_failed true none = absurd (none-some refusals.Doomed (sym none))
@@ -153,6 +154,10 @@ leads_short told laws s n statement none wants = λ tells before after p shows. 
 
 -- ---- one that is taken
 
+-- the parts of the store then, in which what the session asked for in vain is forgotten
+abbrev pub forgetting : {D : Type 0} → Parts D → List (List Dropped) → Parts D
+forgetting new dropped = record new { dropped = dropped }
+
 module _ {D : Type 0} (told : D → Told) (laws : SessionLaws told) (parts : Parts D) (names : List (List ℕ)) (hands : List (Option Hand)) (spares : List (Option Insert))
     (kept : IsStoreKept told (store_of parts names hands) spares) (n : ℕ) (statement : Statement) (there : n < length names) (none : refusal_here (store_of parts names hands) n statement ≡ None) (hand : Hand) where
   abbrev before : StoreState D
@@ -167,11 +172,11 @@ module _ {D : Type 0} (told : D → Told) (laws : SessionLaws told) (parts : Par
   changes : HasHand hands now n (Some hand)
   changes = has_hand_set hands n (Some hand) (omega (arith, there, kept.a_hand_each))
 
-  module _ (j : JournalState) (entries : j.entries ≡ parts.journal.entries) (promised : j.promised ≡ parts.journal.promised + hand_share (Some hand))
+  module _ (j : JournalState) (dropped : List (List Dropped)) (forgets : ForgetsDropped parts.dropped dropped n) (entries : j.entries ≡ parts.journal.entries) (promised : j.promised ≡ parts.journal.promised + hand_share (Some hand))
       (is : statement_of hand ≡ statement) (fresh : HasNotBegun parts.pages.layout hand)
       (fits : IsHandFor parts.pages.layout (transaction_of parts.transactions.opens n) hand) where
     abbrev new : Parts D
-    new = record parts { journal = j }
+    new = record parts { journal = j; dropped = dropped }
 
     abbrev after : StoreState D
     after = store_of new names now
@@ -187,6 +192,8 @@ module _ {D : Type 0} (told : D → Told) (laws : SessionLaws told) (parts : Par
       leaves = record { layout = refl; tells = refl; faults = omega arith };
       transactions = λ m other. refl;
       locks = λ m other. refl;
+      dropped = forgets.others;
+      rights = λ m table other is. is;
       promised = omega (arith, promised, had, has);
     }
 
@@ -200,6 +207,7 @@ module _ {D : Type 0} (told : D → Told) (laws : SessionLaws told) (parts : Par
           hand = subst (λ (h : Option Hand). FitsHand parts.pages.layout (transaction_of parts.transactions.opens n) h) (sym changes.own) fits;
           limit = was.limit;
           own = omega (arith, was.own, held);
+          held = λ table is. absurd (none-some table (sym (ap (λ (h : Option Hand). right_held parts.pages.layout h) free) ∙ was.held table is));
           rights = was.rights;
           entries = subst (λ (es : List Entry). length es ≤ MAX_ENTRIES) (sym entries) was.entries;
           share = omega (arith, was.share, promised, had, has);
@@ -208,8 +216,8 @@ module _ {D : Type 0} (told : D → Told) (laws : SessionLaws told) (parts : Par
     -- it leads from each place that was shown to the one with the statement
     shown_there : (p : Place) → ShowsPlace before p → ShowsPlace after (with_statement p n statement)
     shown_there p shows = subst (λ (statement : Statement). ShowsPlace after (with_statement p n statement)) is
-        (subst (λ (es : List Entry). IsPlaceOf (record (shown_of before) { entries = es; hands = now }) (with_statement p n (statement_of hand))) (sym entries)
-        (laws.submitted (shown_of before) p n now hand shows free changes fresh))
+        (subst (λ (es : List Entry). IsPlaceOf (record (shown_of before) { entries = es; dropped = dropped; hands = now }) (with_statement p n (statement_of hand))) (sym entries)
+        (laws.submitted (shown_of before) p n now dropped hand shows free changes forgets fresh))
 
     kept_taken : IsStoreKept told after spares
     kept_taken = record {
@@ -231,11 +239,21 @@ module _ {D : Type 0} (told : D → Told) (laws : SessionLaws told) (parts : Par
     pub kept_now : IsStoreKept told (store_of new names now) spares
     pub leads : LeadsOn told before (store_of new names now) (λ p q. Submits p n statement None q)
 
-  pub is_taken : (new : Parts D) → TakesHand parts new statement hand → IsTaken new
-  is_taken new takes = subst (λ (q : Parts D). IsTaken q) (sym takes.rest) (record {
-    kept_now = kept_taken new.journal takes.entries takes.promised takes.statement_is takes.fresh fits;
-    leads = leads_taken new.journal takes.entries takes.promised takes.statement_is takes.fresh fits;
+  pub is_taken : (new : Parts D) (dropped : List (List Dropped)) → ForgetsDropped new.dropped dropped n → TakesHand parts new statement hand → IsTaken (forgetting new dropped)
+  is_taken new dropped forgets takes = subst (λ (q : Parts D). IsTaken (forgetting q dropped)) (sym takes.rest) (record {
+    kept_now = kept_taken new.journal dropped forgot takes.entries takes.promised takes.statement_is takes.fresh fits;
+    leads = leads_taken new.journal dropped forgot takes.entries takes.promised takes.statement_is takes.fresh fits;
   })
     where
+      forgot : ForgetsDropped parts.dropped dropped n
+      forgot = subst (λ (q : Parts D). ForgetsDropped q.dropped dropped n) takes.rest forgets
+
       fits : IsHandFor parts.pages.layout (transaction_of parts.transactions.opens n) hand
       fits = takes.fit (transaction_of parts.transactions.opens n) (is_allowed before n statement none)
+
+pub taken_as : {D : Type 0} (told : D → Told) (old before : StoreState D) (new : Parts D) (names more : List (List ℕ)) (hands now : List (Option Hand)) (P : Place → Place → Type 0)
+    → before ≡ old → more ≡ names → now ≡ hands → LeadsOn told before (store_of new names hands) P → LeadsOn told old (store_of new more now) P
+taken_as told old before new names more hands now P a b c leads =
+    subst (λ (s : StoreState _). LeadsOn told s (store_of new more now) P) a
+    (subst (λ (l : List (List ℕ)). LeadsOn told before (store_of new l now) P) (sym b)
+    (subst (λ (l : List (Option Hand)). LeadsOn told before (store_of new names l) P) (sym c) leads))

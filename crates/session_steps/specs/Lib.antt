@@ -1,7 +1,6 @@
 pub mod SessionLists
 pub mod StoreCode
 pub mod StoreKept
-pub mod NewParts
 pub mod SessionLaws
 pub mod Submitting
 pub mod Sessions

@@ -5,13 +5,14 @@ ghost use Rattle.std.specs.Option.{is_some};
 ghost use Rattle.statements.specs.StatementFits.{IsStatementFor};
 ghost use Rattle.page_store.specs.Keeps.{Leaves, Tells};
 ghost use Rattle.engine_pages.specs.Kinds.{LeavesNothing};
-ghost use Rattle.line_texts.specs.LineTexts.{Submits, named};
+ghost use Rattle.line_texts.specs.LineTexts.{Submits, dropped_at, named};
 ghost use Rattle.line_texts.specs.Place.{Place};
 ghost use Rattle.line_texts.specs.Starts.{IsStart};
 ghost use Rattle.store_parts.specs.ShowsPlace.{ShowsPlace};
 ghost use Rattle.store_parts.specs.StepAnswers.{HasFaultCause, StaysReady};
 ghost use Rattle.store_parts.specs.StepIs.{LeadsOn, StepIs};
 ghost use Rattle.store_parts.specs.StoreStates.{hand_at};
+ghost use Rattle.store_starts.specs.OpenedParts.{NeverFails};
 ghost use Rattle.session_steps.specs.Sessions.{HasSession, IsInHandThen, NamesASession, refusal_in};
 ghost use Rattle.session_steps.specs.Submitting.{refusal_here};
 
@@ -22,14 +23,15 @@ use crate::sessions::{
 };
 use crate::steps::{answered, step_of};
 use crate::submitting::{block_refusal, hand_for, standing_refusal};
-use crate::waiting::new_parts;
 use block_model::{Entry, Name, NoMemory, Refusal};
 use disk_trait::Disk;
+use reply_texts::Dropped;
 use statements::{MAX_SESSIONS, Statement};
 use std::alloc::Global;
 use std::marker::Model;
 use store_layout::Layout;
 use store_parts::{Parts, Step, StoreFault, few_locks_are_held};
+use store_starts::plain_parts;
 
 /// A store of sessions over pages on a disk.
 #[derive(Drop)]
@@ -55,16 +57,16 @@ impl<D: Disk + Drop> Model for Store<D> {
 }
 
 impl<D: Disk + Drop> Store<D> {
-    /// A store of this layout, without sessions and rows, on pages in memory alone, beside a disk that no call touches.
+    /// A store of this layout, without sessions and rows, on pages in memory alone, beside a disk that leaves nothing and never fails.
     pub fn plain(alloc: Global, disk: D, layout: Layout) -> Result<Store<D>, NoMemory>
         requires nothing { LeavesNothing (D.told disk) }
+        requires steady { NeverFails D.told }
         ensures starts { IfOk result (λ store. Tells D.told store.pages → (p : Place) × IsStart layout p × ShowsPlace store p) }
-        ensures disk { IfOk result (λ store. store.pages.disk ≡ disk) }
+        ensures nothing { IfOk result (λ store. LeavesNothing (D.told store.pages.disk)) }
         ensures layout { IfOk result (λ store. store.pages.layout ≡ layout) }
         ensures ready { IfOk result (λ store. store.pages.failed ≡ None) }
     {
-        let parts = new_parts(alloc, disk, layout)?;
-        laws_of_sessions(&parts);
+        let parts = plain_parts(alloc, disk, layout)?;
         let sessions = Vec::new(alloc);
         Ok(Store { parts, sessions })
     }
@@ -124,6 +126,7 @@ impl<D: Disk + Drop> Store<D> {
         let Ok(hand) = hand_for(&mut self.parts, statement) else {
             return Err(Refusal::Memory);
         };
+        self.parts.dropped.clear(session);
         put_hand(&mut self.sessions, session, Some(hand));
         Ok(())
     }
@@ -166,6 +169,14 @@ impl<D: Disk + Drop> Store<D> {
         ensures { result ≡ slice_index_or self.now.names session [] }
     {
         self.sessions[session as usize].name
+    }
+
+    /// The summaries for which the session's last statement asked in vain, so far.
+    pub fn dropped(&self, session: u32) -> &[Dropped]
+        requires { session < length self.now.names }
+        ensures { (p : Place) → ShowsPlace self.now p → result.now ≡ dropped_at p session }
+    {
+        self.parts.dropped.of(session)
     }
 
     /// The requests of all statements so far, in their order. Only tests ask for them.

@@ -1,27 +1,18 @@
 //! Stand-ins for what other crates make.
 
-ghost use Rattle.std.specs.Prelude.{◌≡◌, ◌+◌, ◌≤◌, ◌<◌, ℕ, [], None, IfOk, IfSome};
-ghost use Rattle.engine_pages.specs.Kinds.{LeavesNothing};
+ghost use Rattle.std.specs.Prelude.{◌+◌, ◌≤◌, IfSome};
 ghost use Rattle.page_locks.specs.LockHolders.{count_of};
-ghost use Rattle.page_store.specs.Keeps.{Tells};
 ghost use Rattle.brin_insert.specs.Inserts.{IsInsertFor};
-ghost use Rattle.line_texts.specs.Place.{Place};
-ghost use Rattle.line_texts.specs.Starts.{IsStart};
 ghost use Rattle.store_parts.specs.declared.limits.TheConstants.{LOCKS_A_SESSION, MAX_LOCKS};
-ghost use Rattle.store_parts.specs.ShowsPlace.{ShowsPlace};
 ghost use Rattle.store_parts.specs.StepAnswers.{HasCause};
 ghost use Rattle.store_parts.specs.Stepping.{IsFit, IsShown, LeavesTheOthers, MakesItsStep, StaysFit, StaysUndone};
-ghost use Rattle.store_parts.specs.StoreStates.{store_of};
-ghost use Rattle.session_steps.specs.NewParts.{AreNewParts};
 
-use block_model::{NoMemory, Query, Values};
+use block_model::{Query, Values};
 use brin_desummarise::Desummarise;
 use brin_insert::Insert;
 use brin_scan::{Explain, Scan};
 use brin_summarise::Summarise;
 use disk_trait::Disk;
-use std::alloc::Global;
-use store_layout::Layout;
 use store_parts::{Hand, Marking, Parts, Stepped};
 
 pub(crate) fn begin<D: Disk + Drop>(
@@ -237,22 +228,6 @@ pub(crate) fn desummarise_on<D: Disk + Drop>(
     ensures others { LeavesTheOthers D.told parts.old parts.new session (Hand.Desummarises desummarise) result }
     ensures stays { StaysUndone D.told parts.old parts.new session (Hand.Desummarises desummarise) result }
     ensures cause { HasCause D.told parts.old.pages parts.new.pages result }
-{
-    unreachable!()
-}
-
-/// The parts of a new store of this layout, on pages in memory alone, beside a disk that no call touches.
-pub(crate) fn new_parts<D: Disk + Drop>(
-    _alloc: Global,
-    disk: D,
-    layout: Layout,
-) -> Result<Parts<D>, NoMemory>
-    requires nothing { LeavesNothing (D.told disk) }
-    ensures new { IfOk result (AreNewParts D.told) }
-    ensures starts { IfOk result (λ parts. Tells D.told parts.pages → (p : Place) × IsStart layout p × ShowsPlace (store_of parts [] []) p) }
-    ensures disk { IfOk result (λ parts. parts.pages.disk ≡ disk) }
-    ensures layout { IfOk result (λ parts. parts.pages.layout ≡ layout) }
-    ensures ready { IfOk result (λ parts. parts.pages.failed ≡ None) }
 {
     unreachable!()
 }
