@@ -47,6 +47,7 @@ use Rattle.store_parts.specs.declared.hand.Hand.TheVariants as hands
 use Rattle.store_parts.specs.declared.hand.Stepped.TheVariants as stepped
 use Rattle.store_parts.specs.declared.parts.Parts.{Parts}
 use Rattle.store_parts.specs.Hands.{HandShows, block_of, statement_of}
+use Rattle.store_parts.specs.HandsAsk.{IsNoInsert}
 use Rattle.store_parts.specs.HandsInTables.{table_in}
 use Rattle.store_parts.specs.PlacesAfter.{place_after}
 use Rattle.store_parts.specs.RefusalLaws.{IsMaintenanceShown}
@@ -57,7 +58,6 @@ use Rattle.store_parts.specs.StoreStates.{ShownStore, hand_in, shown_of, store_o
 use Rattle.store_parts.specs.UndoneLaws.{StepsSo}
 use Rattle.store_parts.proofs.Maintenance.{maintenance_refusal_is_shown}
 use Rattle.store_parts.proofs.Steps.{turn_is_refused}
-use Rattle.store_parts.proofs.Submits.{nothing_is_dropped}
 use Rattle.store_upkeep.proofs.SummariseLocks.{gives_own, gives_stay, gives_there}
 use Rattle.store_upkeep.proofs.SummariseParts.{MachineLeft, is_it, within}
 use Rattle.store_upkeep.proofs.SummariseTurns.{at_range, holds_there}
@@ -115,7 +115,7 @@ module _ (old new : ShownStore) (n : ℕ) (a : SummariseState) (is : IsUpkeep ol
 
     it : IsMaintenanceShown new shown.database.stored p n its_table statement (maintain_refusal its_at.0 there.refused)
     it = maintenance_refusal_is_shown old new shown.database.stored p n its_table its_at.0 there.range statement (p.tables its_table) there.job there.phase at_here left.others pages gives free counts_same
-        (λ in_it. none-some its_table (ap (table_in old.layout) (sym now) ∙ in_it)) refl shown.queue is.no_work (is.on p n shown.layout)
+        (λ in_it. none-some its_table (ap (table_in old.layout) (sym now) ∙ in_it)) refl is.no_work (is.on p n shown.layout)
         (ap (λ (x : TableState). x.task n) at_here.shown ∙ its_at.2 ∙ there.is) there.refused
 
     told : Some (maintain_refusal its_at.0 there.refused) ≡ Some (IsFull (IndexNumber its_at.0) number)
@@ -128,9 +128,9 @@ module _ (old new : ShownStore) (n : ℕ) (a : SummariseState) (is : IsUpkeep ol
     is_refused = (
       place_after p n its_table None it.after (p.accounts n) (counts_of new.transactions shown.database.stored) new.entries,
       behind old new n (hands.Summarises a) a.index its_task (count_of a) is left p shown alike None it.after (p.accounts n)
-          (subst (λ (h : Option Hand). HandShows h None (p.accounts n)) (sym now) (refl, nothing_is_dropped (hand_in old.hands n) (p.hands n) (p.accounts n) (shown.hands n)))
+          (subst (λ (h : Option Hand). HandShows h None (p.accounts n)) (sym now) refl)
           (λ h in_it. absurd (none-some h (sym now ∙ in_it)))
-          (λ other in_it. absurd (none-some other (ap (table_in old.layout) (sym now) ∙ in_it))) it.shows,
+          (λ other in_it. absurd (none-some other (ap (table_in old.layout) (sym now) ∙ in_it))) it.shows refl (subst IsNoInsert (sym now) tt),
       record {
         hand = new_hand statement;
         in_hand = hand_is old n (hands.Summarises a) a.index its_task (count_of a) is left.had p shown;

@@ -20,7 +20,7 @@ use Rattle.statements.specs.declared.statement.Statement.TheVariants as statemen
 use Rattle.tx_table.specs.TxState.{TxState}
 use Rattle.tx_table.specs.Statuses.{status_relation}
 use Rattle.index_contents.specs.IndexContents.{index_page, relation_of as index_relation}
-use Rattle.table_coverage.specs.Accounts.{Account, no_account}
+use Rattle.table_coverage.specs.Accounts.{Account, Asked, no_account}
 use Rattle.table_coverage.specs.Machines.{ShownTable, Unseen, table_state}
 use Rattle.table_coverage.specs.Table.{TableState, Task}
 use Rattle.table_coverage.specs.TableCovered.{IsTableKept}
@@ -32,6 +32,7 @@ use Rattle.line_texts.specs.Requests.{next_request}
 use Rattle.store_parts.specs.declared.hand.Hand.{Hand}
 use Rattle.store_parts.specs.Hands.{AnswersAre, HandShows, TellsSo, statement_of}
 use Rattle.store_parts.specs.HandFits.{right_held}
+use Rattle.store_parts.specs.HandsAsk.{HandAsked, IsNoInsert}
 use Rattle.store_parts.specs.HandsInTables.{InItsTable, IsTaskOf, table_in}
 use Rattle.store_parts.specs.Leaving.{ChangesLocks, LeavesOthers}
 use Rattle.store_parts.specs.ShowsPlace.{IsOfTransaction, IsPlaceOf, ShowsTable}
@@ -60,6 +61,8 @@ pub record IsUpkeep (layout : DiskLayout) (hand : Hand) (index : ℕ) (task : �
   pub told : TellsSo hand (counted count)
   pub own : (transaction : Option Open) (copy : Option OpenTransaction) → IsOfTransaction transaction copy hand
   pub in_table : table_in layout (Some hand) ≡ Some (index_at layout index).table
+  pub no_insert : IsNoInsert (Some hand)
+  pub asked : (asked : List Asked) → HandAsked layout (Some hand) asked
   pub right : (table : ℕ) → right_held layout (Some hand) ≡ Some table → table ≡ (index_at layout index).table
   pub task_is : (table : ℕ) (blocks : List (List Slot)) (tx : TxState) (stored : List Status) (transaction : Option Open) (now : Task)
       → IsTaskOf layout table blocks tx stored transaction (Some hand) now → InItsTable (index_at layout index).table table (IsUpkeepAt layout index task now) now
@@ -77,6 +80,8 @@ pub record UpkeepLeft (old new : ShownStore) (n : ℕ) (was : Hand) (index : ℕ
       → IsIndexInOrder old.layout.sizes.index_blocks (index_page old.layout new.pages i)
   pub transactions : new.transactions ≡ old.transactions
   pub entries : new.entries ≡ old.entries
+  pub queue : new.queue ≡ old.queue
+  pub dropped : new.dropped ≡ old.dropped
   pub few : length old.entries ≤ MAX_ENTRIES
 
 -- what the definition has in hand of it

@@ -155,6 +155,7 @@ module _ {D : Type 0} (told : D → Told) (parts : Parts D) (pages : View D) (lo
     transactions = λ m apart. refl;
     locks = λ m apart. left.counts m apart;
     rights = λ m other apart holds. left.theirs m other apart holds;
+    dropped = λ m apart. refl;
     promised = ap (λ (h : Option Hand). parts.journal.promised + share_of h (transaction_of parts.transactions.opens n)) has
         ∙ ap (λ (s : ℕ). parts.journal.promised + s) same
         ∙ ap (λ (h : Option Hand). parts.journal.promised + share_of h (transaction_of parts.transactions.opens n)) (sym (hand_changes hand_list n was (hand_after answer) has).own);
@@ -203,6 +204,8 @@ module _ {D : Type 0} (told : D → Told) (parts : Parts D) (pages : View D) (lo
       order = λ i below ordered. order_so tells i ordered;
       transactions = refl;
       entries = refl;
+      queue = refl;
+      dropped = refl;
       few = fits.entries;
     }
 
@@ -295,7 +298,7 @@ module _ {D : Type 0} (told : D → Told) (parts : Parts D) (pages : View D) (lo
       );
       fit = stays_fit (stepped.Blocked what by next) (fits_then (Some next) in_hand own share (held_same (Some next) right same_rights));
       others = leaves_others (stepped.Blocked what by next) share;
-      stays = λ names hand_list has. (record { pages = keeps; transactions = refl; locks = same_locks; rights = same_rights; journal = refl }, same, holder_is);
+      stays = λ names hand_list has. (record { pages = keeps; transactions = refl; locks = same_locks; rights = same_rights; journal = refl; queue = refl; dropped = refl }, same, holder_is);
       cause = ready;
     }
 

@@ -42,7 +42,7 @@ returns-in-Err g c =
     let is : c.undone.result ≡ stepped.Undone (fault_of c.in-Err.error) hand = c.undone.ensures ∙ ap (λ (f : StoreFault). stepped.Undone f hand) c.fault_of.ensures in
     let so : StepsSo told parts parts c.args.session hand c.undone.result = subst (λ (a : Stepped). StepsSo told parts parts c.args.session hand a) (sym is)
     (refused_is_undone told parts parts c.args.session hand c.in-Err.error c.requires.fit (fit_of_parts told parts c.args.session hand c.requires.fit).over (leaves_same told parts.pages)
-    (record { transactions = refl; locks = refl; rights = refl; journal = refl }) c.in-Err.ensures.outcome) in
+    (record { transactions = refl; locks = refl; rights = refl; journal = refl; queue = refl; dropped = refl }) c.in-Err.ensures.outcome) in
     record { steps = so.steps; fit = so.fit; others = so.others; stays = so.stays; cause = so.cause; survives = survives_still told parts.pages c.ready.ensures.stays }
 
 -- the step may be made
