@@ -60,7 +60,7 @@ module _ (s : ShownStore) (new : IsNewStore s) (database : ShowsDatabase s.layou
   }
 
   shown : IsPlaceOf s its_start
-  shown = opened s initial_state its_tables new.entries new.hands database (λ table below. record {
+  shown = opened s initial_state its_tables new.entries new.queue new.dropped new.hands database (λ table below. record {
     blocks = [];
     has = blocks table below;
     unnamed = λ i x. false;
@@ -86,6 +86,8 @@ opened_start told old parts known law is opened kept tells fresh =
       unlocked = opened.unlocked;
       free = opened.free;
       entries = opened.entries;
+      queue = opened.queue;
+      dropped = opened.dropped;
       names = refl;
       hands = λ n. refl;
     } in
