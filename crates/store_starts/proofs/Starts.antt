@@ -1,16 +1,13 @@
 -- a new store at the place at which a script begins
-use Rattle.std.proofs.Common.{◌≡◌, ℕ, ◌<◌, List, [], length, refl, sym, ◌∙◌, ap, subst}
-use Rattle.std.specs.Prelude.{None, false}
-use Rattle.block_model.specs.declared.place.Place.{Place as PagePlace}
+use Rattle.std.proofs.Common.{◌≡◌, ℕ, ◌<◌, [], length, refl, sym, ◌∙◌, ap, subst}
+use Rattle.std.specs.Prelude.{false}
 use Rattle.block_model.specs.DatabaseState.{initial_state}
 use Rattle.heap_rows.specs.HeapBlocks.{HasBlocks}
 use Rattle.index_contents.specs.IndexContents.{index_page}
 use Rattle.opened_pages.specs.PageOrder.{IsIndexInOrder}
-use Rattle.page_locks.specs.LockHolders.{LockState, holder}
 use Rattle.disk_trait.specs.Told.{Told}
 use Rattle.page_store.specs.Keeps.{Keeps, Tells}
 use Rattle.page_store.specs.PageMap.{PageMap, View}
-use Rattle.snapshot_core.specs.declared.statuses.Status.{Status}
 use Rattle.store_layout.specs.DiskLayout.{DiskLayout}
 use Rattle.table_coverage.specs.Table.{TableState}
 use Rattle.table_coverage.specs.TableCovered.{IsNewTable, IsTableKept}

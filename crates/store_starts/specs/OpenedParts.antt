@@ -1,5 +1,5 @@
 -- a store of sessions as it begins
-use Rattle.std.specs.Prelude.{◌≡◌, ℕ, List, [], length, Option, None, Result, Ok, Err, ⊤}
+use Rattle.std.specs.Prelude.{◌≡◌, ℕ, List, [], length, None, Ok, Err, ⊤}
 use Rattle.block_model.specs.declared.place.Place.{Place as PagePlace}
 use Rattle.disk_trait.specs.Told.{Told}
 use Rattle.store_layout.specs.DiskLayout.{DiskLayout}
