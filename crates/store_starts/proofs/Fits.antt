@@ -1,5 +1,5 @@
 -- what fits over opened parts
-use Rattle.std.proofs.Common.{◌≡◌, ◌≢◌, ℕ, zero, suc, ◌+◌, ◌<◌, ◌≤◌, List, [], length, refl, sym, ◌∙◌, ap, subst, arith}
+use Rattle.std.proofs.Common.{◌≡◌, ◌≢◌, ℕ, zero, suc, ◌<◌, List, [], length, refl, sym, ◌∙◌, ap, arith}
 use Rattle.std.specs.Prelude.{Option, None, Some, replicate}
 use Rattle.std.specs.FinMap.{empty, get-empty}
 use Rattle.std.proofs.lemmas.List.{length-replicate}
@@ -17,7 +17,7 @@ use Rattle.store_parts.specs.declared.limits.TheConstants.{MAX_LOCKS}
 use Rattle.store_parts.specs.declared.parts.Parts.{Parts}
 use Rattle.store_parts.specs.HandFits.{FitsStore}
 use Rattle.store_parts.specs.Shares.{share_of}
-use Rattle.store_parts.specs.StoreStates.{store_of}
+use Rattle.store_parts.specs.StoreStates.{dropped_in, store_of}
 use Rattle.store_starts.specs.OpenedParts.{AreOpened}
 
 -- nobody has a transaction, or a summarise lock
@@ -38,8 +38,9 @@ unlocked_page locks limit are page = ap (λ (l : LockState). holder l page) are 
 -- so the parts begin
 pub parts_opened : {D : Type 0} (told : D → Told) (parts : Parts D) (tables : ℕ) → IsOver told parts.transactions.tx parts.pages → parts.transactions.tx.first ≡ parts.transactions.tx.next → parts.transactions.opens ≡ replicate MAX_SESSIONS None
     → parts.locks ≡ record { limit = MAX_LOCKS; holders = empty } → ((session : ℕ) → ((page : Place) → holder parts.locks page ≢ Some session) → locks_of parts.locks session ≡ 0)
-    → parts.rights ≡ replicate tables None → tables ≡ length parts.pages.layout.schema.tables → parts.journal.entries ≡ [] → parts.journal.promised ≡ 0 → AreOpened told parts
-parts_opened told parts tables over first opens locks counted rights count entries promised = record {
+    → parts.rights ≡ replicate tables None → tables ≡ length parts.pages.layout.schema.tables → parts.journal.entries ≡ [] → parts.journal.promised ≡ 0
+    → parts.queue ≡ [] → ((session : ℕ) → dropped_in parts.dropped session ≡ []) → AreOpened told parts
+parts_opened told parts tables over first opens locks counted rights count entries promised queue dropped = record {
   over = over;
   opened = record { first = first; opens = opens };
   idle = λ session. ap (λ (l : List (Option Open)). transaction_of l session) opens ∙ nobody_open MAX_SESSIONS session;
@@ -50,6 +51,8 @@ parts_opened told parts tables over first opens locks counted rights count entri
   free = λ table. ap (λ (l : List (Option ℕ)). right_of l table) rights ∙ nobody_holds tables table;
   entries = entries;
   promised = promised;
+  queue = queue;
+  dropped = dropped;
 }
 
 -- and each session fits its next step
@@ -62,6 +65,7 @@ opened_fit told parts n opened below =
       hand = tt;
       limit = opened.limit;
       own = omega (arith, opened.locks n);
+      held = λ table is. absurd (none-some n (sym (opened.free table) ∙ is));
       rights = opened.rights;
       entries = omega (arith, ap length opened.entries);
       share = omega (arith, share);

@@ -1,16 +1,13 @@
 -- a new store at the place at which a script begins
-use Rattle.std.proofs.Common.{◌≡◌, ℕ, ◌<◌, List, [], length, refl, sym, ◌∙◌, ap, subst}
-use Rattle.std.specs.Prelude.{None, false}
-use Rattle.block_model.specs.declared.place.Place.{Place as PagePlace}
+use Rattle.std.proofs.Common.{◌≡◌, ℕ, ◌<◌, [], length, refl, sym, ◌∙◌, ap, subst}
+use Rattle.std.specs.Prelude.{false}
 use Rattle.block_model.specs.DatabaseState.{initial_state}
 use Rattle.heap_rows.specs.HeapBlocks.{HasBlocks}
 use Rattle.index_contents.specs.IndexContents.{index_page}
 use Rattle.opened_pages.specs.PageOrder.{IsIndexInOrder}
-use Rattle.page_locks.specs.LockHolders.{LockState, holder}
 use Rattle.disk_trait.specs.Told.{Told}
 use Rattle.page_store.specs.Keeps.{Keeps, Tells}
 use Rattle.page_store.specs.PageMap.{PageMap, View}
-use Rattle.snapshot_core.specs.declared.statuses.Status.{Status}
 use Rattle.store_layout.specs.DiskLayout.{DiskLayout}
 use Rattle.table_coverage.specs.Table.{TableState}
 use Rattle.table_coverage.specs.TableCovered.{IsNewTable, IsTableKept}
@@ -60,7 +57,7 @@ module _ (s : ShownStore) (new : IsNewStore s) (database : ShowsDatabase s.layou
   }
 
   shown : IsPlaceOf s its_start
-  shown = opened s initial_state its_tables new.entries new.hands database (λ table below. record {
+  shown = opened s initial_state its_tables new.entries new.queue new.dropped new.hands database (λ table below. record {
     blocks = [];
     has = blocks table below;
     unnamed = λ i x. false;
@@ -86,6 +83,8 @@ opened_start told old parts known law is opened kept tells fresh =
       unlocked = opened.unlocked;
       free = opened.free;
       entries = opened.entries;
+      queue = opened.queue;
+      dropped = opened.dropped;
       names = refl;
       hands = λ n. refl;
     } in

@@ -1,5 +1,5 @@
 -- a store of sessions as it begins
-use Rattle.std.specs.Prelude.{◌≡◌, ℕ, List, [], length, Option, None, Result, Ok, Err, ⊤}
+use Rattle.std.specs.Prelude.{◌≡◌, ℕ, List, [], length, None, Ok, Err, ⊤}
 use Rattle.block_model.specs.declared.place.Place.{Place as PagePlace}
 use Rattle.disk_trait.specs.Told.{Told}
 use Rattle.store_layout.specs.DiskLayout.{DiskLayout}
@@ -21,11 +21,11 @@ use Rattle.line_texts.specs.Starts.{IsStart}
 use Rattle.store_parts.specs.declared.limits.TheConstants.{MAX_LOCKS}
 use Rattle.store_parts.specs.declared.parts.Parts.{Parts}
 use Rattle.store_parts.specs.ShowsPlace.{ShowsPlace}
-use Rattle.store_parts.specs.StoreStates.{ShownStore, StoreState, hand_in}
+use Rattle.store_parts.specs.StoreStates.{ShownStore, StoreState, dropped_in, hand_in}
 use Rattle.fresh_store.specs.FreshPages.{fresh_pages}
 
--- The transactions are started over the pages and none is open, nobody has the lock of a page or the summarise lock of a table, and the journal has no
--- request and promises none.
+-- The transactions are started over the pages and none is open, nobody has the lock of a page or the summarise lock of a table, the journal has no request
+-- and promises none, and no summary was asked for.
 pub record AreOpened {D : Type 0} (told : D → Told) (parts : Parts D) : Type 0 where
   pub over : IsOver told parts.transactions.tx parts.pages
   pub opened : IsOpened parts.transactions
@@ -37,6 +37,8 @@ pub record AreOpened {D : Type 0} (told : D → Told) (parts : Parts D) : Type 0
   pub free : (table : ℕ) → right_of parts.rights table ≡ None
   pub entries : parts.journal.entries ≡ []
   pub promised : parts.journal.promised ≡ 0
+  pub queue : parts.queue ≡ []
+  pub dropped : (session : ℕ) → dropped_in parts.dropped session ≡ []
 
 -- a store over the pages of a new one, whose transactions are started and in which nothing was done
 pub record IsNewStore (s : ShownStore) : Type 0 where
@@ -48,6 +50,8 @@ pub record IsNewStore (s : ShownStore) : Type 0 where
   pub unlocked : (page : PagePlace) → holder s.locks page ≡ None
   pub free : (table : ℕ) → right_of s.rights table ≡ None
   pub entries : s.entries ≡ []
+  pub queue : s.queue ≡ []
+  pub dropped : (n : ℕ) → dropped_in s.dropped n ≡ []
   pub names : s.names ≡ []
   pub hands : (n : ℕ) → hand_in s.hands n ≡ None
 

@@ -21,10 +21,11 @@ use page_locks::{Locks, Rights};
 use page_store::MachineFault;
 use std::alloc::Global;
 use store_layout::Layout;
-use store_parts::{Journal, MAX_LOCKS, Parts};
+use store_parts::{DroppedRequests, Journal, MAX_LOCKS, Parts};
+use summary_queue::Queue;
 use transactions::Transactions;
 
-/// The parts of a store over pages that were opened: no transaction is open, nobody has a lock, and no request was made. Each page of statuses is
+/// The parts of a store over pages that were opened: no transaction is open, nobody has a lock, and nothing was asked. Each page of statuses is
 /// read, and no other. The pages come back with each refusal; want of memory leaves them as they were.
 pub fn open_parts<D: Disk + Drop>(
     alloc: Global,
@@ -50,6 +51,12 @@ pub fn open_parts<D: Disk + Drop>(
     let Ok(rights) = Rights::new(alloc, count_tables(pages.layout())) else {
         return Err((MachineFault::Memory, pages));
     };
+    let Ok(queue) = Queue::new(alloc) else {
+        return Err((MachineFault::Memory, pages));
+    };
+    let Ok(dropped) = DroppedRequests::new(alloc) else {
+        return Err((MachineFault::Memory, pages));
+    };
     locks.known();
     match Transactions::start(alloc, &mut pages) {
         Ok(transactions) => {
@@ -60,6 +67,8 @@ pub fn open_parts<D: Disk + Drop>(
                 locks,
                 rights,
                 journal: Journal::new(alloc),
+                queue,
+                dropped,
             };
             opened_parts_fit(&parts);
             a_new_store_is_at_its_start(parts.pages.layout());

@@ -1,6 +1,5 @@
-use Rattle.std.proofs.Common.{◌≡◌, ℕ, ◌<◌, Bool, [], length, subst}
+use Rattle.std.proofs.Common.{ℕ, ◌<◌, Bool, [], length, subst}
 use Rattle.block_model.specs.DatabaseState.{initial_state}
-use Rattle.fresh_store.specs.FreshPages.{fresh_pages}
 use Rattle.heap_rows.specs.HeapBlocks.{HasBlocks}
 use Rattle.index_contents.specs.IndexContents.{index_page}
 use Rattle.opened_pages.specs.PageOrder.{IsIndexInOrder}

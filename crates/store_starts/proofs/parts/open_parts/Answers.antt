@@ -1,4 +1,4 @@
-use Rattle.std.proofs.Common.{◌≡◌, length, sym, ap, ◌∙◌}
+use Rattle.std.proofs.Common.{length, sym, ap, ◌∙◌}
 use Rattle.store_layout.specs.DiskLayout.{DiskLayout}
 use Rattle.store_starts.proofs.Fits.{parts_opened}
 use Rattle.store_starts.proofs.Starts.{opened_start}
@@ -9,7 +9,7 @@ returns-in-Ok-start-clause-opened g c =
     let started = c.in-Ok-start.ensures in
     parts_opened g.D.Disk.told _ c.count_tables.result started.over started.opened started.opens c.in-Ok-new.ensures c.known-2.ensures.counted c.in-Ok-new-2.ensures
     (c.count_tables.ensures ∙ ap (λ (l : DiskLayout). length l.schema.tables) (c.layout.ensures ∙ sym c.start.ensures.kept.leaves.layout))
-    c.new-in-Ok-start.ensures.entries c.new-in-Ok-start.ensures.promised
+    c.new-in-Ok-start.ensures.entries c.new-in-Ok-start.ensures.promised c.in-Ok-new-3.ensures c.in-Ok-new-4.ensures.none
 
 pub returns-in-Ok-start-clause-starts : goal.returns-in-Ok-start-clause-starts
 returns-in-Ok-start-clause-starts g c = λ tells fresh.

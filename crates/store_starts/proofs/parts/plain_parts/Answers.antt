@@ -1,7 +1,6 @@
 use Rattle.std.proofs.Common.{◌≡◌, [], sym, ap, subst, ◌∙◌}
 use Rattle.fresh_store.specs.FreshPages.{fresh_pages}
 use Rattle.page_store.specs.Keeps.{Tells}
-use Rattle.page_store.specs.PageMap.{View}
 use Rattle.store_layout.specs.DiskLayout.{DiskLayout}
 use Rattle.store_parts.specs.StoreStates.{store_of}
 use Rattle.store_starts.specs.OpenedParts.{ShowsStart}
