@@ -45,10 +45,12 @@ impl<D: Disk + Drop> Model for Store<D> {
 }
 
 impl<D: Disk + Drop> Store<D> {
-    /// A store of this layout, without sessions and rows, on pages in memory alone, beside a disk that no call touches.
+    /// A store of this layout, without sessions and rows, on pages in memory alone, beside a disk that never fails and that no call touches.
     pub fn plain(alloc: Global, disk: D, layout: Layout) -> Result<Store<D>, NoMemory>
         requires nothing { LeavesNothing (D.told disk) }
+        requires steady { (other : D) → (D.told other).faults ≡ 0 }
         ensures starts { IfOk result (λ store. Tells D.told store.pages → (p : Place) × IsStart layout p × ShowsPlace store p) }
+        ensures nothing { IfOk result (λ store. LeavesNothing (D.told store.pages.disk)) }
         ensures layout { IfOk result (λ store. store.pages.layout ≡ layout) }
         ensures ready { IfOk result (λ store. store.pages.failed ≡ None) }
     {
