@@ -1,0 +1,165 @@
+-- what a line says, done by a store, has its text
+use Rattle.std.proofs.Common.{◌≡◌, ◌≢◌, ℕ, true, false, List, ◌++◌, refl, sym, ap, ◌∙◌, subst, inl, inr}
+use Rattle.std.specs.Prelude.{OnOk, IfErr, IsErrOf, Result, Ok, Err}
+use Rattle.block_model.specs.declared.reply.Refusal.TheVariants as refusals
+use Rattle.query_words.specs.declared.line.Order.{Order}
+use Rattle.query_words.specs.declared.line.Line.{Line}
+use Rattle.query_words.specs.declared.line.Line.TheVariants as lines
+use Rattle.query_words.specs.declared.line.LineFault.{LineFault}
+use Rattle.query_words.specs.declared.line.LineFault.TheVariants as line_faults
+use Rattle.query_words.specs.Lines.{ReadsAs, line_of}
+use Rattle.reply_texts.specs.declared.dropped.Dropped.{Dropped}
+use Rattle.script_run.specs.declared.engine.AnswerFault.{AnswerFault}
+use Rattle.script_run.specs.declared.engine.AnswerFault.TheVariants.{Memory, Full}
+use Rattle.block_model.specs.declared.schema.Schema.{Schema}
+use Rattle.statements.specs.declared.limits.TheConstants.{MAX_SESSIONS}
+use Rattle.statements.specs.SessionNumbers.{session_number, is_past_sessions}
+use Rattle.line_texts.specs.LineTexts.{Answers, Does, IsLineText, IsNotRead, Orders, PastSessions, dropped_at, fault_text, named, refused_text}
+use Rattle.line_texts.specs.Place.{Place}
+use Rattle.line_texts.specs.StatementSteps.{LacksRoom}
+use Rattle.line_texts.specs.Stops.{Amidst, Begun, ComesTo, IsLineStopped, LineComesTo, PastRoom, Undone, Unprinted}
+use Rattle.store_parts.specs.StoreStates.{StoreState}
+use Rattle.session_steps.specs.declared.faults.SessionFault.{SessionFault}
+use Rattle.session_steps.specs.declared.faults.SessionFault.TheVariants as sessions
+use Rattle.session_steps.specs.Sessions.{HasSession}
+use Rattle.brin_steps.specs.declared.orders.Answer.{Answer}
+use Rattle.brin_steps.specs.Leading.{PlacesLead}
+use Rattle.brin_steps.specs.Orders.{DoesSo, IsCutShort, IsLost, IsStoppedSaying, answer_text}
+use Rattle.brin_steps.proofs.Leading.{led_as, led_further, led_still}
+
+-- ---- lines that aren't answered
+
+undone : (said : Line) (fault : AnswerFault) (p : Place) → fault ≡ Memory → IsStoppedSaying said fault p p
+undone said fault p is schema line read = subst (λ f. IsLineStopped schema p line f p) (sym is) Undone
+
+-- all is done, and its text lost
+unprinted : (said : Line) (text : List ℕ) (fault : AnswerFault) (p q : Place) → fault ≡ Memory → Answers p (Ok said) text q → IsStoppedSaying said fault p q
+unprinted said text fault p q is answers schema line read =
+    subst (λ f. IsLineStopped schema p line f q) (sym is) (Unprinted text q (subst (λ r. Answers p r text q) (sym read) answers))
+
+-- ---- an order of a session of that number
+
+-- what is told of it, with the summaries that are told to be asked for in vain
+pub told_order : (n : ℕ) (name : List ℕ) (order : Order) (answer : Answer) (dropped : List Dropped) (p q : Place) → dropped ≡ dropped_at q n → DoesSo n order answer p q
+    → Does p n name order (answer_text name dropped answer) q
+told_order n name order answer dropped p q told does = subst (λ (l : List Dropped). Does p n name order (answer_text name l answer) q) (sym told) (does name)
+
+-- ---- the same, of a session that the line makes
+
+module _ (name : List ℕ) (order : Order) (n : ℕ) (names : List (List ℕ)) (within : is_past_sessions names name ≡ false) (number : n ≡ session_number names name) (p m : Place) (same : p.names ≡ names) (made : m ≡ named p name) where
+  not_past : is_past_sessions p.names name ≡ false
+  not_past = ap (λ l. is_past_sessions l name) same ∙ within
+
+  its_number : n ≡ session_number p.names name
+  its_number = number ∙ ap (λ l. session_number l name) (sym same)
+
+  said_order : (text : List ℕ) (q : Place) → Does m n name order text q → Answers p (Ok (lines.Say name order)) text q
+  said_order text q does =
+      Orders name order text q not_past
+      (subst (λ (x : Place). Does x (session_number p.names name) name order text q) made (subst (λ (k : ℕ). Does m k name order text q) its_number does))
+
+  line_comes : (schema : Schema) (line : List ℕ) → line_of schema line ≡ Ok (lines.Say name order) → (q : Place) → ComesTo m n order q → LineComesTo p (line_of schema line) (session_number p.names name) q
+  line_comes schema line is q comes =
+      subst (λ r. LineComesTo p r (session_number p.names name) q) (sym is)
+      (Begun name order q not_past (subst (λ (x : Place). ComesTo x (session_number p.names name) order q) made (subst (λ (k : ℕ). ComesTo m k order q) its_number comes)))
+
+  cut_order : (fault : AnswerFault) (q : Place) → IsCutShort n order fault m q → IsStoppedSaying (lines.Say name order) fault p q
+  cut_order Memory q cut schema line is = Amidst (session_number p.names name) q (line_comes schema line is q cut.1)
+  cut_order Full q cut schema line is =
+      PastRoom (session_number p.names name) q (line_comes schema line is q cut.1) (subst (λ (k : ℕ). LacksRoom q k) its_number cut.0)
+
+  lost_order : (fault : AnswerFault) (q : Place) → IsLost n name order fault m q → IsStoppedSaying (lines.Say name order) fault p q
+  lost_order fault q (inl cut) = cut_order fault q cut
+  lost_order fault q (inr lost) = unprinted (lines.Say name order) lost.1 fault p q lost.0 (said_order lost.1 q lost.2)
+
+-- one session more than there may be
+said_past : (name : List ℕ) (order : Order) (names : List (List ℕ)) (limit : ℕ) (p : Place) → is_past_sessions names name ≡ true → limit ≡ MAX_SESSIONS → p.names ≡ names
+    → Answers p (Ok (lines.Say name order)) (refused_text name (refusals.Limit limit)) p
+said_past name order names limit p past at same =
+    subst (λ (l : ℕ). Answers p (Ok (lines.Say name order)) (refused_text name (refusals.Limit l)) p) (sym at)
+    (PastSessions name order (ap (λ l. is_past_sessions l name) same ∙ past))
+
+-- what a session is told is what the line that makes it is answered
+pub say_done : {D E : Type 0} (s t u : StoreState D) (name : List ℕ) (order : Order) (n : ℕ) (before after : List ℕ) (result : Result (Unit {0}) E) → is_past_sessions s.names name ≡ false → n ≡ session_number s.names name
+    → PlacesLead s t (λ p m. m ≡ named p name) → OnOk result ((text : List ℕ) × (after ≡ before ++ text) × PlacesLead t u (λ m q. Does m n name order text q))
+    → OnOk result ((text : List ℕ) × (after ≡ before ++ text) × PlacesLead s u (λ p q. Answers p (Ok (lines.Say name order)) text q))
+say_done s t u name order n before after (Ok v) within number made h = (
+  h.0,
+  h.1,
+  led_further s t u (λ p m. m ≡ named p name) (λ m q. Does m n name order h.0 q) (λ p q. Answers p (Ok (lines.Say name order)) h.0 q) made h.2
+      (λ p m q shown _ _ is does. said_order name order n s.names within number p m shown.names is h.0 q does),
+)
+say_done s t u name order n before after (Err e) within number made h = tt
+
+pub say_lost : {D : Type 0} (s t u : StoreState D) (name : List ℕ) (order : Order) (n : ℕ) (result : Result (Unit {0}) AnswerFault) → is_past_sessions s.names name ≡ false → n ≡ session_number s.names name
+    → PlacesLead s t (λ p m. m ≡ named p name) → IfErr result (λ fault. PlacesLead t u (IsLost n name order fault)) → IfErr result (λ fault. PlacesLead s u (IsStoppedSaying (lines.Say name order) fault))
+say_lost s t u name order n (Ok v) within number made h = tt
+say_lost s t u name order n (Err fault) within number made h =
+    led_further s t u (λ p m. m ≡ named p name) (IsLost n name order fault) (IsStoppedSaying (lines.Say name order) fault) made h
+    (λ p m q shown _ _ is lost. lost_order name order n s.names within number p m shown.names is fault q lost)
+
+-- a line for which there is no session changes nothing
+unmade : {D : Type 0} (s s' : StoreState D) (name : List ℕ) (fault : SessionFault) → HasSession s name s' (Err fault) → s' ≡ s
+unmade s s' name (sessions.Limit limit) has = has.2
+unmade s s' name sessions.Memory has = has.1
+
+pub say_refused : {D E : Type 0} (s s' : StoreState D) (name : List ℕ) (order : Order) (fault : SessionFault) (before after : List ℕ) (result : Result (Unit {0}) E) → HasSession s name s' (Err fault)
+    → OnOk result ((limit : ℕ) × (fault ≡ sessions.Limit limit) × (after ≡ before ++ refused_text name (refusals.Limit limit)))
+    → OnOk result ((text : List ℕ) × (after ≡ before ++ text) × PlacesLead s s' (λ p q. Answers p (Ok (lines.Say name order)) text q))
+say_refused s s' name order fault before after (Ok v) has h =
+    let past = subst (λ (f : SessionFault). HasSession s name s' (Err f)) h.1 has in (
+      refused_text name (refusals.Limit h.0),
+      h.2,
+      led_still s s' (λ p q. Answers p (Ok (lines.Say name order)) (refused_text name (refusals.Limit h.0)) q) past.2 (λ p shown. said_past name order s.names h.0 p past.0 past.1 shown.names),
+    )
+say_refused s s' name order fault before after (Err e) has h = tt
+
+pub say_unmade : {D : Type 0} (s s' : StoreState D) (name : List ℕ) (order : Order) (fault : SessionFault) (result : Result (Unit {0}) AnswerFault) → HasSession s name s' (Err fault)
+    → IfErr result (λ why. why ≡ Memory) → IfErr result (λ why. PlacesLead s s' (IsStoppedSaying (lines.Say name order) why))
+say_unmade s s' name order fault (Ok v) has is = tt
+say_unmade s s' name order fault (Err why) has is = led_still s s' (IsStoppedSaying (lines.Say name order) why) (unmade s s' name fault has) (λ p _. undone (lines.Say name order) why p is)
+
+-- ---- what is read of a line
+
+pub done_line : {D E : Type 0} (s s' : StoreState D) (line before after : List ℕ) (said : Line) (result : Result (Unit {0}) E) → line_of s.pages.layout.schema line ≡ Ok said
+    → OnOk result ((text : List ℕ) × (after ≡ before ++ text) × PlacesLead s s' (λ p q. Answers p (Ok said) text q))
+    → OnOk result ((text : List ℕ) × (after ≡ before ++ text) × PlacesLead s s' (λ p q. IsLineText s.pages.layout.schema p line text q))
+done_line s s' line before after said (Ok u) is h = (
+  h.0,
+  h.1,
+  led_as s s' (λ p q. Answers p (Ok said) h.0 q) (λ p q. IsLineText s.pages.layout.schema p line h.0 q) h.2 (λ p q _ _ done. subst (λ r. Answers p r h.0 q) (sym is) done),
+)
+done_line s s' line before after said (Err e) is h = tt
+
+pub stopped_line : {D : Type 0} (s s' : StoreState D) (line : List ℕ) (said : Line) (result : Result (Unit {0}) AnswerFault) → line_of s.pages.layout.schema line ≡ Ok said
+    → IfErr result (λ fault. PlacesLead s s' (IsStoppedSaying said fault)) → IfErr result (λ fault. PlacesLead s s' (λ p q. IsLineStopped s.pages.layout.schema p line fault q))
+stopped_line s s' line said (Ok u) is h = tt
+stopped_line s s' line said (Err fault) is h =
+    led_as s s' (IsStoppedSaying said fault) (λ p q. IsLineStopped s.pages.layout.schema p line fault q) h (λ p q _ _ stops. stops s.pages.layout.schema line is)
+
+-- a line that isn't read changes nothing
+pub stopped_unread : {D : Type 0} (s : StoreState D) (line : List ℕ) (result : Result (Unit {0}) AnswerFault) → ¬ (IsErrOf result Full)
+    → IfErr result (λ fault. PlacesLead s s (λ p q. IsLineStopped s.pages.layout.schema p line fault q))
+stopped_unread s line (Ok u) not = tt
+stopped_unread s line (Err Memory) not = led_still s s (λ p q. IsLineStopped s.pages.layout.schema p line Memory q) refl (λ p _. Undone)
+stopped_unread s line (Err Full) not = absurd (not refl)
+
+-- a fault that isn't want of memory is the line's
+fault_said : (said : Result Line LineFault) (fault : LineFault) → fault ≢ line_faults.Memory → ReadsAs {T = Line} (Err fault) said → said ≡ Err fault
+fault_said said (line_faults.Syntax at) not r = r
+fault_said said (line_faults.NoTable at) not r = r
+fault_said said (line_faults.NoIndex at) not r = r
+fault_said said (line_faults.NoColumn at) not r = r
+fault_said said (line_faults.Kind at) not r = r
+fault_said said line_faults.Memory not r = absurd (not refl)
+
+pub refused : {D E : Type 0} (s : StoreState D) (line before after : List ℕ) (fault : LineFault) (result : Result (Unit {0}) E) → ReadsAs {T = Line} (Err fault) (line_of s.pages.layout.schema line)
+    → OnOk result (fault ≢ line_faults.Memory) → OnOk result (after ≡ before ++ fault_text fault)
+    → OnOk result ((text : List ℕ) × (after ≡ before ++ text) × PlacesLead s s (λ p q. IsLineText s.pages.layout.schema p line text q))
+refused s line before after fault (Ok u) r not e = (
+  fault_text fault,
+  e,
+  led_still s s (λ p q. IsLineText s.pages.layout.schema p line (fault_text fault) q) refl
+      (λ p _. subst (λ said. Answers p said (fault_text fault) p) (sym (fault_said (line_of s.pages.layout.schema line) fault not r)) (IsNotRead fault)),
+)
+refused s line before after fault (Err e) r not h = tt

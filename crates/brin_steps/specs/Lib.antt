@@ -1,0 +1,6 @@
+pub mod Leading
+pub mod Orders
+pub mod SessionPlaces
+pub mod ScriptOutput
+pub mod Simulations
+pub mod WordsFaults
