@@ -8,13 +8,14 @@ ghost use Rattle.store_parts.specs.StepIs.{answer_of, hand_after};
 ghost use Rattle.store_parts.specs.Stepping.{IsFit, IsShown};
 ghost use Rattle.store_parts.specs.UndoneLaws.{StepsSo};
 
-use crate::waiting::{
-    begin, begin_delete, begin_select, commit, delete_on, desummarise_on, explain_on, insert_on,
-    mark, put_row, roll_back, select_on, summarise_on,
-};
+use crate::waiting::{begin_delete, begin_select, delete_on, select_on};
 use brin_insert::Insert;
 use disk_trait::Disk;
+use store_inserts::{insert_on, put_row};
+use store_marks::mark;
 use store_parts::{Hand, Parts, Step, StoreFault, Stepped};
+use store_transactions::{begin, commit, roll_back};
+use store_upkeep::{desummarise_on, explain_on, summarise_on};
 
 /// Makes the next step of the statement. The session's spare machine serves the next row of its table.
 pub(crate) fn step_of<D: Disk + Drop>(
