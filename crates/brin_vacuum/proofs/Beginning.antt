@@ -38,8 +38,8 @@ module _ (layout : DiskLayout) (pages paged : PageMap) (locks : LockState) (righ
         blocks,
         subst (λ (p : PageMap). HasBlocks layout p table blocks) (sym same) (subst (λ (z : VacuumState). HasBlocks layout pages z.table blocks) (sym view) has),
         subst (λ (d : Did). VacuumDoes (step_of layout pages paged locks rights righted actor blocks blocks) (state_of table indexes course room dead_room) (state_of table indexes (record { standing = next; extent = extent; rows = 0; unnamed = 0 }) room dead_room) d) (sym is)
-        (subst (λ (n : ℕ). VacuumDoes (step_of layout pages paged locks rights righted actor blocks blocks) (state_of table indexes course room dead_room) (state_of table indexes (record { standing = next; extent = n; rows = 0; unnamed = 0 }) room dead_room) (answer_at points.Right next)) (sym count)
-        (Begins next (ap (λ (z : VacuumState). z.standing) view ∙ begins) (record { free = free; taken = taken; pages = same; blocks = refl }) (subst (λ (n : ℕ). ComesTo layout pages indexes n 0 next) count comes))),
+            (subst (λ (n : ℕ). VacuumDoes (step_of layout pages paged locks rights righted actor blocks blocks) (state_of table indexes course room dead_room) (state_of table indexes (record { standing = next; extent = n; rows = 0; unnamed = 0 }) room dead_room) (answer_at points.Right next)) (sym count)
+            (Begins next (ap (λ (z : VacuumState). z.standing) view ∙ begins) (record { free = free; taken = taken; pages = same; blocks = refl }) (subst (λ (n : ℕ). ComesTo layout pages indexes n 0 next) count comes))),
       )
 
 -- rows of its block are dropped
@@ -54,7 +54,7 @@ prunes_rows layout pages paged locks rights actor table block count room dead_ro
       after,
       has,
       subst (λ (d : Did). VacuumDoes (step_of layout pages paged locks rights rights actor blocks after) (state_of table indexes course room dead_room) (state_of table indexes (record { standing = next; extent = course.extent; rows = course.rows + count; unnamed = course.unnamed }) room_then dead_then) d) (sym is)
-      (subst (λ (n : ℕ). VacuumDoes (step_of layout pages paged locks rights rights actor blocks after) (state_of table indexes course room dead_room) (state_of table indexes (record { standing = next; extent = course.extent; rows = course.rows + count; unnamed = course.unnamed }) n dead_then) (answer_at points.Prune next)) (sym room_is)
-      (subst (λ (n : ℕ). VacuumDoes (step_of layout pages paged locks rights rights actor blocks after) (state_of table indexes course room dead_room) (state_of table indexes (record { standing = next; extent = course.extent; rows = course.rows + count; unnamed = course.unnamed }) room n) (answer_at points.Prune next)) (sym dead_is)
-      (PrunesBlock block count next (ap (λ (z : VacuumState). z.standing) view ∙ at) drops same refl comes))),
+          (subst (λ (n : ℕ). VacuumDoes (step_of layout pages paged locks rights rights actor blocks after) (state_of table indexes course room dead_room) (state_of table indexes (record { standing = next; extent = course.extent; rows = course.rows + count; unnamed = course.unnamed }) n dead_then) (answer_at points.Prune next)) (sym room_is)
+          (subst (λ (n : ℕ). VacuumDoes (step_of layout pages paged locks rights rights actor blocks after) (state_of table indexes course room dead_room) (state_of table indexes (record { standing = next; extent = course.extent; rows = course.rows + count; unnamed = course.unnamed }) room n) (answer_at points.Prune next)) (sym dead_is)
+          (PrunesBlock block count next (ap (λ (z : VacuumState). z.standing) view ∙ at) drops same refl comes))),
     )

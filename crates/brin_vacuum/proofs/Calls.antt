@@ -1,7 +1,5 @@
 -- the table stays kept by a vacuum's step
-use Rattle.std.proofs.Common.{◌≡◌, ℕ, ◌<◌, List, [], ◌∷◌, Option, Some, refl, sym, subst}
-use Rattle.std.specs.Prelude.{Bool}
-use Rattle.block_model.specs.declared.place.Spot.{Spot}
+use Rattle.std.proofs.Common.{◌≡◌, ℕ, ◌<◌, List, [], ◌∷◌, Option, Some, sym, subst}
 use Rattle.block_model.specs.declared.reply.Point.{Point}
 use Rattle.table_coverage.specs.Accounts.{Account}
 use Rattle.table_coverage.specs.Machines.{MachineWaits, ShownTable, Unseen, table_state, task_turned}

@@ -1,6 +1,5 @@
 -- how many numbers are so
-use Rattle.std.proofs.Common.{◌≡◌, inl, inr, ℕ, zero, suc, ◌+◌, ◌≤◌, ◌<◌, List, [], ◌∷◌, length, refl, sym, ap, subst, ◌∙◌, arith}
-use Rattle.std.proofs.lemmas.Bool.{cases_eq, cases_lt}
+use Rattle.std.proofs.Common.{◌≡◌, inl, inr, ℕ, zero, suc, ◌+◌, ◌≤◌, ◌<◌, List, [], ◌∷◌, length, refl, sym, subst, arith}
 use Rattle.coverage.specs.Counts.{IsCountBelow, IsCountOf, NoneBelow, NotThisOne, OneMoreBelow}
 use Rattle.heap_rows.specs.DroppedRows.{AreAscending}
 use Rattle.brin_vacuum.proofs.Picking.{IsAmong}

@@ -1,5 +1,5 @@
 -- rows that are dropped from a block
-use Rattle.std.proofs.Common.{◌≡◌, ◌≢◌, ◌⊎◌, inl, inr, ℕ, zero, suc, ◌+◌, ◌≤◌, ◌<◌, true, List, [], ◌∷◌, length, get_or, set, refl, sym, ap, subst, ◌∙◌, arith}
+use Rattle.std.proofs.Common.{◌≡◌, ◌⊎◌, inl, inr, ℕ, zero, suc, ◌+◌, ◌<◌, List, [], ◌∷◌, length, get_or, sym, ap, subst, ◌∙◌, arith}
 use Rattle.std.specs.Prelude.{All, Contains, None, Some}
 use Rattle.std.proofs.lemmas.Bool.{cases_eq}
 use Rattle.std.proofs.lemmas.List.{length-set}
@@ -85,9 +85,9 @@ module _ (blocks : List (List Slot)) (block : ℕ) (free : List ℕ) (frees : Fr
     ];
     counted = counts_ascending count (λ (k : ℕ). HasGone (slot_at blocks (at k)) (slot_at after (at k))) free ascend
         (λ k gone. elim (is_among free k) [
-        | inl among ↦ among
-        | inr none ↦ absurd (gone.0 (sym (stays k none) ∙ gone.1))
-      ])
+          | inl among ↦ among
+          | inr none ↦ absurd (gone.0 (sym (stays k none) ∙ gone.1))
+        ])
         (λ k among. let row = all_among (λ (n : ℕ). (row : StoredRow) × (slot_at blocks (at n) ≡ Some row)) free k used among in (λ none. none-some row.0 (sym none ∙ row.1), there k among));
   }
 

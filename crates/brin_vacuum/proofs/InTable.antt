@@ -1,45 +1,44 @@
 -- each step of a vacuum, as what came of it in its table
-use Rattle.std.proofs.Common.{◌≡◌, ◌≢◌, ◌⊎◌, inl, inr, ℕ, zero, suc, ◌+◌, ◌≤◌, ◌<◌, Bool, true, false, List, [], ◌∷◌, length, Option, None, Some, refl, sym, ap, subst, ◌∙◌, arith}
+use Rattle.std.proofs.Common.{◌≡◌, ◌≢◌, ◌⊎◌, inl, inr, ℕ, suc, ◌+◌, ◌<◌, Bool, List, length, Option, None, Some, refl, sym, ap, subst, ◌∙◌, arith}
 use Rattle.std.specs.Prelude.{◌↔◌, IsTrue, drop, slice_get}
 use Rattle.std.proofs.lemmas.Bool.{cases_eq, cases_lt, false≢true}
-use Rattle.std.proofs.lemmas.Option.{none-some, same_Some, slice_get_within}
+use Rattle.std.proofs.lemmas.Option.{none-some, slice_get_within}
 use Rattle.block_model.specs.declared.place.Place.{Place}
 use Rattle.block_model.specs.declared.place.Spot.{Spot}
 use Rattle.block_model.specs.declared.reply.Point.{Point}
 use Rattle.block_model.specs.declared.reply.Point.TheVariants as points
 use Rattle.block_model.specs.declared.row.Row.{Row}
-use Rattle.store_layout.specs.DiskLayout.{DiskLayout}
 use Rattle.page_layout.specs.PageContents.{Slot}
 use Rattle.page_locks.specs.declared.did.Did.{Did}
 use Rattle.page_locks.specs.declared.did.Did.TheVariants as did
 use Rattle.page_locks.specs.declared.held.Held.{Held}
-use Rattle.page_locks.specs.LockChanges.{IsAnothers, IsFreeFor, page_of}
-use Rattle.page_locks.specs.LockHolders.{LockState, holder}
+use Rattle.page_locks.specs.LockChanges.{IsAnothers, page_of}
+use Rattle.page_locks.specs.LockHolders.{holder}
 use Rattle.page_locks.specs.RightHolders.{right_of}
 use Rattle.page_store.specs.PageMap.{PageMap}
-use Rattle.coverage.specs.Counts.{AreRowsGone, AreTuplesGone, HasGone, IsCountOf}
+use Rattle.coverage.specs.Counts.{AreRowsGone, AreTuplesGone, HasGone}
 use Rattle.coverage.specs.IndexPart.{IndexPart, SweepMakes}
-use Rattle.coverage.specs.IndexView.{IndexView, Pages, Unstarted}
-use Rattle.coverage.specs.Knowing.{Knows, LocksNone}
+use Rattle.coverage.specs.IndexView.{IndexView}
+use Rattle.coverage.specs.Knowing.{Knows}
 use Rattle.coverage.specs.Statements.{Holding, Statement, building_of, loose_of}
-use Rattle.table_coverage.specs.Accounts.{Account, no_account}
+use Rattle.table_coverage.specs.Accounts.{Account}
 use Rattle.table_coverage.specs.InOneIndex.{DoesAt, index_with, with_index, with_unnamed}
 use Rattle.table_coverage.specs.Machines.{IsFewer, ShownTable, Unseen, table_state, task_turned}
-use Rattle.table_coverage.specs.Table.{Index, Prunes, Restarts, Resting, Sweeps, SweepsFrom, Task, TableState, index_view_at, pick, seen_by}
+use Rattle.table_coverage.specs.Table.{Index, Prunes, Resting, Sweeps, SweepsFrom, Task, TableState, index_view_at, pick, seen_by}
 use Rattle.table_coverage.specs.TableCovered.{IsMaintenance, IsTableKept}
 use Rattle.table_coverage.specs.TablePoints.{PageLock, SummariseLock, waits_for}
-use Rattle.table_coverage.specs.TableSteps.{Does, DropsRows, HasPut, IsBlocked, PrunesBlock, SameRows, SeesPlace, Settles, SummariseLockHeld, SweepWaits, TakesLock, TaskTurns, Vacuum}
+use Rattle.table_coverage.specs.TableSteps.{IsBlocked, PrunesBlock, Settles, SummariseLockHeld, SweepWaits, TakesLock, TaskTurns, Vacuum}
 use Rattle.index_contents.specs.IndexContents.{IndexContents, contents, relation_of}
 use Rattle.index_steps.specs.IndexTuples.{IndexShape, contents_of, index_at, shape_of}
 use Rattle.index_steps.specs.ShownIndex.{Shows, lock_in, shown_part, tuple_in_place}
-use Rattle.index_steps.specs.ShownRows.{row_in, rows_in, shown_by}
+use Rattle.index_steps.specs.ShownRows.{row_in, rows_in}
 use Rattle.index_steps.specs.ShownTable.{indexes_of, shown_at}
 use Rattle.heap_rows.specs.RowPlaces.{slot_at}
 use Rattle.brin_vacuum.specs.declared.standing.Standing.{Standing}
 use Rattle.brin_vacuum.specs.declared.standing.Standing.TheVariants as standings
 use Rattle.brin_vacuum.specs.DeadRows.{DropsFrom}
 use Rattle.brin_vacuum.specs.NextPages.{IsNextIn}
-use Rattle.brin_vacuum.specs.TableSteps.{DoesInTable, HasCounted, IsFirstWithin, IsSpared, VacuumDid, VacuumGoes, account_by, has_gone, held_done, lock_turned, shown_after, shown_before, task_at, task_done, task_of, unnamed_turned, waits_at}
+use Rattle.brin_vacuum.specs.TableSteps.{DoesInTable, HasCounted, IsFirstWithin, IsSpared, VacuumDid, VacuumGoes, account_by, has_gone, lock_turned, shown_after, shown_before, task_at, task_of, unnamed_turned, waits_at}
 use Rattle.brin_vacuum.specs.Vacuums.{Begins, ComesTo, IsVacuumOf, LacksRight, SameIndexes, StandsWell, SweepsPageOf, TakesRight, VacuumDoes, VacuumState, VacuumStep, Waits, answer_at, standing_at}
 use Rattle.brin_vacuum.specs.Vacuums.{PrunesBlock as StepPrunes, Sweeps as StepSweeps}
 use Rattle.brin_vacuum.proofs.Counting.{counts_alike}
@@ -169,26 +168,28 @@ module _ (sweeps : SweepsLaw) (here : IndexHere) (others : OtherIndexes) (ascend
         → DoesInTable step a (record a { standing = next; extent = length step.blocks; rows = 0; unnamed = 0 }) (answer_at points.Right next)
     begins next right comes =
         answered s old new (right_of step.rights table) a next (length step.blocks) 0 0 0 points.Right
-        (subst (λ (q : Standing). HasCounted q a (record a { standing = next; extent = length step.blocks; rows = 0; unnamed = 0 }) 0) (sym standing) (refl, refl))
-        ((λ u task lock kept spared.
-        let rests = at_rest u task in
-        let first : Task = Prunes (length step.blocks) 0 in
-        let same_blocks : length step.blocked ≡ length step.blocks = ap (length {A = List Slot}) right.blocks in (
-          u.unnamed,
-          (λ i x is. is),
-          first,
-          subst (λ (q : Standing). DoesAt s (table_state old u) (table_state new (lock_turned (Some s) (task_turned s first u))) points.Right (account_by q 0)) (sym standing)
-          (record {
-            does = TakesLock first Vacuum (turned s old new u (Some s) u.unnamed Resting first rests)
-                (nobody u rests kept (λ n is. right.free n (sym lock ∙ is)) u.summarise_lock refl) refl
-                (record { layout = record { indexes = refl; rows_per_page = refl; heap_limit = refl }; blocks = same_blocks; row = λ b k. ap (λ (l : List (List Slot)). rows_in table l b k) right.blocks; counts = λ t. refl })
-                (record { index = λ i. same_shown step.layout step.pages step.paged step.locks (u.unnamed i) (λ n. ap (λ (p : PageMap). contents step.layout p n) right.pages) (slice_get (indexes_of step.layout table) i) });
-            point_is = refl;
-            adds = λ x y is. is;
-          }),
-          settles_blocks s new u step.layout step.pages a.indexes counted_there (λ t. shows_after u kept (λ n p. ap (λ (m : PageMap). (contents step.layout m n).pages.kind p) right.pages) (lock_turned (Some s) (task_turned s t u)))
-              (length step.blocks) 0 next comes,
-        )), (λ u task lock kept spared. subst (λ (q : Standing). IsFirstWithin q (length step.blocks) (Prunes (length step.blocks) 0)) (sym standing) refl))
+        (subst (λ (q : Standing). HasCounted q a (record a { standing = next; extent = length step.blocks; rows = 0; unnamed = 0 }) 0) (sym standing) (refl, refl)) (
+          (λ u task lock kept spared.
+              let rests = at_rest u task in
+              let first : Task = Prunes (length step.blocks) 0 in
+              let same_blocks : length step.blocked ≡ length step.blocks = ap (length {A = List Slot}) right.blocks in (
+                u.unnamed,
+                (λ i x is. is),
+                first,
+                subst (λ (q : Standing). DoesAt s (table_state old u) (table_state new (lock_turned (Some s) (task_turned s first u))) points.Right (account_by q 0)) (sym standing)
+                    (record {
+                      does = TakesLock first Vacuum (turned s old new u (Some s) u.unnamed Resting first rests)
+                          (nobody u rests kept (λ n is. right.free n (sym lock ∙ is)) u.summarise_lock refl) refl
+                          (record { layout = record { indexes = refl; rows_per_page = refl; heap_limit = refl }; blocks = same_blocks; row = λ b k. ap (λ (l : List (List Slot)). rows_in table l b k) right.blocks; counts = λ t. refl })
+                          (record { index = λ i. same_shown step.layout step.pages step.paged step.locks (u.unnamed i) (λ n. ap (λ (p : PageMap). contents step.layout p n) right.pages) (slice_get (indexes_of step.layout table) i) });
+                      point_is = refl;
+                      adds = λ x y is. is;
+                    }),
+                settles_blocks s new u step.layout step.pages a.indexes counted_there (λ t. shows_after u kept (λ n p. ap (λ (m : PageMap). (contents step.layout m n).pages.kind p) right.pages) (lock_turned (Some s) (task_turned s t u)))
+                    (length step.blocks) 0 next comes,
+              )),
+          (λ u task lock kept spared. subst (λ (q : Standing). IsFirstWithin q (length step.blocks) (Prunes (length step.blocks) 0)) (sym standing) refl),
+        )
 
   module _ (block : ℕ) (standing : a.standing ≡ standings.Prunes block) (below : block < a.extent) (count : ℕ) (drops : DropsFrom step.blocks step.blocked block count) (same : SameIndexes step) where
     at_block : (u : Unseen) → u.task s ≡ task_of a → u.task s ≡ Prunes a.extent block
@@ -219,36 +220,38 @@ module _ (sweeps : SweepsLaw) (here : IndexHere) (others : OtherIndexes) (ascend
         → DoesInTable step a (record a { standing = next; rows = a.rows + count }) (answer_at points.Prune next)
     prunes next comes =
         answered s old new (right_of step.rights table) a next a.extent (a.rows + count) a.unnamed count points.Prune
-        (subst (λ (q : Standing). HasCounted q a (record a { standing = next; rows = a.rows + count }) count) (sym standing) (refl, refl))
-        ((λ u task lock kept spared.
-        let at = at_block u task in
-        let behind : Task = Prunes a.extent (block + 1) in
-        let held : u.summarise_lock ≡ Some s = locked_by s old u (Prunes a.extent block) tt at kept in
-        let e : suc block ≡ block + 1 = omega arith in (
-          u.unnamed,
-          (λ i x is. is),
-          behind,
-          subst (λ (q : Standing). DoesAt s (table_state old u) (table_state new (lock_turned (Some s) (task_turned s behind u))) points.Prune (account_by q count)) (sym standing)
-          (subst (λ (n : ℕ). DoesAt s (table_state old u) (table_state new (lock_turned (Some s) (task_turned s (Prunes a.extent n) u))) points.Prune (account_by (standings.Prunes block) count)) e
-          (record {
-            does = PrunesBlock a.extent block dropped below (λ n b k other is either. spared n b k other is either)
-                (turned s old new u (Some s) u.unnamed (Prunes a.extent block) (Prunes a.extent (suc block)) at)
-                (record {
-                layout = record { indexes = refl; rows_per_page = refl; heap_limit = refl };
-                on = only_there;
-                gone = λ b k is. then_none (old.row b k) (new.row b k) is;
-                rows = row_after;
-                blocks = drops.blocks;
-                counts = λ t. refl;
-                indexes = record { index = λ i. same_shown step.layout step.pages step.paged step.locks (u.unnamed i) same (slice_get (indexes_of step.layout table) i) };
-                summarise_lock = sym held;
-              });
-            point_is = refl;
-            adds = λ x y is. (count, rows_gone, is);
-          })),
-          settles_blocks s new u step.layout step.pages a.indexes counted_there (λ t. shows_after u kept (λ n p. ap (λ (c : IndexContents). c.pages.kind p) (same n)) (lock_turned (Some s) (task_turned s t u)))
-              a.extent (block + 1) next comes,
-        )), (λ u task lock kept spared. not_first a.standing (standings.Prunes block) standing tt (length step.blocks) (Prunes a.extent (block + 1))))
+        (subst (λ (q : Standing). HasCounted q a (record a { standing = next; rows = a.rows + count }) count) (sym standing) (refl, refl)) (
+          (λ u task lock kept spared.
+              let at = at_block u task in
+              let behind : Task = Prunes a.extent (block + 1) in
+              let held : u.summarise_lock ≡ Some s = locked_by s old u (Prunes a.extent block) tt at kept in
+              let e : suc block ≡ block + 1 = omega arith in (
+                u.unnamed,
+                (λ i x is. is),
+                behind,
+                subst (λ (q : Standing). DoesAt s (table_state old u) (table_state new (lock_turned (Some s) (task_turned s behind u))) points.Prune (account_by q count)) (sym standing)
+                    (subst (λ (n : ℕ). DoesAt s (table_state old u) (table_state new (lock_turned (Some s) (task_turned s (Prunes a.extent n) u))) points.Prune (account_by (standings.Prunes block) count)) e
+                    (record {
+                      does = PrunesBlock a.extent block dropped below (λ n b k other is either. spared n b k other is either)
+                          (turned s old new u (Some s) u.unnamed (Prunes a.extent block) (Prunes a.extent (suc block)) at)
+                          (record {
+                            layout = record { indexes = refl; rows_per_page = refl; heap_limit = refl };
+                            on = only_there;
+                            gone = λ b k is. then_none (old.row b k) (new.row b k) is;
+                            rows = row_after;
+                            blocks = drops.blocks;
+                            counts = λ t. refl;
+                            indexes = record { index = λ i. same_shown step.layout step.pages step.paged step.locks (u.unnamed i) same (slice_get (indexes_of step.layout table) i) };
+                            summarise_lock = sym held;
+                          });
+                      point_is = refl;
+                      adds = λ x y is. (count, rows_gone, is);
+                    })),
+                settles_blocks s new u step.layout step.pages a.indexes counted_there (λ t. shows_after u kept (λ n p. ap (λ (c : IndexContents). c.pages.kind p) (same n)) (lock_turned (Some s) (task_turned s t u)))
+                    a.extent (block + 1) next comes,
+              )),
+          (λ u task lock kept spared. not_first a.standing (standings.Prunes block) standing tt (length step.blocks) (Prunes a.extent (block + 1))),
+        )
 
   module _ (at block index : ℕ) (standing : a.standing ≡ standings.Sweeps at block) (is_there : slice_get a.indexes at ≡ Some index) where
     at_page : (u : Unseen) → u.task s ≡ task_of a → u.task s ≡ Sweeps at block
@@ -403,16 +406,18 @@ module _ (sweeps : SweepsLaw) (here : IndexHere) (others : OtherIndexes) (ascend
         → DoesInTable step a (record a { standing = standing_at next; unnamed = a.unnamed + count }) (answer_at points.Sweep (standing_at next))
     sweeps_there count next swept comes =
         answered s old new (right_of step.rights table) a (standing_at next) a.extent a.rows (a.unnamed + count) count points.Sweep
-        (subst (λ (q : Standing). HasCounted q a (record a { standing = standing_at next; unnamed = a.unnamed + count }) count) (sym standing) (refl, refl))
-        ((λ u task lock kept spared.
-        let on = at_page u task in (
-          these count swept u on kept,
-          fewer_in_all count swept u on kept,
-          SweepsFrom at (block + 1),
-          subst (λ (q : Standing). DoesAt s (table_state old u) (after count swept u on kept (SweepsFrom at (block + 1))) points.Sweep (account_by q count)) (sym standing) (does_there count swept u on kept),
-          subst (λ (t : Task). Settles s (after count swept u on kept (SweepsFrom at (block + 1))) (table_state new (lock_turned (held_behind s (length a.indexes) (standing_at next)) (task_turned s t (unnamed_turned (these count swept u on kept) u)))))
-              (task_same next a.extent) (settles_there count swept u on kept next comes),
-        )), (λ u task lock kept spared. not_first a.standing (standings.Sweeps at block) standing tt (length step.blocks) (SweepsFrom at (block + 1))))
+        (subst (λ (q : Standing). HasCounted q a (record a { standing = standing_at next; unnamed = a.unnamed + count }) count) (sym standing) (refl, refl)) (
+          (λ u task lock kept spared.
+              let on = at_page u task in (
+                these count swept u on kept,
+                fewer_in_all count swept u on kept,
+                SweepsFrom at (block + 1),
+                subst (λ (q : Standing). DoesAt s (table_state old u) (after count swept u on kept (SweepsFrom at (block + 1))) points.Sweep (account_by q count)) (sym standing) (does_there count swept u on kept),
+                subst (λ (t : Task). Settles s (after count swept u on kept (SweepsFrom at (block + 1))) (table_state new (lock_turned (held_behind s (length a.indexes) (standing_at next)) (task_turned s t (unnamed_turned (these count swept u on kept) u)))))
+                    (task_same next a.extent) (settles_there count swept u on kept next comes),
+              )),
+          (λ u task lock kept spared. not_first a.standing (standings.Sweeps at block) standing tt (length step.blocks) (SweepsFrom at (block + 1))),
+        )
 
 pub does_in_table : SweepsLaw → IndexHere → OtherIndexes → Ascending → (step : VacuumStep) (a b : VacuumState) (answer : Did) → IsVacuumOf step.layout a → VacuumDoes step a b answer → DoesInTable step a b answer
 does_in_table sweeps here others ascending step a _ _ of (LacksRight by is held other same) = lacks_right sweeps here others ascending step a of.indexes is by held other

@@ -1,5 +1,5 @@
 -- the slots that are listed and counted, with the next one judged
-use Rattle.std.proofs.Common.{◌≡◌, ◌⊎◌, inl, inr, ℕ, suc, ◌+◌, ◌*◌, ◌≤◌, ◌<◌, true, List, length, ◌++◌, refl, sym, ap, subst, ◌∙◌, arith}
+use Rattle.std.proofs.Common.{◌≡◌, inl, inr, ℕ, suc, ◌+◌, ◌≤◌, ◌<◌, true, List, length, ◌++◌, sym, ap, subst, arith}
 use Rattle.std.specs.Prelude.{◌↔◌}
 use Rattle.std.specs.Int.{bytes_high_first}
 use Rattle.std.proofs.lemmas.Bool.{cases_eq}
@@ -25,22 +25,22 @@ module _ (Told : Type 0) (P : ℕ → Type 0) (slot one : ℕ) (before after : L
   pub lists_next : Told → ((n : ℕ) → IsListed before n ↔ ((n < slot) × P n)) → (n : ℕ) → IsListed after n ↔ ((n < slot + 1) × P n)
   lists_next told so_far n = elim judged [
     | inl is ↦ (
-        λ listed. elim (lists_only slot n slot before small ascending (subst (λ (l : List ℕ). IsListed l n) is.1 listed)) [
-          | inl among ↦ (let at = (so_far n).0 among in (omega (arith, at.0), at.1))
-          | inr last ↦ (omega (arith, last), subst P (sym last) (is.2 told))
-        ],
-        λ at. subst (λ (l : List ℕ). IsListed l n) (sym is.1) (elim (cases_eq n slot) [
-          | inl same ↦ subst (λ (k : ℕ). IsListed (before ++ bytes_high_first 2 slot) k) (sym same) (lists_slot slot slot before small ascending)
-          | inr other ↦ keeps_listed n slot before ((so_far n).1 (omega (arith, at.0, other), at.1))
-        ]),
-      )
+      λ listed. elim (lists_only slot n slot before small ascending (subst (λ (l : List ℕ). IsListed l n) is.1 listed)) [
+        | inl among ↦ (let at = (so_far n).0 among in (omega (arith, at.0), at.1))
+        | inr last ↦ (omega (arith, last), subst P (sym last) (is.2 told))
+      ],
+      λ at. subst (λ (l : List ℕ). IsListed l n) (sym is.1) (elim (cases_eq n slot) [
+        | inl same ↦ subst (λ (k : ℕ). IsListed (before ++ bytes_high_first 2 slot) k) (sym same) (lists_slot slot slot before small ascending)
+        | inr other ↦ keeps_listed n slot before ((so_far n).1 (omega (arith, at.0, other), at.1))
+      ]),
+    )
     | inr none ↦ (
-        λ listed. (let at = (so_far n).0 (subst (λ (l : List ℕ). IsListed l n) none.1 listed) in (omega (arith, at.0), at.1)),
-        λ at. subst (λ (l : List ℕ). IsListed l n) (sym none.1) (elim (cases_eq n slot) [
-          | inl same ↦ absurd (none.2 told (subst P same at.1))
-          | inr other ↦ (so_far n).1 (omega (arith, at.0, other), at.1)
-        ]),
-      )
+      λ listed. (let at = (so_far n).0 (subst (λ (l : List ℕ). IsListed l n) none.1 listed) in (omega (arith, at.0), at.1)),
+      λ at. subst (λ (l : List ℕ). IsListed l n) (sym none.1) (elim (cases_eq n slot) [
+        | inl same ↦ absurd (none.2 told (subst P same at.1))
+        | inr other ↦ (so_far n).1 (omega (arith, at.0, other), at.1)
+      ]),
+    )
   ]
 
   pub counts_next : Told → (count : ℕ) → IsCountBelow P slot count → IsCountBelow P (slot + 1) (count + one)

@@ -1,5 +1,5 @@
 -- which pages have tuples
-use Rattle.std.proofs.Common.{◌≡◌, ◌≢◌, ◌⊎◌, inl, inr, ℕ, ◌+◌, ◌≤◌, ◌<◌, ◌==◌, Bool, true, false, List, [], ◌∷◌, drop, refl, sym, ap, subst, ◌∙◌, arith}
+use Rattle.std.proofs.Common.{◌≡◌, ◌≢◌, inl, inr, ℕ, ◌+◌, ◌≤◌, ◌<◌, ◌==◌, Bool, true, false, List, [], ◌∷◌, drop, refl, sym, ap, subst, ◌∙◌, arith}
 use Rattle.std.specs.Prelude.{Option, None, Some, slice_index}
 use Rattle.std.proofs.lemmas.Bool.{cases_eq, eq-eqb, ne_eqb}
 use Rattle.index_layout.specs.declared.format.TheConstants.{REGULAR, UNSTARTED}
@@ -10,7 +10,7 @@ use Rattle.page_store.specs.PageMap.{PageMap, block_at, page_at}
 use Rattle.index_contents.specs.IndexContents.{contents, kind_at, map_kind, relation_of}
 use Rattle.brin_vacuum.specs.declared.next_page.PageKind.{PageKind as Found}
 use Rattle.index_contents.specs.Kinds.{kind_by}
-use Rattle.brin_vacuum.specs.NextPages.{HasNoneFrom, InALaterOne, InThisIndex, IsKindOf, IsNextIn, IsNextOf, NoIndexLeft}
+use Rattle.brin_vacuum.specs.NextPages.{InALaterOne, InThisIndex, IsKindOf, IsNextIn, IsNextOf, NoIndexLeft}
 
 by_tests : (block kind : ℕ) (a b c : Bool) → (kind == REGULAR) ≡ a → (kind == UNSTARTED) ≡ b → (kind == map_kind block) ≡ c → kind_at block kind ≡ kind_by a b c
 by_tests block kind a b c regular unstarted map =

@@ -1,9 +1,7 @@
 -- a step of a vacuum at a page of an index
-use Rattle.std.proofs.Common.{◌≡◌, ◌≢◌, ◌⊎◌, inl, inr, ℕ, zero, suc, ◌+◌, ◌≤◌, ◌<◌, List, [], ◌∷◌, length, Option, None, Some, refl, sym, ap, subst, ◌∙◌, arith}
+use Rattle.std.proofs.Common.{◌≡◌, inl, inr, ℕ, zero, suc, ◌+◌, ◌<◌, List, [], ◌∷◌, length, Option, Some, refl, sym, ap, subst, ◌∙◌, arith}
 use Rattle.std.specs.Prelude.{drop, slice_get, slice_index_or}
 use Rattle.std.proofs.lemmas.Option.{none-some}
-use Rattle.block_model.specs.declared.place.Place.{Place}
-use Rattle.block_model.specs.declared.place.Spot.{Spot}
 use Rattle.block_model.specs.declared.reply.Point.TheVariants as points
 use Rattle.disk_trait.specs.Told.{Told}
 use Rattle.store_layout.specs.DiskLayout.{DiskLayout}
@@ -118,6 +116,6 @@ sweeps_page layout pages paged locks rights actor table at block index count roo
       blocks,
       has,
       subst (λ (d : Did). VacuumDoes (step_of layout pages paged locks rights rights actor blocks blocks) (state_of table indexes course room dead_room) (state_of table indexes (record { standing = standing; extent = course.extent; rows = course.rows; unnamed = course.unnamed + count }) room dead_room) d) (sym answers)
-      (subst (λ (q : Standing). VacuumDoes (step_of layout pages paged locks rights rights actor blocks blocks) (state_of table indexes course room dead_room) (state_of table indexes (record { standing = q; extent = course.extent; rows = course.rows; unnamed = course.unnamed + count }) room dead_room) (answer_at points.Sweep q)) (sym stands)
-      (SweepsPageOf at block index count next (ap (λ (z : VacuumState). z.standing) view ∙ is) there swept comes)),
+          (subst (λ (q : Standing). VacuumDoes (step_of layout pages paged locks rights rights actor blocks blocks) (state_of table indexes course room dead_room) (state_of table indexes (record { standing = q; extent = course.extent; rows = course.rows; unnamed = course.unnamed + count }) room dead_room) (answer_at points.Sweep q)) (sym stands)
+          (SweepsPageOf at block index count next (ap (λ (z : VacuumState). z.standing) view ∙ is) there swept comes)),
     )

@@ -1,14 +1,13 @@
 -- the slots of rows that are picked
-use Rattle.std.proofs.Common.{◌≡◌, ◌⊎◌, inl, inr, ℕ, zero, suc, ◌+◌, ◌≤◌, ◌<◌, Bool, true, false, List, [], ◌∷◌, ◌++◌, length, get_or, refl, sym, ap, subst, ◌∙◌, arith}
-use Rattle.std.specs.Prelude.{All, None, Some, if◌then◌else◌}
-use Rattle.std.proofs.lemmas.Bool.{false≢true}
+use Rattle.std.proofs.Common.{◌≡◌, ◌⊎◌, inl, inr, ℕ, zero, suc, ◌+◌, ◌≤◌, Bool, true, false, List, [], ◌∷◌, ◌++◌, length, get_or, refl, sym, ap, subst, ◌∙◌, arith}
+use Rattle.std.specs.Prelude.{All, None, Some}
 use Rattle.std.proofs.lemmas.List.{append-nil, append_assoc, length-append}
 use Rattle.std.proofs.lemmas.List.Elements.{All-cons, All-nil}
 use Rattle.std.proofs.lemmas.Option.{none-some, same_Some}
 use Rattle.page_layout.specs.PageContents.{Slot}
 use Rattle.page_layout.specs.RowBytes.{StoredRow}
 use Rattle.heap_rows.specs.DroppedRows.{AreAscending}
-use Rattle.heap_rows.specs.StoredRows.{SlotsAscend, row_of, stored_from, stored_in}
+use Rattle.heap_rows.specs.StoredRows.{SlotsAscend, row_of, stored_from}
 use Rattle.heap_rows.specs.declared.rows.Stored.{Stored}
 use Rattle.brin_vacuum.specs.DeadRows.{AddsAtMost, IsPicked, Living, dead_slots, is_dead, listed}
 

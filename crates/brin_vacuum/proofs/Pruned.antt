@@ -1,10 +1,8 @@
 -- what a prune leaves of a store, by the calls that it makes
-use Rattle.std.proofs.Common.{◌≡◌, ◌≢◌, ℕ, zero, suc, ◌+◌, ◌*◌, ◌≤◌, ◌<◌, List, length, refl, sym, ap, subst, ◌∙◌, arith}
-use Rattle.std.specs.Prelude.{All, None, Some}
+use Rattle.std.proofs.Common.{◌≡◌, ℕ, ◌+◌, ◌*◌, ◌≤◌, List, length, sym, ap, subst, ◌∙◌, arith}
+use Rattle.std.specs.Prelude.{All, Some}
 use Rattle.std.proofs.lemmas.Nat.{mul-le}
 use Rattle.block_model.specs.RowSize.{row_size}
-use Rattle.block_model.specs.declared.place.Place.{Place}
-use Rattle.block_model.specs.declared.place.Spot.{Spot}
 use Rattle.block_model.specs.declared.value.Kind.{Kind}
 use Rattle.disk_trait.specs.Told.{Told}
 use Rattle.store_layout.specs.DiskLayout.{DiskLayout}
@@ -12,8 +10,6 @@ use Rattle.page_layout.specs.PageContents.{IsForm, Slot}
 use Rattle.page_layout.specs.RowBytes.{StoredRow}
 use Rattle.page_store.specs.Keeps.{Keeps, Tells, keeps_then}
 use Rattle.page_store.specs.PageMap.{PageMap, View, page_at}
-use Rattle.snapshot_core.specs.declared.snapshots.Snapshot.{Snapshot}
-use Rattle.snapshot_core.specs.declared.statuses.Status.{Status}
 use Rattle.heap_rows.specs.DroppedRows.{AreAscending, AreInUse, DropsRows, FreesSlots, with_slots_free}
 use Rattle.heap_rows.specs.HeapBlocks.{HasBlocks, OfBlocks, slots_of}
 use Rattle.heap_rows.specs.Heaps.{form_at, kinds_at, slots_a_page}
@@ -25,7 +21,7 @@ use Rattle.brin_vacuum.specs.DeadRows.{DropsFrom, DropsTheDead, IsPicked, Living
 use Rattle.brin_vacuum.specs.Vacuums.{HasHeap}
 use Rattle.brin_vacuum.proofs.DroppedBlocks.{drops_from, drops_the_dead}
 use Rattle.brin_vacuum.proofs.Onward.{tells_before}
-use Rattle.brin_vacuum.proofs.Picking.{few_picked, picked_ascend, picked_used}
+use Rattle.brin_vacuum.proofs.Picking.{picked_ascend, picked_used}
 
 -- the table has its blocks still
 pub has_after : {D : Type 0} (told : D → Told) (old new : View D) (table : ℕ) (blocks : List (List Slot)) → Keeps told old new → Tells told old → HasBlocks old.layout old.pages table blocks → HasBlocks new.layout new.pages table blocks

@@ -1,18 +1,17 @@
 -- where a vacuum comes by a step in its table
-use Rattle.std.proofs.Common.{◌≡◌, ◌≢◌, ◌⊎◌, inl, inr, ℕ, zero, suc, ◌+◌, ◌≤◌, ◌<◌, List, [], ◌∷◌, length, Option, None, Some, refl, sym, ap, subst, ◌∙◌, arith}
+use Rattle.std.proofs.Common.{◌≡◌, ◌≢◌, inl, inr, ℕ, zero, suc, ◌+◌, ◌≤◌, ◌<◌, List, [], ◌∷◌, length, Option, None, Some, refl, sym, ap, subst, ◌∙◌, arith}
 use Rattle.std.specs.Prelude.{drop, slice_get}
 use Rattle.std.proofs.lemmas.Bool.{cases_eq, cases_lt}
 use Rattle.store_layout.specs.DiskLayout.{DiskLayout}
 use Rattle.page_store.specs.PageMap.{PageMap}
 use Rattle.coverage.specs.IndexView.{Pages, Unstarted}
-use Rattle.coverage.specs.PageOrder.{AreOrdered, IsForTuples}
+use Rattle.coverage.specs.PageOrder.{IsForTuples}
 use Rattle.table_coverage.specs.Machines.{ShownTable, Unseen, table_state, task_turned}
-use Rattle.table_coverage.specs.Table.{Prunes, Restarts, Resting, Sweeps, SweepsFrom, Task, TableState, index_view_at, pick}
-use Rattle.table_coverage.specs.TableCovered.{IsTableKept}
-use Rattle.table_coverage.specs.TableSteps.{GivesLock, GoesOn, HasTuples, IsFrom, IsMaintained, IsNextPage, NothingToSweep, Onward, Pruned, SameRows, Settles, Stays, Swept, TaskTurns, ToPage}
+use Rattle.table_coverage.specs.Table.{Resting, Task, TableState, pick}
+use Rattle.table_coverage.specs.TableSteps.{GivesLock, GoesOn, HasTuples, IsFrom, IsMaintained, IsNextPage, Onward, SameRows, Settles, TaskTurns}
 use Rattle.index_contents.specs.IndexContents.{contents}
-use Rattle.brin_vacuum.specs.NextPages.{HasNoneFrom, InALaterOne, InThisIndex, IsFirstFrom, IsNextIn, NoIndexLeft}
-use Rattle.brin_vacuum.specs.TableSteps.{held_done, lock_turned, task_done}
+use Rattle.brin_vacuum.specs.NextPages.{HasNoneFrom, InALaterOne, InThisIndex, IsNextIn, NoIndexLeft}
+use Rattle.brin_vacuum.specs.TableSteps.{lock_turned}
 use Rattle.brin_vacuum.proofs.PageKinds.{unstarted_has_none}
 
 pub pick_same : (i : ℕ) → {A : Type 0} → (a b : A) → pick i i a b ≡ a

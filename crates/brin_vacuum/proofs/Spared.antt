@@ -1,6 +1,6 @@
 -- nobody wants a row that is dead to all
-use Rattle.std.proofs.Common.{◌≡◌, ◌≢◌, ◌⊎◌, inl, inr, ℕ, Bool, true, false, List, Option, None, Some, refl, sym, ap, subst, ◌∙◌}
-use Rattle.std.specs.Prelude.{IsTrue, ◌&&◌, ◌||◌, not, ◌==◌}
+use Rattle.std.proofs.Common.{◌≡◌, ◌≢◌, ◌⊎◌, inl, inr, ℕ, true, false, List, None, Some, refl, sym, ap, subst, ◌∙◌}
+use Rattle.std.specs.Prelude.{IsTrue, not, ◌==◌}
 use Rattle.std.specs.List.{list_all}
 use Rattle.std.proofs.lemmas.Bool.{and_left, and_parts, eqb-true, false≢true, not_from_true, or_cases, or_from, or_right}
 use Rattle.std.proofs.lemmas.List.Sums.{AllPass-from_list_all}
@@ -82,9 +82,9 @@ module _ (by : Living) (s table block : ℕ) (blocks blocked : List (List Slot))
   ]
 
   by_slots : (before after : Slot) → slot_at blocks x ≡ before → slot_at blocked x ≡ after → IsTrue (has_gone (row_in table before) (row_in table after)) → HasPut b k (u.task n) ⊎ SeesPlace b k (u.task n) → ⊥
-  by_slots None after was is gone wants = false≢true gone
-  by_slots (Some row) (Some now) was is gone wants = false≢true gone
-  by_slots (Some row) None was is gone wants = nobody_wants row was (drops.gone x row was is).1 wants
+  by_slots None after was is has wants = false≢true has
+  by_slots (Some row) (Some now) was is has wants = false≢true has
+  by_slots (Some row) None was is has wants = nobody_wants row was (drops.gone x row was is).1 wants
 
   pub is_spared : IsTrue (has_gone (rows_in table blocks b k) (rows_in table blocked b k)) → HasPut b k (u.task n) ⊎ SeesPlace b k (u.task n) → ⊥
   is_spared gone wants = by_slots (slot_at blocks x) (slot_at blocked x) refl refl gone wants

@@ -1,22 +1,20 @@
 -- a swept page as a step of the index that pages and locks show
-use Rattle.std.proofs.Common.{◌≡◌, ◌≢◌, ◌⊎◌, inl, inr, ℕ, ◌+◌, ◌*◌, ◌^◌, ◌<◌, ◌≤◌, Bool, true, false, List, length, Option, None, Some, refl, sym, ap, subst, ◌∙◌, arith}
-use Rattle.std.specs.Prelude.{◌↔◌, ◌&&◌, IsTrue, nat_lt, if◌then◌else◌}
+use Rattle.std.proofs.Common.{◌≡◌, ◌≢◌, ◌⊎◌, inl, inr, ℕ, ◌^◌, ◌<◌, ◌≤◌, Bool, true, false, List, length, Option, None, Some, refl, sym, ap, subst, ◌∙◌, arith}
+use Rattle.std.specs.Prelude.{◌↔◌, ◌&&◌, IsTrue, if◌then◌else◌}
 use Rattle.std.specs.Option.{option_map}
-use Rattle.std.proofs.lemmas.Bool.{cases_lt, false≢true, le-ltb, lt-ltb}
+use Rattle.std.proofs.lemmas.Bool.{cases_lt, le-ltb, lt-ltb}
 use Rattle.std.proofs.lemmas.Option.{none-some, same_Some}
 use Rattle.block_model.specs.declared.place.Spot.{Spot}
 use Rattle.byte_fields.specs.Fields.{field_at, number_of}
-use Rattle.coverage.specs.Changes.{Frame, IsFree, TouchesUnnamed}
 use Rattle.coverage.specs.Counts.{AreTuplesGone, HasGone, IsCountOf}
-use Rattle.coverage.specs.IndexPart.{IndexPart, SweepMakes, with_part}
-use Rattle.coverage.specs.IndexView.{Building, Contents, IndexTuple, IndexView, Pages}
+use Rattle.coverage.specs.IndexPart.{IndexPart, SweepMakes}
+use Rattle.coverage.specs.IndexView.{Contents, IndexTuple, IndexView, Pages}
 use Rattle.coverage.specs.IsSound.{IsSound}
 use Rattle.coverage.specs.Knowing.{LocksNone}
-use Rattle.coverage.specs.Steps.{IsUnnamed, IsVacated, SweepsTuples, TurnsPage}
+use Rattle.coverage.specs.Steps.{IsUnnamed, TurnsPage}
 use Rattle.index_contents.specs.IndexContents.{IndexContents}
-use Rattle.index_steps.specs.IndexTuples.{IndexShape, contents_of, range_said, seen, seen_as}
+use Rattle.index_steps.specs.IndexTuples.{IndexShape, contents_of, range_said, seen}
 use Rattle.index_steps.specs.ShownIndex.{Shows, shown_part, tuple_in_place}
-use Rattle.range_store.specs.Tuples.{IsOfRange}
 use Rattle.brin_vacuum.specs.SweptPages.{IsUnnamedAt, SweepsPage}
 use Rattle.brin_vacuum.proofs.Counting.{counts_alike}
 

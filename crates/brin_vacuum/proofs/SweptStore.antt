@@ -1,10 +1,9 @@
 -- what a sweep leaves of a store, by the calls that it makes
-use Rattle.std.proofs.Common.{◌≡◌, ◌≢◌, inl, inr, ℕ, zero, suc, ◌+◌, ◌*◌, ◌≤◌, ◌<◌, true, List, [], ◌∷◌, length, refl, sym, ap, subst, ◌∙◌, arith}
+use Rattle.std.proofs.Common.{◌≡◌, ℕ, ◌<◌, true, List, [], length, refl, sym, ap, subst, ◌∙◌}
 use Rattle.std.specs.Prelude.{◌↔◌, slice_index}
 use Rattle.std.proofs.lemmas.Bool.{false≢true}
 use Rattle.block_model.specs.declared.place.Place.{Place}
 use Rattle.disk_trait.specs.Told.{Told}
-use Rattle.store_layout.specs.DiskLayout.{DiskLayout}
 use Rattle.page_store.specs.Keeps.{Keeps, Tells, keeps_on}
 use Rattle.page_store.specs.PageMap.{PageMap, View, block_at, page_at}
 use Rattle.opened_pages.specs.PageOrder.{kind_of}
@@ -12,7 +11,7 @@ use Rattle.coverage.specs.Counts.{IsCountOf}
 use Rattle.index_layout.specs.IndexPages.{IsRegular}
 use Rattle.index_layout.specs.IndexReading.{is_regular, slots_of}
 use Rattle.index_layout.specs.IndexWrites.{CanDrop, are_ascending, dropped, trimmed}
-use Rattle.index_contents.specs.Calls.{kept_leaves, leaves_then}
+use Rattle.index_contents.specs.Calls.{leaves_then}
 use Rattle.index_contents.specs.IndexChanges.{LeavesOtherPages}
 use Rattle.index_contents.specs.IndexContents.{IndexContents, contents, index_page, relation_of}
 use Rattle.index_order.specs.KeepsOrder.{KeepsOrder}

@@ -1,53 +1,34 @@
 -- each step of a vacuum in its table
-use Rattle.std.proofs.Common.{◌≡◌, ◌≢◌, ◌⊎◌, inl, inr, ℕ, zero, suc, ◌+◌, ◌≤◌, ◌<◌, Bool, true, false, List, [], ◌∷◌, length, Option, None, Some, refl, sym, ap, subst, ◌∙◌, arith}
-use Rattle.std.specs.Prelude.{IsTrue, drop, slice_get}
-use Rattle.std.proofs.lemmas.Bool.{cases_eq, cases_lt}
+use Rattle.std.proofs.Common.{◌≡◌, ◌≢◌, ℕ, zero, suc, ◌+◌, ◌≤◌, ◌<◌, Bool, List, length, Option, None, Some, refl, sym, ap, subst, ◌∙◌, arith}
+use Rattle.std.specs.Prelude.{drop, slice_get}
 use Rattle.std.proofs.lemmas.List.{length-drop}
-use Rattle.std.proofs.lemmas.Option.{none-some, same_Some, slice_get_within}
+use Rattle.std.proofs.lemmas.Option.{slice_get_within}
 use Rattle.block_model.specs.declared.place.Spot.{Spot}
-use Rattle.block_model.specs.declared.reply.Point.{Point}
 use Rattle.block_model.specs.declared.reply.Point.TheVariants as points
-use Rattle.block_model.specs.declared.row.Row.{Row}
 use Rattle.store_layout.specs.DiskLayout.{DiskLayout}
 use Rattle.page_layout.specs.PageContents.{Slot}
-use Rattle.page_locks.specs.declared.did.Did.{Did}
-use Rattle.page_locks.specs.declared.did.Did.TheVariants as did
-use Rattle.page_locks.specs.declared.held.Held.{Held}
-use Rattle.page_locks.specs.LockChanges.{page_of}
-use Rattle.page_locks.specs.LockHolders.{LockState, holder}
-use Rattle.page_locks.specs.RightHolders.{right_of}
+use Rattle.page_locks.specs.LockHolders.{LockState}
 use Rattle.page_store.specs.PageMap.{PageMap}
-use Rattle.coverage.specs.Counts.{AreRowsGone, AreTuplesGone, HasGone, IsCountOf}
+use Rattle.coverage.specs.Counts.{AreTuplesGone}
 use Rattle.coverage.specs.IndexPart.{IndexPart, SweepMakes}
-use Rattle.coverage.specs.IndexView.{IndexView, Pages, Unstarted}
-use Rattle.coverage.specs.Knowing.{Knows, LocksNone}
+use Rattle.coverage.specs.IndexView.{Pages, Unstarted}
 use Rattle.coverage.specs.PageOrder.{AreOrdered}
-use Rattle.coverage.specs.Statements.{Holding, building_of, loose_of}
-use Rattle.coverage.specs.Steps.{TurnsPage}
-use Rattle.table_coverage.specs.Accounts.{Account, no_account}
 use Rattle.table_coverage.specs.InOneIndex.{DoesAt, index_with, with_index, with_unnamed}
-use Rattle.table_coverage.specs.Machines.{IsFewer, ShownTable, Unseen, table_state, task_turned}
-use Rattle.table_coverage.specs.Table.{Index, Prunes, Restarts, Resting, Sweeps, SweepsFrom, Task, TableState, index_view_at, pick, seen_by}
+use Rattle.table_coverage.specs.Machines.{ShownTable, Unseen, table_state, task_turned}
+use Rattle.table_coverage.specs.Table.{Index, Prunes, Restarts, Resting, Sweeps, SweepsFrom, Task, TableState, index_view_at}
 use Rattle.table_coverage.specs.TableCovered.{IsMaintenance, IsTableKept}
-use Rattle.table_coverage.specs.TablePoints.{PageLock, SummariseLock, waits_for}
-use Rattle.table_coverage.specs.TableSteps.{Does, IsBlocked, NothingToSweep, Onward, Pruned, PrunesBlock, SameRows, Settles, Stays, SummariseLockHeld, SweepWaits, Swept, TakesLock, TaskTurns, ToPage, Vacuum}
-use Rattle.index_contents.specs.IndexContents.{contents, relation_of}
-use Rattle.index_steps.specs.IndexTuples.{IndexShape, contents_of, index_at, shape_of}
-use Rattle.index_steps.specs.ShownIndex.{Shows, lock_in, shown_part, tuple_in_place}
-use Rattle.index_steps.specs.ShownRows.{row_in, rows_in, shown_by}
+use Rattle.table_coverage.specs.TableSteps.{NothingToSweep, Onward, Pruned, Settles, Stays, Swept, ToPage}
+use Rattle.index_contents.specs.IndexContents.{contents}
+use Rattle.index_steps.specs.IndexTuples.{contents_of, index_at, shape_of}
+use Rattle.index_steps.specs.ShownIndex.{lock_in, tuple_in_place}
+use Rattle.index_steps.specs.ShownRows.{shown_by}
 use Rattle.index_steps.specs.ShownTable.{indexes_of, shown_at}
-use Rattle.heap_rows.specs.RowPlaces.{slot_at}
 use Rattle.brin_vacuum.specs.declared.standing.Standing.{Standing}
 use Rattle.brin_vacuum.specs.declared.standing.Standing.TheVariants as standings
-use Rattle.brin_vacuum.specs.DeadRows.{DropsFrom}
-use Rattle.brin_vacuum.specs.NextPages.{IsNextIn, NoIndexLeft}
-use Rattle.brin_vacuum.specs.SweptPages.{SweepsPage}
-use Rattle.brin_vacuum.specs.TableSteps.{DoesInTable, HasCounted, IsSpared, account_by, has_gone, held_done, lock_turned, shown_after, shown_before, task_at, task_done, task_of, unnamed_turned}
-use Rattle.brin_vacuum.specs.Vacuums.{Begins, ComesTo, IsVacuumOf, LacksRight, SameIndexes, SweepsPageOf, TakesRight, ToBlock, ToPages, VacuumDoes, VacuumState, VacuumStep, Waits, answer_at, standing_at}
-use Rattle.brin_vacuum.specs.Vacuums.{PrunesBlock as StepPrunes, Sweeps as StepSweeps}
-use Rattle.brin_vacuum.proofs.Counting.{counts_alike}
-use Rattle.brin_vacuum.proofs.Settling.{IsNextThere, ShowsIndexes, at_task, get_drop, next_there, pick_other, pick_same, replies_by, settles_by}
-use Rattle.brin_vacuum.proofs.SweptIndex.{fewer_unnamed, sweep_makes, tuples_gone, unnamed_after}
+use Rattle.brin_vacuum.specs.NextPages.{IsNextIn}
+use Rattle.brin_vacuum.specs.TableSteps.{held_done, lock_turned, task_done}
+use Rattle.brin_vacuum.specs.Vacuums.{ComesTo, ToBlock, ToPages, standing_at}
+use Rattle.brin_vacuum.proofs.Settling.{IsNextThere, ShowsIndexes, get_drop, next_there, replies_by, settles_by}
 
 -- the laws that are taken up
 abbrev pub SweepsLaw : Type 0
@@ -160,7 +141,7 @@ module _ (s : ℕ) (shown : ShownTable) (u : Unseen) (layout : DiskLayout) (stor
       let some : (m : ℕ) × (length numbers ≡ suc m) = not_none (length numbers) below in
       let e : at + length (drop at numbers) ≡ length numbers = (let l = length-drop at numbers in omega (arith, l, below)) in
       let found : IsNextThere (there (SweepsFrom at from)) at from next = next_there (there (SweepsFrom at from)) layout stored numbers (shows (SweepsFrom at from)) (drop at numbers) at from next e
-          (λ k n is_there. sym (get_drop at k numbers) ∙ is_there) is in
+      (λ k n is_there. sym (get_drop at k numbers) ∙ is_there) is in
       subst (λ (h : Option ℕ). Settles s (there (SweepsFrom at from)) (table_state shown (lock_turned h (task_turned s (task_behind (length numbers) 0 (standing_at next)) u)))) (sym (held_some next some.0 some.1))
       (settles_by s shown u (Some s) (SweepsFrom at from) (task_behind (length numbers) 0 (standing_at next)) (onward_from at from next some.0 some.1 (SweepsFrom at from) found))
     where

@@ -234,7 +234,15 @@ impl Vacuum {
             Err(error) => return Err(MachineFault::Store(error)),
         };
         let room = &mut self.room;
-        let count = match prune(pages, tx, live, self.table, block, &mut room.rows, &mut room.dead) {
+        let count = match prune(
+            pages,
+            tx,
+            live,
+            self.table,
+            block,
+            &mut room.rows,
+            &mut room.dead,
+        ) {
             Ok(count) => count,
             Err(error) => return Err(MachineFault::Store(error)),
         };

@@ -1,4 +1,4 @@
-use Rattle.std.proofs.Common.{◌≡◌, List, ap, sym, ◌∙◌}
+use Rattle.std.proofs.Common.{◌≡◌, List, ap, ◌∙◌}
 use Rattle.snapshot_core.specs.Dead.{is_dead_to_all}
 use Rattle.snapshot_core.specs.declared.statuses.Status.{Status}
 use Rattle.engine_pages.specs.SurvivesLaws.{survives_on}

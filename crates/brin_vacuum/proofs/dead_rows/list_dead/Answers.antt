@@ -1,11 +1,10 @@
-use Rattle.std.proofs.Common.{◌≡◌, ◌≤◌, ◌++◌, ◌+◌, ℕ, List, [], ◌∷◌, drop, length, true, false, refl, sym, ap, subst, ◌∙◌, arith}
-use Rattle.std.proofs.lemmas.List.{append-nil, drop_all, drop_more, length-append}
+use Rattle.std.proofs.Common.{◌≡◌, ◌++◌, ◌+◌, ℕ, List, [], ◌∷◌, drop, length, refl, sym, ap, subst, ◌∙◌, arith}
+use Rattle.std.proofs.lemmas.List.{append-nil, drop_all, drop_more}
 use Rattle.snapshot_core.specs.declared.statuses.Status.{Status}
 use Rattle.engine_pages.specs.SurvivesLaws.{survives_on, survives_still}
 use Rattle.page_store.specs.Keeps.{keeps_on}
 use Rattle.heap_rows.specs.declared.rows.Stored.{Stored}
-use Rattle.heap_rows.specs.StoredRows.{row_of}
-use Rattle.brin_vacuum.specs.DeadRows.{IsPicked, dead_slots, is_dead, living}
+use Rattle.brin_vacuum.specs.DeadRows.{IsPicked, dead_slots, living}
 use Rattle.brin_vacuum.proofs.Onward.{keeps_same, statuses_before}
 use Rattle.brin_vacuum.proofs.Picking.{judged_picks, judges_next, one_more_at_most}
 use Rattle.brin_vacuum.proofs.dead_rows.list_dead.Goals as goal

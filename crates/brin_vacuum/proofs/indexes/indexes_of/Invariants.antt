@@ -1,4 +1,4 @@
-use Rattle.std.proofs.Common.{◌≡◌, ◌≤◌, ◌++◌, drop, length}
+use Rattle.std.proofs.Common.{◌≡◌, ◌++◌, drop}
 use Rattle.index_steps.specs.ShownTable.{numbers_from}
 use Rattle.brin_vacuum.proofs.indexes.indexes_of.Given as goal
 

@@ -1,11 +1,9 @@
-use Rattle.std.proofs.Common.{◌≡◌, ◌≤◌, ◌<◌, ◌*◌, ◌+◌, ℕ, true, List, [], length, refl, sym, ap, subst, ◌∙◌, arith}
-use Rattle.std.specs.Prelude.{◌↔◌}
-use Rattle.coverage.specs.Counts.{IsCountBelow, NoneBelow}
+use Rattle.std.proofs.Common.{◌≡◌, ◌<◌, ℕ, true, List, length, refl, sym, ap, subst, ◌∙◌, arith}
+use Rattle.coverage.specs.Counts.{NoneBelow}
 use Rattle.engine_pages.specs.SurvivesLaws.{survives_on, survives_still}
-use Rattle.page_store.specs.Keeps.{Keeps, Tells, keeps_on}
-use Rattle.index_layout.specs.IndexReading.{slots_of}
+use Rattle.page_store.specs.Keeps.{Tells, keeps_on}
 use Rattle.index_layout.specs.IndexWrites.{are_ascending}
-use Rattle.index_contents.specs.IndexContents.{IndexContents, contents}
+use Rattle.index_contents.specs.IndexContents.{contents}
 use Rattle.brin_vacuum.specs.SweptPages.{IsListed, IsUnnamedOn, Judges}
 use Rattle.brin_vacuum.proofs.JudgedSlots.{ascends_next, counts_next, few_next, lists_next}
 use Rattle.brin_vacuum.proofs.Onward.{judged_before, keeps_same}

@@ -1,6 +1,5 @@
 use Rattle.std.proofs.Common.{◌≡◌, ◌<◌, ℕ, List, length, ap, sym, subst, ◌∙◌, arith}
 use Rattle.store_layout.specs.DiskLayout.{DiskLayout}
-use Rattle.page_layout.specs.PageContents.{Slot}
 use Rattle.snapshot_core.specs.declared.statuses.Status.{Status}
 use Rattle.engine_pages.specs.SurvivesLaws.{survives_on}
 use Rattle.page_store.specs.Keeps.{Tells, keeps_on}

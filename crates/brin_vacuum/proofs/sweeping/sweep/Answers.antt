@@ -1,4 +1,4 @@
-use Rattle.std.proofs.Common.{◌≡◌, ◌==◌, ℕ, List, [], length, ap, sym, subst, ◌∙◌, arith}
+use Rattle.std.proofs.Common.{◌≡◌, ◌==◌, ℕ, List, length, ap, sym, subst, ◌∙◌, arith}
 use Rattle.std.specs.Prelude.{slice_index}
 use Rattle.std.specs.Vec.{vec_len}
 use Rattle.store_layout.specs.DiskLayout.{DiskLayout}
@@ -7,12 +7,8 @@ use Rattle.page_store.specs.PageMap.{page_at}
 use Rattle.index_layout.specs.IndexPages.{IsRegular}
 use Rattle.index_layout.specs.IndexReading.{slots_of}
 use Rattle.index_layout.specs.IndexWrites.{CanDrop, dropped, trimmed}
-use Rattle.opened_pages.specs.PageOrder.{kind_of}
 use Rattle.engine_pages.specs.SurvivesLaws.{survives_on}
-use Rattle.index_contents.specs.Calls.{leaves_then}
-use Rattle.index_contents.specs.IndexChanges.{LeavesOtherPages}
 use Rattle.index_contents.specs.IndexContents.{relation_of}
-use Rattle.index_order.specs.OrderLaws.{order_then}
 use Rattle.brin_vacuum.proofs.SlotBytes.{none_there, some_there}
 use Rattle.brin_vacuum.proofs.SweptStore.{place_of, sweep_can, sweep_counts, sweep_done, sweep_of_none, sweep_order}
 use Rattle.brin_vacuum.proofs.sweeping.sweep.Goals as goal

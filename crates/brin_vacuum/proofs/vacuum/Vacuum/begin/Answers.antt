@@ -1,4 +1,4 @@
-use Rattle.std.proofs.Common.{◌≡◌, ℕ, List, length, ap, sym, subst, ◌∙◌}
+use Rattle.std.proofs.Common.{ℕ, List, ap, sym, subst}
 use Rattle.std.specs.Box.{boxed_slice_items}
 use Rattle.std.specs.Prelude.{vec_capacity}
 use Rattle.heap_rows.specs.HeapBlocks.{HasBlocks}

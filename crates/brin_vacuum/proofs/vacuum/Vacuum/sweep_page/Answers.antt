@@ -1,4 +1,4 @@
-use Rattle.std.proofs.Common.{◌≡◌, ◌+◌, ◌<◌, ℕ, List, length, Option, Some, ap, sym, subst, ◌∙◌, refl}
+use Rattle.std.proofs.Common.{◌≡◌, ◌+◌, ◌<◌, ℕ, List, length, ap, sym, subst, ◌∙◌, refl}
 use Rattle.std.specs.Box.{boxed_slice_items}
 use Rattle.std.specs.Prelude.{drop, vec_capacity}
 use Rattle.store_layout.specs.DiskLayout.{DiskLayout}
