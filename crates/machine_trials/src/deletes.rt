@@ -134,16 +134,14 @@ fn next_mark(marking: Marking) -> (Work, Turn)
     requires { marking.next < length marking.hits.items }
     ensures { (layout : DiskLayout) → marking.table < length layout.schema.tables → IsWorkOf layout result.0 }
 {
-    let next = marking.next + 1;
-    if next == marking.hits.len() {
-        let all = Reply::Deleted { count: next as u64 };
+    let mut marking = marking;
+    marking.next += 1;
+    if marking.next == marking.hits.len() {
+        let all = Reply::Deleted {
+            count: marking.next as u64,
+        };
         return (Work::Nothing, Turn::Done(Point::Mark, all));
     }
-    let marking = Marking {
-        table: marking.table,
-        hits: marking.hits,
-        next,
-    };
     (Work::Delete(Delete::Marks(marking)), Turn::Moved(Point::Mark))
 }
 

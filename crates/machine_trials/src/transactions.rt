@@ -69,6 +69,15 @@ fn numbers_of(alloc: Global, open: &[Option<Open>]) -> Result<Numbers, NoMemory>
     Ok(numbers)
 }
 
+/// How it ends where that is wanted: one that has failed is rolled back.
+pub(crate) fn ending_of(open: &Open, wanted: Ending) -> Ending {
+    if open.failed {
+        Ending::RolledBack
+    } else {
+        wanted
+    }
+}
+
 /// Ends the transaction so, and answers whether it did.
 pub(crate) fn ends(
     tx: &mut TxTable,

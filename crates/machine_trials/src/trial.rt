@@ -10,7 +10,7 @@ use crate::beginnings::work_for;
 use crate::names::SESSIONS;
 use crate::quiet_disk::QuietDisk;
 use crate::deletes::turn_delete;
-use crate::transactions::{Ending, Open, begun, ends, fail, id_for, snapshots_of};
+use crate::transactions::{Ending, Open, begun, ending_of, ends, fail, id_for, snapshots_of};
 use crate::turns::{Turn, turn_explain, turn_insert, turn_select, turn_summarise};
 use crate::vacuums::turn_vacuum;
 use crate::work::Work;
@@ -181,11 +181,7 @@ impl Trial {
             return None;
         }
         let open = mem::replace(&mut self.open[session], None)?;
-        let ending = if open.failed {
-            Ending::RolledBack
-        } else {
-            wanted
-        };
+        let ending = ending_of(&open, wanted);
         if ends(&mut self.tx, &mut self.pages, open.t, ending) {
             Some(ending)
         } else {
@@ -223,16 +219,16 @@ impl Trial {
             actor,
         );
         put_work(&mut self.works, session, work);
-        if is_conflict(&turn) {
-            fail(&mut self.open, session);
-        }
+        heed(&mut self.open, session, &turn);
         turn
     }
 }
 
-/// Whether the session's transaction fails by it.
-fn is_conflict(turn: &Turn) -> bool {
-    matches!(turn, Turn::Conflict(_))
+/// By a conflict the session's transaction fails.
+fn heed(open: &mut Vec<Option<Open>>, session: usize, turn: &Turn) {
+    if let Turn::Conflict(_) = turn {
+        fail(open, session);
+    }
 }
 
 /// The work of that number; nothing is in hand in its place.
