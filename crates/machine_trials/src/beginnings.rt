@@ -1,16 +1,14 @@
 //! What a session begins.
 
-ghost use Rattle.std.specs.Prelude.{◌≡◌, ◌<◌, true, not, length, IfSome};
-ghost use Rattle.std.specs.List.{list_all};
+ghost use Rattle.std.specs.Prelude.{◌≡◌, ◌<◌, length, IfSome};
 ghost use Rattle.page_layout.specs.RowBytes.{HaveKinds};
 ghost use Rattle.heap_rows.specs.Heaps.{kinds_at};
 ghost use Rattle.query_words.specs.LineFits.{FitsStatement};
-ghost use Rattle.brin_insert.specs.Inserts.{AsksNothing};
 ghost use Rattle.machine_trials.specs.Works.{IsWorkOf};
 
 use crate::turns::has_few_tables;
 use crate::work::{Cleaning, Delete, Work};
-use block_model::{Index, Query, Row, RowId, Values};
+use block_model::{Query, Row, RowId, Values};
 use brin_insert::Insert;
 use brin_scan::{Explain, Scan};
 use brin_summarise::{Summarise, Wish};
@@ -44,33 +42,17 @@ pub(crate) fn work_for(
     }
 }
 
-/// An insert of these values into the table; `None` where an index of the store asks for summaries, too.
+/// An insert of these values into the table; `None` where memory is wanting.
 fn insert_of(alloc: Global, layout: &Layout, table: u8, id: RowId, values: Values) -> Option<Work>
     requires table { table < length layout.now.schema.tables }
     requires kinds { HaveKinds (kinds_at layout.now table) values }
     ensures { IfSome result (IsWorkOf layout.now) }
 {
-    if !asks_nothing(layout, table) {
-        return None;
-    }
     let row = Row { table, id, values };
     match Insert::new(alloc, row, layout) {
         Ok(insert) => Some(Work::Insert(id, insert)),
         Err(_) => None,
     }
-}
-
-/// Whether no index of the store asks for summaries.
-fn asks_nothing(layout: &Layout, table: u8) -> bool
-    ensures { result ≡ true → AsksNothing layout.now table }
-{
-    none_asks(layout.schema().indexes.as_slice())
-}
-
-fn none_asks(indexes: &[Index]) -> bool
-    ensures { result ≡ list_all (λ index. not index.auto) indexes.now }
-{
-    indexes.iter().all(|index| !index.auto)
 }
 
 /// The scan of a select.

@@ -26,6 +26,7 @@ use std::marker::Model;
 use std::mem;
 use store_format::format;
 use store_layout::Layout;
+use summary_queue::Queue;
 use tx_table::TxTable;
 
 /// How many locks may be held at once: three a session.
@@ -42,6 +43,7 @@ pub struct Trial {
     pages: Box<PageStore<QuietDisk>>,
     locks: Locks,
     rights: Rights,
+    queue: Queue,
     tx: TxTable,
     open: Vec<Option<Open>>,
     works: Vec<Work>,
@@ -115,6 +117,7 @@ impl Trial {
         let mut pages = Box::new(alloc, pages).ok()?;
         let locks = Locks::new(alloc, LOCKS).ok()?;
         let rights = no_rights(alloc)?;
+        let queue = Queue::new(alloc).ok()?;
         let open = no_transactions(alloc)?;
         let works = match no_works(alloc) {
             Ok(works) => works,
@@ -126,6 +129,7 @@ impl Trial {
                 pages,
                 locks,
                 rights,
+                queue,
                 tx,
                 open,
                 works,
@@ -213,6 +217,7 @@ impl Trial {
             &mut self.pages,
             &mut self.locks,
             &mut self.rights,
+            &mut self.queue,
             &self.tx,
             open,
             live.as_slice(),
@@ -256,6 +261,7 @@ fn turn_of(
     pages: &mut PageStore<QuietDisk>,
     locks: &mut Locks,
     rights: &mut Rights,
+    queue: &mut Queue,
     tx: &TxTable,
     open: Option<&Open>,
     live: &[Snapshot],
@@ -271,7 +277,7 @@ fn turn_of(
 {
     match work {
         Work::Nothing => (Work::Nothing, Turn::Failed),
-        Work::Insert(id, insert) => turn_insert(id, insert, pages, locks, actor),
+        Work::Insert(id, insert) => turn_insert(id, insert, pages, locks, queue, actor),
         Work::Summarise(table, summarise) => {
             turn_summarise(table, summarise, pages, locks, rights, actor)
         }

@@ -23,6 +23,7 @@ use page_locks::{Did, Held, Locks, Rights};
 use page_store::MachineFault;
 use std::alloc::Global;
 use store_layout::Layout;
+use summary_queue::Queue;
 use tx_table::TxTable;
 
 /// How many locks a step takes at most: those of a move.
@@ -50,6 +51,7 @@ pub(crate) fn turn_insert(
     insert: Insert,
     pages: &mut PageStore<QuietDisk>,
     locks: &mut Locks,
+    queue: &mut Queue,
     actor: u32,
 ) -> (Work, Turn)
     requires made { IsInsertFor pages.old.layout insert }
@@ -61,7 +63,7 @@ pub(crate) fn turn_insert(
     if !has_room(locks) {
         return (Work::Insert(id, insert), Turn::Failed);
     }
-    match insert.step(pages, locks, actor) {
+    match insert.step(pages, locks, queue, actor) {
         Ok(Did::Moved(point)) => (Work::Insert(id, insert), Turn::Moved(point)),
         Ok(Did::Finished(point)) => (Work::Nothing, Turn::Done(point, Reply::Inserted { id })),
         Ok(Did::Blocked(held)) => (Work::Insert(id, insert), Turn::Blocked(held)),

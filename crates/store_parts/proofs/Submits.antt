@@ -13,6 +13,9 @@ use Rattle.tx_table.specs.TxState.{TxState}
 use Rattle.table_coverage.specs.Accounts.{Account, no_account}
 use Rattle.table_coverage.specs.Table.{Resting, Task}
 use Rattle.index_steps.specs.IndexTuples.{index_at}
+use Rattle.brin_desummarise.specs.declared.stage.Stage.{Stage as DesummariseStage}
+use Rattle.brin_desummarise.specs.Desummarises.{count_at as desummarised_at, range_of}
+use Rattle.brin_desummarise.specs.TableSteps as desummarises
 use Rattle.brin_scan.specs.declared.stage.Stage.{Stage}
 use Rattle.brin_scan.specs.Explains.{explaining}
 use Rattle.brin_scan.specs.TableScans as scans
@@ -26,7 +29,7 @@ use Rattle.line_texts.specs.Place.{Hand as HandAt, Place, database_at, new_hand}
 use Rattle.store_parts.specs.declared.hand.Hand.{Hand}
 use Rattle.store_parts.specs.declared.hand.Hand.TheVariants as hands
 use Rattle.store_parts.specs.Hands.{HandShows, TellsSo, AnswersAre, statement_of}
-use Rattle.store_parts.specs.HandsInTables.{IsExplainAt, IsSummariseAt, IsTaskOf}
+use Rattle.store_parts.specs.HandsInTables.{IsDesummariseAt, IsExplainAt, IsSummariseAt, IsTaskOf}
 use Rattle.store_parts.specs.ShowsPlace.{IsOfTransaction, IsPlaceOf, ShowsTable}
 use Rattle.store_parts.specs.StoreLaws.{HasHand}
 use Rattle.store_parts.specs.StoreStates.{ShownStore, hand_in}
@@ -63,6 +66,12 @@ rests layout table blocks tx stored transaction (hands.Summarises a) fresh = (λ
     here =
         let listed = unlisted layout (index_at layout a.index).table a.index fresh.1 refl in
         (listed.0, listed.1, sym (ap (λ (s : Standing). summarises.task_at layout listed.0 a s) fresh.0 ∙ first_rests a.wish listed.0 fresh.2))
+rests layout table blocks tx stored transaction (hands.Desummarises a) fresh = (λ own. here, λ away. refl)
+  where
+    here : IsDesummariseAt layout a Resting
+    here =
+        let listed = unlisted layout (index_at layout a.index).table a.index fresh.1 refl in
+        (listed.0, listed.1, sym (ap (λ (s : DesummariseStage). desummarises.task_at listed.0 (range_of layout a) s) fresh.0))
 
 -- and it was answered nothing, and has nothing to tell
 answers_none : (layout : DiskLayout) (hand : Hand) → HasNotBegun layout hand → AnswersAre hand []
@@ -78,6 +87,7 @@ answers_none layout (hands.Deletes scan) fresh = absurd fresh
 answers_none layout (hands.Marks marking) fresh = absurd fresh
 answers_none layout (hands.Explains explain) fresh = refl
 answers_none layout (hands.Summarises a) fresh = refl
+answers_none layout (hands.Desummarises a) fresh = refl
 
 tells_none : (layout : DiskLayout) (hand : Hand) → HasNotBegun layout hand → TellsSo hand no_account
 tells_none layout (hands.Begins numbers) fresh = refl
@@ -92,6 +102,7 @@ tells_none layout (hands.Deletes scan) fresh = absurd fresh
 tells_none layout (hands.Marks marking) fresh = absurd fresh
 tells_none layout (hands.Explains explain) fresh = refl
 tells_none layout (hands.Summarises a) fresh = λ i. record no_account { ranges = sym (ap (count_at a) fresh.0) i }
+tells_none layout (hands.Desummarises a) fresh = λ i. record no_account { ranges = sym (ap desummarised_at fresh.0) i }
 
 -- how it stands to its session's transaction
 is_of_any : (layout : DiskLayout) (transaction : Option Open) (copy : Option OpenTransaction) (hand : Hand) → HasNotBegun layout hand → IsOfTransaction transaction copy hand
@@ -107,6 +118,7 @@ is_of_any layout transaction None (hands.Deletes scan) fresh = absurd fresh
 is_of_any layout transaction None (hands.Marks marking) fresh = absurd fresh
 is_of_any layout transaction None (hands.Explains explain) fresh = tt
 is_of_any layout transaction None (hands.Summarises a) fresh = tt
+is_of_any layout transaction None (hands.Desummarises a) fresh = tt
 is_of_any layout transaction (Some x) (hands.Begins numbers) fresh = tt
 is_of_any layout transaction (Some x) hands.Commits fresh = tt
 is_of_any layout transaction (Some x) hands.RollsBack fresh = tt
@@ -119,6 +131,7 @@ is_of_any layout transaction (Some x) (hands.Deletes scan) fresh = absurd fresh
 is_of_any layout transaction (Some x) (hands.Marks marking) fresh = absurd fresh
 is_of_any layout transaction (Some x) (hands.Explains explain) fresh = tt
 is_of_any layout transaction (Some x) (hands.Summarises a) fresh = tt
+is_of_any layout transaction (Some x) (hands.Desummarises a) fresh = tt
 
 module _ (s : ShownStore) (p : Place) (n : ℕ) (new : List (Option Hand)) (hand : Hand) (shown : IsPlaceOf s p) (none : hand_in s.hands n ≡ None) (changes : HasHand s.hands new n (Some hand))
     (fresh : HasNotBegun s.layout hand) where
@@ -225,6 +238,7 @@ tells_no_drop (hands.Deletes scan) account is = ap (λ (a : Account). a.dropped)
 tells_no_drop (hands.Marks marking) account is = ap (λ (a : Account). a.dropped) is
 tells_no_drop (hands.Explains explain) account is = ap (λ (a : Account). a.dropped) is
 tells_no_drop (hands.Summarises a) account is = ap (λ (x : Account). x.dropped) is
+tells_no_drop (hands.Desummarises a) account is = ap (λ (x : Account). x.dropped) is
 
 pub nothing_is_dropped : NothingIsDropped
 nothing_is_dropped None shown account shows = shows.1

@@ -10,6 +10,7 @@ use Rattle.heap_rows.specs.Heaps.{kinds_at}
 use Rattle.row_versions.specs.declared.sessions.Open.{Open}
 use Rattle.row_versions.specs.StoredVersions.{transaction_of}
 use Rattle.tx_table.specs.TxState.{IsOver}
+use Rattle.brin_desummarise.specs.Desummarises.{IsDesummariseOf, IsLeft, held_at}
 use Rattle.brin_insert.specs.Inserts.{AsksNothing, HasStepLeft, IsInsertFor}
 use Rattle.brin_insert.specs.InsertLocks as inserts
 use Rattle.brin_scan.specs.Finds.{IsFindOf, IsScanning}
@@ -58,6 +59,7 @@ IsHandFor layout own (hands.Deletes scan) = IsUnderWay own × IsFindOf layout sc
 IsHandFor layout own (hands.Marks marking) = IsUnderWay own × IsMarkingFor layout marking
 IsHandFor layout own (hands.Explains explain) = IsScanOf layout explain.judging × IsJudging explain.judging.stage
 IsHandFor layout own (hands.Summarises a) = IsSummariseOf layout a × (a.standing ≢ standings.Done) × (a.wish ≢ wishes.Complete)
+IsHandFor layout own (hands.Desummarises a) = IsDesummariseOf layout a × IsLeft a.stage
 
 abbrev pub FitsHand : DiskLayout → Option Open → Option Hand → Type 0
 FitsHand layout own None = Unit {0}
@@ -67,6 +69,7 @@ FitsHand layout own (Some hand) = IsHandFor layout own hand
 abbrev pub locks_held : Option Hand → ℕ
 locks_held (Some (hands.Inserts insert)) = inserts.held_by (inserts.stage_of insert)
 locks_held (Some (hands.Summarises a)) = summarises.held_by a
+locks_held (Some (hands.Desummarises a)) = held_at a.stage
 locks_held hand = 0
 
 -- What holds of a session on any disk: its transactions are those of the pages; what it has in hand is fit for its next step; it holds no more page locks than

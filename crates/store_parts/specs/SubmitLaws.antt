@@ -1,6 +1,7 @@
 -- which place a store shows behind a statement that is taken, and behind a session that is made
 use Rattle.std.specs.Prelude.{◌≡◌, ◌≢◌, ℕ, ◌<◌, List, [], length, Option, None, Some}
 use Rattle.store_layout.specs.DiskLayout.{DiskLayout}
+use Rattle.brin_desummarise.specs.declared.stage.Stage.TheVariants as desummarise_stages
 use Rattle.brin_scan.specs.declared.stage.Stage.TheVariants as stages
 use Rattle.brin_summarise.specs.declared.course.Standing.TheVariants as standings
 use Rattle.brin_summarise.specs.declared.wish.Wish.TheVariants as wishes
@@ -24,6 +25,7 @@ HasNotBegun layout (hands.Selecting query) = Unit {0}
 HasNotBegun layout (hands.Deleting query) = Unit {0}
 HasNotBegun layout (hands.Explains explain) = explain.judging.stage ≡ stages.Extent
 HasNotBegun layout (hands.Summarises a) = (a.standing ≡ standings.Begins) × (a.index < length layout.schema.indexes) × (a.wish ≢ wishes.Complete)
+HasNotBegun layout (hands.Desummarises a) = (a.stage ≡ desummarise_stages.Right) × (a.index < length layout.schema.indexes)
 HasNotBegun layout hand = ⊥
 
 -- a session without a statement in hand has this one then

@@ -2,7 +2,7 @@
 //! session has in hand, as the machine that makes its steps. Which place of the definition of texts they show stands in
 //! specs/ShowsPlace.antt; a step of a session leads from each place that is shown before it to one that is shown after it
 //! (specs/StepIs.antt). The crates above each make the steps of one kind of statement, and session_core hands them out. It stands on
-//! line_texts, transactions, and the machines brin_insert, brin_scan and brin_summarise.
+//! line_texts, transactions, and the machines brin_insert, brin_scan, brin_summarise and brin_desummarise.
 #![tactic(auto)]
 
 mod faults;
