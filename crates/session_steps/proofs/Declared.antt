@@ -1,4 +1,4 @@
--- what an insert that fits its schema names is declared
+-- what a statement that fits its schema names is declared
 use Rattle.std.proofs.Common.{◌≡◌, true, ℕ, ◌<◌, List, [], ◌∷◌, map, length, refl, sym, subst}
 use Rattle.std.proofs.lemmas.Option.{get_or_from_slice_get, slice_get_within}
 use Rattle.block_model.specs.declared.schema.Column.{Column}
@@ -12,7 +12,7 @@ use Rattle.block_model.specs.ValuesOfKind.{IsValueOf, has_kind}
 use Rattle.heap_rows.specs.Heaps.{kinds_at, no_table}
 use Rattle.page_layout.specs.HeapForms.{kinds_of}
 use Rattle.page_layout.specs.RowBytes.{HaveKinds}
-use Rattle.statements.specs.StatementFits.{AreValuesFor, IsInsertFor}
+use Rattle.statements.specs.StatementFits.{AreValuesFor, IsIndexOf, IsInsertFor}
 use Rattle.store_layout.specs.DiskLayout.{DiskLayout}
 
 one_kind : (kind : Kind) (v : Value) → IsValueOf kind v → has_kind kind v ≡ true
@@ -34,3 +34,6 @@ insert_kinds layout table row h =
 
 pub insert_below : (schema : Schema) (table : ℕ) (row : List Value) → IsInsertFor schema table row → table < length schema.tables
 insert_below schema table row h = slice_get_within schema.tables table h.into h.table
+
+pub index_below : (schema : Schema) (n : ℕ) → IsIndexOf schema n → n < length schema.indexes
+index_below schema n h = slice_get_within schema.indexes n h.0 h.1
