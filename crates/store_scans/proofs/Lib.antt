@@ -1,0 +1,15 @@
+pub mod Words
+pub mod Puts
+pub mod Standing
+pub mod Turns
+pub mod Led
+pub mod Stands
+pub mod GoesOn
+pub mod Found
+pub mod Tells
+pub mod Ordered
+pub mod Marking
+pub mod Refused
+pub mod Ahead
+pub mod Frames
+pub mod Steps
