@@ -25,8 +25,9 @@ use Rattle.store_parts.specs.StoreStates.{ShownStore}
 use Rattle.store_scans.specs.declared.looking.Looking.{Looking}
 use Rattle.store_scans.specs.LookLaws.{LookLaws}
 use Rattle.store_scans.specs.Looks.{deletes_of}
-use Rattle.store_scans.proofs.GoesOn.{Steps_, begun_task, sees_there}
-use Rattle.store_scans.proofs.Refused.{begun_or_not}
+use Rattle.store_scans.proofs.GoesOn.{begun_task}
+use Rattle.store_scans.proofs.Stepped.{MakesStep, sees_there}
+use Rattle.store_scans.proofs.Refusals.{begun_or_not}
 use Rattle.store_scans.proofs.Standing.{LooksThere, ScansAt, pages_show, rests_first, scans_at, shows, sight, w}
 
 -- a scan that has begun needs nothing more
@@ -111,12 +112,12 @@ module _ (n : ℕ) (shown : ShownTable) (u : Unseen) (rests : u.task n ≡ Resti
 -- ---- so it is of the session's scan
 
 module _ (laws : LookLaws) (old : ShownStore) (n : ℕ) (looking : Looking) (before after : FindHand) (o : Open) (there : LooksThere old n looking before o) (p : Place) (shown : IsPlaceOf old p)
-    (ahead : NextIs old.layout old.pages before did.Moved) (point : Point) (steps : Steps_ laws old n looking before after o there p shown (did.Finished point)) where
+    (ahead : NextIs old.layout old.pages before did.Moved) (point : Point) (steps : MakesStep laws old n looking before after o there p shown (did.Finished point)) where
   abbrev at : ScansAt old.layout (pages_show laws old n looking before o there p shown) (shows laws old n looking before o there p shown).unseen n (shows laws old n looking before o there p shown).blocks
       (sight laws old n looking before o there p shown) (deletes_of looking) before
   at = scans_at laws old n looking before o there p shown
 
-  abbrev next : (new : FindHand) × (point : Point) × Steps_ laws old n looking before new o there p shown (did.Moved point)
+  abbrev next : (new : FindHand) × (point : Point) × MakesStep laws old n looking before new o there p shown (did.Moved point)
   next = ahead (sight laws old n looking before o there p shown)
 
   module _ (begun : before.judging.stage ≢ stages.Extent) where

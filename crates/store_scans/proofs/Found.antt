@@ -37,7 +37,7 @@ use Rattle.store_scans.specs.declared.looking.Looking.{Looking}
 use Rattle.store_scans.specs.FoundLists.{ListsRows, rows_of}
 use Rattle.store_scans.specs.LookLaws.{LookLaws}
 use Rattle.store_scans.specs.Looks.{deletes_of}
-use Rattle.store_scans.proofs.GoesOn.{Steps_, stepped}
+use Rattle.store_scans.proofs.Stepped.{MakesStep, stepped}
 use Rattle.store_scans.proofs.Standing.{LooksThere, ScansAt, pages_show, scans_at, shows, sight, table, w}
 use Rattle.store_scans.proofs.Stands.{IsThere}
 use Rattle.store_scans.proofs.Turns.{between, between_kept, copy, done, done_there, matches_there, scan_after}
@@ -69,7 +69,7 @@ rows_sorted ordered sorted = λ k d low more.
     ∙ sorted k (d, no_spot) low within
 
 module _ (laws : LookLaws) (old : ShownStore) (n : ℕ) (looking : Looking) (before after : FindHand) (o : Open) (there : LooksThere old n looking before o) (p : Place) (shown : IsPlaceOf old p)
-    (same : after.judging.query ≡ before.judging.query) (point : Point) (steps : Steps_ laws old n looking before after o there p shown (did.Finished point)) where
+    (same : after.judging.query ≡ before.judging.query) (point : Point) (steps : MakesStep laws old n looking before after o there p shown (did.Finished point)) where
   abbrev query : Query
   query = before.judging.query
 

@@ -51,6 +51,7 @@ use Rattle.store_scans.specs.Looks.{deletes_of, scan_hand_of, statement_for}
 use Rattle.store_scans.proofs.Led.{IsInHand, ScanLeft, nothing_entered, place_shown}
 use Rattle.store_scans.proofs.Standing.{LooksThere, ScansAt, account_is, in_hand, pages_show, scans_at, shows, sight}
 use Rattle.store_scans.proofs.Stands.{IsThere}
+use Rattle.store_scans.proofs.Stepped.{MakesStep, stepped}
 use Rattle.store_scans.proofs.Turns.{reads, scan_after, tells_nothing, turns_there}
 use Rattle.store_scans.proofs.Words.{scan_in, scan_is_own, scan_is_shown}
 
@@ -68,12 +69,6 @@ enters_nothing p n hand (stages.Map at range) = refl
 enters_nothing p n hand (stages.Tuple at range spot) = refl
 enters_nothing p n hand stages.Judged = refl
 
--- what the session sees in the block that is read next
-pub sees_there : (sight : Sight) (blocks : List (List Slot)) (sees : ℕ → ℕ → Bool) (next : Option ℕ)
-    → ((b k : ℕ) (row : StoredRow) → slot_at blocks (record { block = b; slot = k }) ≡ Some row → sees b k ≡ sees_stored sight row) → SeesThere sight blocks sees next
-sees_there sight blocks sees None now = tt
-sees_there sight blocks sees (Some b) now = now b
-
 scan_task : (layout : DiskLayout) (number : ℕ) (blocks : List (List Slot)) (tx : TxState) (stored : List Status) (o : Open) (looking : Looking) (after : FindHand) (task : Task) → after.judging.query.table ≡ number
     → IsScanAt layout blocks (sight_of tx stored o) (deletes_of looking) after task → IsTaskOf layout number blocks tx stored (Some o) (Some (scan_hand_of looking after)) task
 scan_task layout number blocks tx stored o lookings.Select after task is at = ((λ own. at), (λ away. absurd (away is)))
@@ -84,18 +79,8 @@ module _ (laws : LookLaws) (old new : ShownStore) (n : ℕ) (looking : Looking) 
       (sight laws old n looking before o there p shown) (deletes_of looking) before
   at = scans_at laws old n looking before o there p shown
 
-  abbrev pub Steps_ : Did → Type 0
-  Steps_ answer = FindSteps old.layout old.pages (sight laws old n looking before o there p shown) before after answer
-
-  -- the step, in the table that the pages show
-  pub stepped : (answer : Did) → Steps_ answer → (now : ℕ → ℕ → Option Bool)
-      × ScanStepped n (pages_show laws old n looking before o there p shown) (shows laws old n looking before o there p shown).unseen (account_at before.judging.stage)
-      (table_scan old.layout after.judging (scanning at.sees now (deletes_of looking) after)) answer
-  stepped answer steps = steps n old.locks (shows laws old n looking before o there p shown).blocks at.sees at.judged (deletes_of looking) (shows laws old n looking before o there p shown).unseen
-      (shows laws old n looking before o there p shown).has at.is at.begins (sees_there (sight laws old n looking before o there p shown) (shows laws old n looking before o there p shown).blocks at.sees before.next at.now)
-
   module _ (left : ScanLeft old new n) (few : length old.entries ≤ MAX_ENTRIES) (same_entries : new.entries ≡ old.entries) (same : after.judging.query ≡ before.judging.query)
-      (point : Point) (named : point ≡ point_at before.judging.stage) (steps : Steps_ (did.Moved point)) (begun : after.judging.stage ≢ stages.Extent)
+      (point : Point) (named : point ≡ point_at before.judging.stage) (steps : MakesStep laws old n looking before after o there p shown (did.Moved point)) (begun : after.judging.stage ≢ stages.Extent)
       (is : hand_in new.hands n ≡ Some (scan_hand_of looking after))
       (stand : All (IsThere before.judging.query.table (shows laws old n looking before o there p shown).blocks) after.found) (remembers : Remembers (sight laws old n looking before o there p shown) after.last) where
     abbrev number : ℕ
@@ -108,11 +93,11 @@ module _ (laws : LookLaws) (old new : ShownStore) (n : ℕ) (looking : Looking) 
     account = account_at before.judging.stage (p.accounts n)
 
     abbrev now : ℕ → ℕ → Option Bool
-    now = (stepped (did.Moved point) steps).0
+    now = (stepped laws old n looking before after o there p shown (did.Moved point) steps).0
 
     abbrev goes : ScanGoes n (pages_show laws old n looking before o there p shown) (shows laws old n looking before o there p shown).unseen point (account_at before.judging.stage)
         (scan_after laws old n looking before o there p shown after same now point)
-    goes = (stepped (did.Moved point) steps).1.0
+    goes = (stepped laws old n looking before after o there p shown (did.Moved point) steps).1.0
 
     abbrev next : Task
     next = Scans (scan_after laws old n looking before o there p shown after same now point)
@@ -161,7 +146,7 @@ module _ (laws : LookLaws) (old new : ShownStore) (n : ℕ) (looking : Looking) 
 
     pub scan_goes_on : (q : Place) × IsPlaceOf new q × Steps p n (Moved point) q
     scan_goes_on =
-        let comes = goes.onward next (Stays next (stepped (did.Moved point) steps).1.1) in
+        let comes = goes.onward next (Stays next (stepped laws old n looking before after o there p shown (did.Moved point) steps).1.1) in
         let turns = turns_there laws old n looking before o there p shown after same now point goes next comes (λ is_prune. reads before.judging.stage (sym named ∙ is_prune)) in
         let v : TableState = table_state (pages_show laws old n looking before o there p shown) (task_turned n next (shows laws old n looking before o there p shown).unseen) in
         let counts : ℕ → Bool = counts_of new.transactions shown.database.stored in (

@@ -4,11 +4,13 @@ pub mod Standing
 pub mod Turns
 pub mod Led
 pub mod Stands
+pub mod Stepped
 pub mod GoesOn
 pub mod Found
 pub mod Tells
 pub mod Ordered
 pub mod Marking
+pub mod Refusals
 pub mod Refused
 pub mod Ahead
 pub mod Frames

@@ -56,7 +56,8 @@ use Rattle.store_scans.specs.declared.looking.Looking.TheVariants as lookings
 use Rattle.store_scans.specs.FoundLists.{ListsHits, hit_of, hits_of, rows_of}
 use Rattle.store_scans.specs.LookLaws.{LookLaws}
 use Rattle.store_scans.proofs.Found.{found_here, goes, ids_distinct, now, read, rows_are, rows_sorted, scan_then, sees_found}
-use Rattle.store_scans.proofs.GoesOn.{Steps_, enters_nothing}
+use Rattle.store_scans.proofs.GoesOn.{enters_nothing}
+use Rattle.store_scans.proofs.Stepped.{MakesStep}
 use Rattle.store_scans.proofs.Led.{IsInHand, ScanLeft, nothing_entered, place_shown}
 use Rattle.store_scans.proofs.Ordered.{among_them, one_among, one_at, row_ids, rows_in_order, same_ids}
 use Rattle.store_scans.proofs.Standing.{LooksThere, account_is, in_hand, pages_show, scans_at, shows, w}
@@ -65,7 +66,7 @@ use Rattle.store_scans.proofs.Turns.{copy, reads, tells_nothing, turns_there}
 
 module _ (laws : LookLaws) (old new : ShownStore) (n : ℕ) (before after : FindHand) (o : Open) (there : LooksThere old n lookings.Delete before o) (p : Place) (shown : IsPlaceOf old p) (left : ScanLeft old new n)
     (few : length old.entries ≤ MAX_ENTRIES) (same_entries : new.entries ≡ old.entries) (same : after.judging.query ≡ before.judging.query) (point : Point) (named : point ≡ point_at before.judging.stage)
-    (steps : Steps_ laws old n lookings.Delete before after o there p shown (did.Finished point))
+    (steps : MakesStep laws old n lookings.Delete before after o there p shown (did.Finished point))
     (stand : All (IsThere before.judging.query.table (shows laws old n lookings.Delete before o there p shown).blocks) after.found) (ascend : scans.Ascend 0 0 after.found)
     (hits : Vec Hit) (more_copy : Query) (lists : ListsHits after.found hits.items) (some : 0 < length hits.items) where
   abbrev query : Query

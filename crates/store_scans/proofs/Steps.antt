@@ -65,9 +65,11 @@ use Rattle.store_scans.specs.Looks.{deletes_of, first_hand_of, hand_before, scan
 use Rattle.store_scans.specs.ScanSteps.{IsFresh}
 use Rattle.store_scans.proofs.Ahead.{not_the_last}
 use Rattle.store_scans.proofs.Frames.{LeavesParts, failed_apart, failed_here, leaves_others, over_still, promised_failed, stays_fit, under_way}
-use Rattle.store_scans.proofs.GoesOn.{Steps_, scan_goes_on}
+use Rattle.store_scans.proofs.GoesOn.{scan_goes_on}
+use Rattle.store_scans.proofs.Stepped.{MakesStep}
 use Rattle.store_scans.proofs.Led.{ScanLeft}
-use Rattle.store_scans.proofs.Refused.{RefusedLeft, lacks_room, refused_entry, scan_refused}
+use Rattle.store_scans.proofs.Refusals.{lacks_room, refused_entry}
+use Rattle.store_scans.proofs.Refused.{RefusedLeft, scan_refused}
 use Rattle.store_scans.proofs.Standing.{LooksThere, kept, scans_at, shows, sight}
 use Rattle.store_scans.proofs.Stands.{IsThere, all_stand}
 use Rattle.store_scans.proofs.Tells.{scan_tells}
@@ -134,7 +136,7 @@ module _ {D : Type 0} (told : D → Told) (laws : LookLaws) (old : Parts D) (pag
     left tells j h = record { others = others j h; pages = keeps.pages tells; transactions = refl; locks = refl; rights = refl }
 
     module _ (tells : Tells told old.pages) (p : Place) (shown : IsPlaceOf store p) (after : FindHand) (answer : Did) (made : DidScan told old pages o before after answer) where
-      steps_there : Steps_ laws store n looking before after o there p shown answer
+      steps_there : MakesStep laws store n looking before after o there p shown answer
       steps_there = made.stepped tells shown.database.stored shown.database.has
 
       stand_there : All (IsThere query.table (shows laws store n looking before o there p shown).blocks) after.found

@@ -53,7 +53,7 @@ use Rattle.store_scans.specs.FoundLists.{ListsRows}
 use Rattle.store_scans.specs.LookLaws.{LookLaws}
 use Rattle.store_scans.specs.Looks.{deletes_of, statement_for}
 use Rattle.store_scans.proofs.Found.{goes, now, read, rows_are, scan_then}
-use Rattle.store_scans.proofs.GoesOn.{Steps_}
+use Rattle.store_scans.proofs.Stepped.{MakesStep}
 use Rattle.store_scans.proofs.Led.{IsInHand, ScanLeft, order_stays, place_shown}
 use Rattle.store_scans.proofs.Standing.{LooksThere, account_is, in_hand, pages_show, scans_at, shows}
 use Rattle.store_scans.proofs.Stands.{IsThere}
@@ -87,7 +87,7 @@ none_in_hand old new n table blocks stored is = record {
 
 module _ (laws : LookLaws) (old new : ShownStore) (n : ℕ) (looking : Looking) (before after : FindHand) (o : Open) (there : LooksThere old n looking before o) (p : Place) (shown : IsPlaceOf old p)
     (left : ScanLeft old new n) (few : length new.entries ≤ MAX_ENTRIES) (looked : new.entries ≡ old.entries ++ look_entry n before.judging.query ∷ []) (is : hand_in new.hands n ≡ None)
-    (same : after.judging.query ≡ before.judging.query) (point : Point) (named : point ≡ point_at before.judging.stage) (steps : Steps_ laws old n looking before after o there p shown (did.Finished point))
+    (same : after.judging.query ≡ before.judging.query) (point : Point) (named : point ≡ point_at before.judging.stage) (steps : MakesStep laws old n looking before after o there p shown (did.Finished point))
     (stand : All (IsThere before.judging.query.table (shows laws old n looking before o there p shown).blocks) after.found) (ascend : scans.Ascend 0 0 after.found)
     (reply : Reply) (rows : List Row) (lists : ListsRows after.found rows) (replied : IsReplyOf looking after.found rows reply) where
   abbrev query : Query

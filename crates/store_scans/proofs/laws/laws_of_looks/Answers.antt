@@ -7,6 +7,9 @@ use Rattle.store_scans.proofs.Ordered.{one_at}
 use Rattle.store_scans.proofs.Turns.{turns_there}
 use Rattle.store_scans.proofs.Led.{place_shown}
 use Rattle.store_scans.proofs.GoesOn.{scan_goes_on}
+use Rattle.store_scans.proofs.Found.{rows_are}
+use Rattle.store_scans.proofs.Tells.{scan_tells}
+use Rattle.store_scans.proofs.Refused.{scan_refused}
 use Rattle.store_scans.proofs.laws.laws_of_looks.Goals as goal
 
 pub returns : goal.returns
