@@ -15,3 +15,6 @@ pub mod Refused
 pub mod Ahead
 pub mod Frames
 pub mod Steps
+pub mod Marked
+pub mod Finished
+pub mod Mays

@@ -100,46 +100,46 @@ module _ {D : Type 0} (told : D → Told) (laws : LookLaws) (old : Parts D) (pag
   abbrev query : Query
   query = before.judging.query
 
-  abbrev was : Hand
+  abbrev pub was : Hand
   was = hand_before looking before before.judging.stage
 
-  fits : FitsParts told old n (Some was)
+  pub fits : FitsParts told old n (Some was)
   fits = fit_of_parts told old n was fit
 
-  look : FitsLook old.pages.layout (transaction_of old.transactions.opens n) query
+  pub look : FitsLook old.pages.layout (transaction_of old.transactions.opens n) query
   look = fits_look old.pages.layout (transaction_of old.transactions.opens n) looking before stage fits.in_hand
 
-  whole : o.failed ≡ false
+  pub whole : o.failed ≡ false
   whole = under_way (transaction_of old.transactions.opens n) o opened look.0
 
-  over : IsOver told old.transactions.tx pages
+  pub over : IsOver told old.transactions.tx pages
   over = over_still told old.transactions.tx old.pages pages fits.over keeps
 
   -- behind it the journal is this
-  abbrev then : JournalState → Parts D
+  abbrev pub then : JournalState → Parts D
   then j = record old { pages = pages; journal = j }
 
   module _ (names : List (List ℕ)) (hands_ : List (Option Hand)) (is : hand_in hands_ n ≡ Some was) where
-    abbrev store : ShownStore
+    abbrev pub store : ShownStore
     store = shown_of (store_of old names hands_)
 
-    abbrev store_then : JournalState → Option Hand → ShownStore
+    abbrev pub store_then : JournalState → Option Hand → ShownStore
     store_then j h = shown_of (store_of (then j) names (with_hand hands_ n h))
 
-    there : LooksThere store n looking before o
+    pub there : LooksThere store n looking before o
     there = record { was = is; find = find; opened = opened; whole = whole; fresh = fresh }
 
     others : (j : JournalState) (h : Option Hand) → LeavesOthers n store (store_then j h)
     others j h = record { layout = keeps.leaves.layout; names = refl; first = refl; hands = (hand_changes hands_ n was h is).others; opens = λ m apart. refl }
 
-    left : Tells told old.pages → (j : JournalState) (h : Option Hand) → ScanLeft store (store_then j h) n
+    pub left : Tells told old.pages → (j : JournalState) (h : Option Hand) → ScanLeft store (store_then j h) n
     left tells j h = record { others = others j h; pages = keeps.pages tells; transactions = refl; locks = refl; rights = refl }
 
     module _ (tells : Tells told old.pages) (p : Place) (shown : IsPlaceOf store p) (after : FindHand) (answer : Did) (made : DidScan told old pages o before after answer) where
-      steps_there : MakesStep laws store n looking before after o there p shown answer
+      pub steps_there : MakesStep laws store n looking before after o there p shown answer
       steps_there = made.stepped tells shown.database.stored shown.database.has
 
-      stand_there : All (IsThere query.table (shows laws store n looking before o there p shown).blocks) after.found
+      pub stand_there : All (IsThere query.table (shows laws store n looking before o there p shown).blocks) after.found
       stand_there = all_stand (sight laws store n looking before o there p shown) (shows laws store n looking before o there p shown).blocks before after before.next
           (made.rows tells (shows laws store n looking before o there p shown).blocks (shows laws store n looking before o there p shown).has shown.database.stored shown.database.has)
           (scans_at laws store n looking before o there p shown).stand
@@ -148,7 +148,7 @@ module _ {D : Type 0} (told : D → Told) (laws : LookLaws) (old : Parts D) (pag
       remembers_there = made.remembers tells shown.database.stored shown.database.has
 
   -- what is left behind it of the parts
-  left_parts : (j : JournalState) (now : Option Hand) → FitsHand old.pages.layout (transaction_of old.transactions.opens n) now → locks_held now ≡ 0 → length j.entries ≤ MAX_ENTRIES
+  pub left_parts : (j : JournalState) (now : Option Hand) → FitsHand old.pages.layout (transaction_of old.transactions.opens n) now → locks_held now ≡ 0 → length j.entries ≤ MAX_ENTRIES
       → j.promised + share_of (Some was) (transaction_of old.transactions.opens n) ≡ old.journal.promised + share_of now (transaction_of old.transactions.opens n)
       → LeavesParts told old (then j) n was now
   left_parts j now in_hand held entries promised = record {
@@ -168,7 +168,7 @@ module _ {D : Type 0} (told : D → Told) (laws : LookLaws) (old : Parts D) (pag
   -- ---- it goes on
 
   module _ (j : JournalState) (same_entries : j.entries ≡ old.journal.entries) where
-    few : length j.entries ≤ MAX_ENTRIES
+    pub few : length j.entries ≤ MAX_ENTRIES
     few = subst (λ (l : List Entry). length l ≤ MAX_ENTRIES) (sym same_entries) fits.entries
 
     module _ (after : FindHand) (point : Point) (made : DidScan told old pages o before after (did.Moved point))
