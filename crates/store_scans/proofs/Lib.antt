@@ -15,6 +15,7 @@ pub mod Refused
 pub mod Ahead
 pub mod Frames
 pub mod Steps
+pub mod Short
 pub mod Listed
 pub mod Marked
 pub mod Finished
