@@ -89,3 +89,11 @@ module _ {D : Type 0} (told : D → Told) (laws : LookLaws) (parts : Parts D) (p
       as_told answer (stepped.Undone (stops.Spent (length parts.journal.entries)) (first_hand_of looking after.judging.query)) new (record mid { journal = new.journal }) answer_is releases.rest
       (anew_so told laws old pages n looking before may.fit may.find may.fresh o opened keeps new.journal releases.entries after point made (ahead full) (length parts.journal.entries)
       (promised_then (Some (first_hand_of looking after.judging.query)) new.journal (omega (arith, releases.promised, first_shares looking after.judging.query))))
+
+-- and no page is changed
+module _ {D : Type 0} (old : Parts D) (n : ℕ) (looking : Looking) (query : Query) (found : List (Row × Spot)) (point : Point) (answer : Stepped) (new : Parts D) where
+  pub finished_pages : Finishes old n looking query found point answer new → new.pages ≡ old.pages
+  finished_pages (TellsRows reply rows lists replied answer_is enters room) = ap (λ (x : Parts D). x.pages) enters.rest
+  finished_pages (GoesToMarks hits copy deletes copied lists some answer_is promises) = ap (λ (x : Parts D). x.pages) promises.rest
+  finished_pages (LacksMemory answer_is refuses room) = ap (λ (x : Parts D). x.pages) refuses.rest
+  finished_pages (BeginsAnew full answer_is releases) = ap (λ (x : Parts D). x.pages) releases.rest

@@ -18,5 +18,6 @@ pub mod Steps
 pub mod Short
 pub mod Listed
 pub mod Marked
+pub mod Machine
 pub mod Finished
 pub mod Mays

@@ -1,3 +1,4 @@
+use Rattle.store_scans.proofs.Machine.{done_well}
 use Rattle.store_scans.proofs.Mays.{may_begin}
 use Rattle.store_scans.proofs.Marked.{marks_so}
 use Rattle.store_scans.proofs.Finished.{finished_so}
