@@ -1,5 +1,5 @@
 -- what a call of the scan's machine did, and what comes of it
-use Rattle.std.proofs.Common.{◌≡◌, ◌≢◌, ℕ, ◌+◌, ◌<◌, List, [], length, Option, None, Some, Result, Ok, Err, refl, sym, ap, ◌∙◌, subst}
+use Rattle.std.proofs.Common.{◌≡◌, ◌≢◌, ℕ, ◌+◌, ◌<◌, Bool, List, [], length, Option, None, Some, Result, Ok, Err, refl, sym, ap, ◌∙◌, subst}
 use Rattle.disk_trait.specs.Told.{Told}
 use Rattle.block_model.specs.declared.reply.Point.{Point}
 use Rattle.page_locks.specs.declared.did.Did.{Did}
@@ -23,7 +23,7 @@ use Rattle.brin_scan.specs.declared.stage.Stage.TheVariants as stages
 use Rattle.brin_scan.specs.Finds.{FindHand, FindOutcome, FindSteps, FindsThere, IsFindOf, IsPointIn, OfSight}
 use Rattle.brin_scan.specs.LastStatuses.{Remembers}
 use Rattle.brin_scan.specs.LooksAhead.{NextIs}
-use Rattle.brin_scan.specs.ScanAnswers.{IsDamagedAt}
+use Rattle.brin_scan.specs.ScanAnswers.{IsDamagedAt, ReadOutcome}
 use Rattle.brin_scan.specs.ScanHands.{IsHand}
 use Rattle.store_parts.specs.declared.faults.StoreFault.{StoreFault}
 use Rattle.store_parts.specs.declared.faults.StoreFault.TheVariants as stops
@@ -41,7 +41,7 @@ use Rattle.store_scans.specs.Looks.{hand_before, scan_hand_of}
 use Rattle.store_scans.specs.ScanSteps.{MayScan, ScanStepsSo, parts_before}
 use Rattle.store_scans.proofs.Frames.{promised_on}
 use Rattle.store_scans.proofs.Mays.{behind, may_still}
-use Rattle.store_scans.proofs.Short.{short_spent}
+use Rattle.store_scans.proofs.Short.{its_open, short_spent}
 use Rattle.store_scans.proofs.Standing.{LooksThere, scans_at}
 use Rattle.store_scans.proofs.Steps.{DidScan, NotDamaged, moved_so, there, undone_so}
 use Rattle.store_scans.proofs.Words.{promised_is, scan_share, scan_shares, share_is}
@@ -66,6 +66,9 @@ module _ {D : Type 0} (told : D → Told) (Cause : Type 0) (old new : View D) wh
 
   pub refused_there : (next : Option ℕ) (error : StoreError) (fault : MachineFault) → fault ≡ faults.Store error → FindOutcome {D = D} {T = Did} told Cause old new next (Err fault) → Refused told Cause old new error
   refused_there next error fault is outcome = refused_next next error (subst (λ (f : MachineFault). FindOutcome {D = D} {T = Did} told Cause old new next (Err f)) is outcome)
+
+  pub refused_read : (error : StoreError) (fault : MachineFault) → fault ≡ faults.Store error → ReadOutcome {D = D} {T = Bool} told Cause old new (Err fault) → Refused told Cause old new error
+  refused_read error fault is outcome = subst (λ (f : MachineFault). ReadOutcome {D = D} {T = Bool} told Cause old new (Err f)) is outcome
 
 -- ---- what it did, by transactions that are those of the parts
 
@@ -137,10 +140,11 @@ module _ {D : Type 0} (told : D → Told) (laws : LookLaws) (parts : Parts D) (n
       -- the pages refuse it
       pub refused_by_pages : NotDamaged → IsHand scan.judging → (error : StoreError) → fault ≡ fault_of error
           → Refused told (Tells told parts.pages → IsDamagedAt parts.pages.layout parts.pages.pages scan.judging.indexes scan.judging.stage) parts.pages pages error
-          → (o : Open) → transaction_of parts.transactions.opens n ≡ Some o → ScanStepsSo told parts new n looking scan answer
-      refused_by_pages law known error is refused o opened =
+          → ScanStepsSo told parts new n looking scan answer
+      refused_by_pages law known error is refused =
+          let its : (o : Open) × (transaction_of parts.transactions.opens n ≡ Some o) = its_open told laws old n looking scan may.fit may.find may.fresh ready in
           as_told answer (stepped.Undone (fault_of error) was) new (parts_before scan.judging.stage mid) (undone_is (fault_of error) is) parts_are
-          (undone_so told laws old pages n looking scan may.fit may.find may.fresh o opened keeps law may.shown known error refused)
+          (undone_so told laws old pages n looking scan may.fit may.find may.fresh its.0 its.1 keeps law may.shown known error refused)
 
       -- the journal lacks room for what it may enter
       pub spent_there : MAX_ENTRIES < length parts.journal.entries + 1 → pages.failed ≡ None → fault ≡ stops.Spent (length parts.journal.entries) → ScanStepsSo told parts new n looking scan answer

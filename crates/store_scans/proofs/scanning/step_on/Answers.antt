@@ -73,4 +73,4 @@ returns-in-Err-Store-clause-so g c =
     let damaged = Tells told parts.pages → IsDamagedAt parts.pages.layout parts.pages.pages scan.judging.indexes scan.judging.stage in
     refused_by_pages told c.laws_of_looks.ensures parts c.args.session c.args.looking scan c.requires.may c.requires.ready c.step.new.pages c.step.ensures.kept c.step.new.self c.in-Err-Store.ensures.same
     c.undone.new.parts c.undone.result c.fault_of.result c.undone.ensures.answer c.undone.ensures.parts c.a_kept_table_is_scanned.ensures c.known.ensures.hand c.in-Err-Store.error c.fault_of.ensures
-    (refused_there told damaged parts.pages c.step.new.pages scan.next c.in-Err-Store.error c.in-Err-Store.field-0 c.in-Err-Store.field-0-is c.in-Err-Store.ensures.outcome) c.open-open.result.now c.open-open.ensures
+    (refused_there told damaged parts.pages c.step.new.pages scan.next c.in-Err-Store.error c.in-Err-Store.field-0 c.in-Err-Store.field-0-is c.in-Err-Store.ensures.outcome)
