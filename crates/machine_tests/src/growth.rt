@@ -35,26 +35,36 @@ fn fill(alloc: Global, trial: &mut Trial, rows: u32) -> Result<Option<WrongAnswe
     Ok(None)
 }
 
-const EVACUATED: [(&str, &str); 19] = [
+const EVACUATED: [(&str, &str); 29] = [
     ("s1 commit", "s1 committed"),
     ("m summarize i", "m summarized 1020"),
     ("s1 begin", "s1 begun 2"),
     ("s1 insert t 2040", "s1 inserted 2.0"),
+    ("s1 delete t where a = 0", "s1 deleted 1"),
     ("s1 commit", "s1 committed"),
-    ("m explain t where a = 2040", "m blocks 2040"),
-    ("m explain t where a = 0", "m blocks 0-1 2040"),
+    ("m vacuum t", "m vacuumed rows 1 orphans 0 ranges 0"),
     ("m start summarize i 2040", "m started"),
     ("m step", "m moved right"),
     ("m step", "m moved map"),
     ("m step", "m moved flag"),
     ("m step", "m moved put"),
+    ("s1 begin", "s1 begun 3"),
+    ("s1 start insert t -7", "s1 started"),
+    ("s1 step", "s1 moved row"),
+    ("s1 step", "s1 moved map"),
+    ("s1 step", "s1 moved copy"),
+    ("s1 step", "s1 error 11 page i 2 m"),
     ("m finish", "m summarized 1"),
+    ("s1 step", "s1 moved again"),
+    ("s1 finish", "s1 inserted 3.0"),
+    ("s1 commit", "s1 committed"),
+    ("s1 explain t where a = -7", "s1 blocks 0-1"),
     ("m explain t where a = 2040", "m blocks 2040"),
-    ("m explain t where a = 0", "m blocks 0-1"),
     ("m explain t where a = 291", "m blocks 290-291"),
     ("m explain t where a = 2039", "m blocks 2038-2039"),
     ("m explain t where a = 2041", "m blocks none"),
     ("m summarize i", "m summarized 0"),
+    ("m vacuum t", "m vacuumed rows 0 orphans 0 ranges 0"),
 ];
 
 #[test]

@@ -1,2 +1,6 @@
-pub mod Sessions
+pub mod SessionLists
 pub mod StoreCode
+pub mod StoreKept
+pub mod SessionLaws
+pub mod Submitting
+pub mod Sessions

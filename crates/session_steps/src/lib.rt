@@ -6,7 +6,12 @@
 #![tactic(auto)]
 
 mod faults;
+mod laws;
+mod sessions;
+mod steps;
 mod store;
+mod submitting;
+mod waiting;
 
 pub use faults::SessionFault;
 pub use store::Store;

@@ -11,64 +11,79 @@ ghost use Rattle.line_texts.specs.Starts.{IsStart};
 ghost use Rattle.store_parts.specs.ShowsPlace.{ShowsPlace};
 ghost use Rattle.store_parts.specs.StepAnswers.{HasFaultCause, StaysReady};
 ghost use Rattle.store_parts.specs.StepIs.{LeadsOn, StepIs};
-ghost use Rattle.store_parts.specs.StoreStates.{StoreState, hand_at};
+ghost use Rattle.store_parts.specs.StoreStates.{hand_at};
+ghost use Rattle.store_starts.specs.OpenedParts.{NeverFails};
 ghost use Rattle.session_steps.specs.Sessions.{HasSession, IsInHandThen, NamesASession, refusal_in};
+ghost use Rattle.session_steps.specs.Submitting.{refusal_here};
 
 use crate::faults::SessionFault;
+use crate::laws::laws_of_sessions;
+use crate::sessions::{
+    Session, add_session, has_hand, number_of, put_hand, put_spare, take_hand, take_spare,
+};
+use crate::steps::{answered, step_of};
+use crate::submitting::{block_refusal, hand_for, standing_refusal};
 use block_model::{Entry, Name, NoMemory, Refusal};
 use disk_trait::Disk;
 use reply_texts::Dropped;
-use statements::Statement;
+use statements::{MAX_SESSIONS, Statement};
 use std::alloc::Global;
-use std::convert::Infallible;
 use std::marker::Model;
 use store_layout::Layout;
-use store_parts::{Parts, Step, StoreFault};
+use store_parts::{Parts, Step, StoreFault, few_locks_are_held};
+use store_starts::plain_parts;
 
-/// A store of sessions over pages on a disk. There is none yet: nothing makes a value of this type, and so each of its contracts is met.
+/// A store of sessions over pages on a disk.
 #[derive(Drop)]
 pub struct Store<D: Disk + Drop> {
     parts: Parts<D>,
-    never: Infallible,
+    /// The sessions by their numbers.
+    sessions: Vec<Session>,
 }
 
 impl<D: Disk + Drop> Model for Store<D> {
-    ghost use Rattle.std.specs.Prelude.{[]};
     ghost use Rattle.store_parts.specs.StoreStates.{StoreState, store_of};
+    ghost use Rattle.session_steps.specs.SessionLists.{hands_of, names_of, spares_of};
     ghost use Rattle.session_steps.specs.StoreCode.{coded_store};
+    ghost use Rattle.session_steps.specs.StoreKept.{IsStoreKept};
 
     ghost Value = { StoreState D };
 
     ghost coded = { coded_store D.code };
 
-    ghost view = { λ a. store_of a.parts [] [] };
+    ghost view = { λ a. store_of a.parts (names_of a.sessions.items) (hands_of a.sessions.items) };
+
+    ghost invariant = { λ a. IsStoreKept D.told (store_of a.parts (names_of a.sessions.items) (hands_of a.sessions.items)) (spares_of a.sessions.items) };
 }
 
 impl<D: Disk + Drop> Store<D> {
-    /// A store of this layout, without sessions and rows, on pages in memory alone, beside a disk that never fails and that no call touches.
+    /// A store of this layout, without sessions and rows, on pages in memory alone, beside a disk that leaves nothing and never fails.
     pub fn plain(alloc: Global, disk: D, layout: Layout) -> Result<Store<D>, NoMemory>
         requires nothing { LeavesNothing (D.told disk) }
-        requires steady { (other : D) → (D.told other).faults ≡ 0 }
+        requires steady { NeverFails D.told }
         ensures starts { IfOk result (λ store. Tells D.told store.pages → (p : Place) × IsStart layout p × ShowsPlace store p) }
         ensures nothing { IfOk result (λ store. LeavesNothing (D.told store.pages.disk)) }
         ensures layout { IfOk result (λ store. store.pages.layout ≡ layout) }
         ensures ready { IfOk result (λ store. store.pages.failed ≡ None) }
     {
-        Err(NoMemory)
+        let parts = plain_parts(alloc, disk, layout)?;
+        let sessions = Vec::new(alloc);
+        Ok(Store { parts, sessions })
     }
 
     /// Does nothing; tells its caller what every store shows where its disk tells its contents and no disk fault was kept.
     pub fn known(&self)
         ensures shown { Tells D.told self.now.pages → self.now.pages.failed ≡ None → (p : Place) × ShowsPlace self.now p }
     {
-        match self.never {}
+        // The toolchain opens the invariant where a field is read.
+        let _ = &self.parts;
     }
 
     /// The tables, indexes and sizes.
     pub fn layout(&self) -> &Layout
         ensures { result.now ≡ self.now.pages.layout }
     {
-        match self.never {}
+        self.parts.pages.layout()
     }
 
     /// The number of the session of that name, from 0 in the order in which they were made; it is made where it is new. `Limit`
@@ -77,7 +92,19 @@ impl<D: Disk + Drop> Store<D> {
         ensures named { HasSession self.old name self.new result }
         ensures places { IfOk result (λ n. LeadsOn D.told self.old self.new (λ p q. q ≡ named p name)) }
     {
-        match self.never {}
+        laws_of_sessions(&self.parts);
+        let number = number_of(self.sessions.as_slice(), &name);
+        if number >= MAX_SESSIONS {
+            return Err(SessionFault::Limit {
+                limit: MAX_SESSIONS as u64,
+            });
+        }
+        if number == self.sessions.len() {
+            let Ok(()) = add_session(&mut self.sessions, name) else {
+                return Err(SessionFault::Memory);
+            };
+        }
+        Ok(number as u32)
     }
 
     /// Takes a statement of the session, whose steps do it then. It is refused where one is in hand, where its block isn't below the greatest
@@ -92,7 +119,16 @@ impl<D: Disk + Drop> Store<D> {
         ensures same { OnErr result (self.new ≡ self.old) }
         ensures in_hand { OnOk result (IsSome (hand_at self.new session)) }
     {
-        match self.never {}
+        laws_of_sessions(&self.parts);
+        if let Some(refusal) = self.refusal(session, &statement) {
+            return Err(refusal);
+        }
+        let Ok(hand) = hand_for(&mut self.parts, statement) else {
+            return Err(Refusal::Memory);
+        };
+        self.parts.dropped.clear(session);
+        put_hand(&mut self.sessions, session, Some(hand));
+        Ok(())
     }
 
     /// Makes one step of the statement that the session has in hand. `Spent` comes exactly where the requests that it would enter don't
@@ -108,7 +144,15 @@ impl<D: Disk + Drop> Store<D> {
         ensures ready { OnOk result (StaysReady self.old.pages self.new.pages) }
         ensures cause { IfErr result (HasFaultCause D.told self.old.pages self.new.pages) }
     {
-        match self.never {}
+        laws_of_sessions(&self.parts);
+        few_locks_are_held(&self.parts.locks);
+        let hand = take_hand(&mut self.sessions, session);
+        let mut spare = take_spare(&mut self.sessions, session);
+        let stepped = step_of(&mut self.parts, session, hand, &mut spare);
+        let (answer, hand) = answered(stepped);
+        put_spare(&mut self.sessions, session, spare);
+        put_hand(&mut self.sessions, session, hand);
+        answer
     }
 
     /// Whether the session has a statement in hand.
@@ -116,7 +160,7 @@ impl<D: Disk + Drop> Store<D> {
         requires { session < length self.now.names }
         ensures { result ≡ is_some (hand_at self.now session) }
     {
-        match self.never {}
+        has_hand(self.sessions.as_slice(), session)
     }
 
     /// The session's name.
@@ -124,7 +168,7 @@ impl<D: Disk + Drop> Store<D> {
         requires { session < length self.now.names }
         ensures { result ≡ slice_index_or self.now.names session [] }
     {
-        match self.never {}
+        self.sessions[session as usize].name
     }
 
     /// The summaries for which the session's last statement asked in vain, so far.
@@ -132,20 +176,34 @@ impl<D: Disk + Drop> Store<D> {
         requires { session < length self.now.names }
         ensures { (p : Place) → ShowsPlace self.now p → result.now ≡ dropped_at p session }
     {
-        match self.never {}
+        self.parts.dropped.of(session)
     }
 
     /// The requests of all statements so far, in their order. Only tests ask for them.
     pub fn journal(&self) -> &[Entry]
         ensures { result.now ≡ self.now.journal.entries }
     {
-        match self.never {}
+        self.parts.journal.as_slice()
     }
 
     /// The disk, as it is: open transactions are dropped as by a stop. Makes no device call.
     pub fn into_disk(self) -> D
         ensures { result ≡ self.pages.disk }
     {
-        match self.never {}
+        self.parts.pages.into_disk()
+    }
+
+    /// Why a statement of the session isn't taken.
+    fn refusal(&self, session: u32, statement: &Statement) -> Option<Refusal>
+        requires { session < length self.now.names }
+        ensures { result ≡ refusal_here self.now session statement.now }
+    {
+        if has_hand(self.sessions.as_slice(), session) {
+            return Some(Refusal::InHand);
+        }
+        if let Some(refusal) = block_refusal(self.parts.pages.layout(), statement) {
+            return Some(refusal);
+        }
+        standing_refusal(self.parts.transactions.standing(session), statement)
     }
 }

@@ -1,5 +1,5 @@
 -- What a mark leaves of the parts of a store, on any disk.
-use Rattle.std.proofs.Common.{◌≡◌, ◌≢◌, ℕ, ◌+◌, ◌<◌, ◌≤◌, Bool, false, drop, length, length-drop, Option, None, Some, refl, sym, ap, ◌∙◌, subst, arith}
+use Rattle.std.proofs.Common.{◌≡◌, ◌≢◌, ℕ, ◌+◌, ◌<◌, ◌≤◌, Bool, false, List, drop, length, length-drop, Option, None, Some, refl, sym, ap, ◌∙◌, subst, arith}
 use Rattle.std.specs.Prelude.{if◌then◌else◌}
 use Rattle.std.proofs.lemmas.Option.{none-some}
 use Rattle.block_model.specs.declared.reply.Point.TheVariants as points
@@ -9,6 +9,7 @@ use Rattle.disk_trait.specs.Told.{Told}
 use Rattle.heap_rows.specs.LeavesOthers.{LeavesOthers}
 use Rattle.page_locks.specs.LockCounts.{locks_of}
 use Rattle.page_locks.specs.LockHolders.{LockState}
+use Rattle.page_locks.specs.RightHolders.{right_of}
 use Rattle.page_store.specs.Keeps.{Leaves}
 use Rattle.page_store.specs.PageMap.{View}
 use Rattle.row_versions.specs.declared.sessions.Open.{Open}
@@ -65,6 +66,7 @@ module _ {D : Type 0} (told : D → Told) (old new : Parts D) (n : ℕ) (marking
     in_hand = left.in_hand;
     limit = ap (λ (l : LockState). l.limit) left.locks ∙ was.limit;
     own = subst (λ (l : LockState). locks_of l n ≤ locks_held now) (sym left.locks) (subst (λ (count : ℕ). locks_of old.locks n ≤ count) (sym left.held) was.own);
+    held = λ table holds. absurd (none-some table (was.held table (ap (λ (r : List (Option ℕ)). right_of r table) (sym left.rights) ∙ holds)));
     rights = ap length left.rights ∙ was.rights ∙ ap (λ (layout : DiskLayout). length layout.schema.tables) (sym left.leaves.layout);
     entries = left.entries;
     share = less_share new.journal.promised old.journal.promised _ _ left.promised was.share;
@@ -80,6 +82,7 @@ module _ {D : Type 0} (told : D → Told) (old new : Parts D) (n : ℕ) (marking
       transactions = left.opens;
       locks = λ m apart. ap (λ (l : LockState). locks_of l m) left.locks;
       dropped = λ m apart. ap (λ (l : List (List Dropped)). dropped_in l m) left.dropped;
+      rights = λ m table apart holds. ap (λ (r : List (Option ℕ)). right_of r table) (sym left.rights) ∙ holds;
       promised = ap (λ (h : Option Hand). new.journal.promised + share_of h (transaction_of old.transactions.opens n)) is ∙ left.promised
           ∙ ap (λ (h : Option Hand). old.journal.promised + share_of h (transaction_of new.transactions.opens n)) (sym ((hand_changes hands_ n (hands.Marks marking) (hand_after answer) is).own ∙ after));
     }

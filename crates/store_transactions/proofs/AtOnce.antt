@@ -13,6 +13,7 @@ use Rattle.store_layout.specs.DiskLayout.{DiskLayout}
 use Rattle.opened_pages.specs.PageOrder.{IsIndexInOrder}
 use Rattle.page_locks.specs.LockCounts.{locks_of}
 use Rattle.page_locks.specs.LockHolders.{LockState}
+use Rattle.page_locks.specs.RightHolders.{right_of}
 use Rattle.page_store.specs.Keeps.{Leaves, Tells}
 use Rattle.page_store.specs.PageMap.{page_at}
 use Rattle.snapshot_core.specs.declared.statuses.Status.{Status}
@@ -33,7 +34,7 @@ use Rattle.reply_texts.specs.declared.dropped.Dropped.{Dropped}
 use Rattle.store_parts.specs.declared.hand.Hand.{Hand}
 use Rattle.store_parts.specs.declared.hand.Stepped.TheVariants as stepped
 use Rattle.store_parts.specs.declared.parts.Parts.{Parts}
-use Rattle.store_parts.specs.HandFits.{locks_held}
+use Rattle.store_parts.specs.HandFits.{locks_held, right_held}
 use Rattle.store_parts.specs.Hands.{AnswersAre, HandShows, statement_of}
 use Rattle.store_parts.specs.HandsAsk.{IsNoInsert}
 use Rattle.store_parts.specs.HandsInTables.{table_in}
@@ -90,6 +91,7 @@ pub record LeavesParts {D : Type 0} (told : D → Told) (old new : Parts D) (n :
   pub dropped : new.dropped ≡ old.dropped
   pub entries : length new.journal.entries ≤ MAX_ENTRIES
   pub none_held : locks_held (Some hand) ≡ 0
+  pub no_right : right_held old.pages.layout (Some hand) ≡ None
   pub promised : new.journal.promised + share_of (Some hand) (transaction_of old.transactions.opens n) ≡ old.journal.promised + share_of None (transaction_of new.transactions.opens n)
   pub opens : (m : ℕ) → m ≢ n → transaction_of new.transactions.opens m ≡ transaction_of old.transactions.opens m
 
@@ -107,6 +109,7 @@ module _ {D : Type 0} (told : D → Told) (changes : HandChanges) (old new : Par
     in_hand = tt;
     limit = ap (λ (l : LockState). l.limit) left.locks ∙ was.limit;
     own = subst (λ (l : LockState). locks_of l n ≤ 0) (sym left.locks) (subst (λ (count : ℕ). locks_of old.locks n ≤ count) left.none_held was.own);
+    held = λ table holds. absurd (none-some table (sym left.no_right ∙ was.held table (ap (λ (r : List (Option ℕ)). right_of r table) (sym left.rights) ∙ holds)));
     rights = ap length left.rights ∙ was.rights ∙ ap (λ (layout : DiskLayout). length layout.schema.tables) (sym left.leaves.layout);
     entries = left.entries;
     share = less_share new.journal.promised old.journal.promised _ _ left.promised was.share;
@@ -121,6 +124,7 @@ module _ {D : Type 0} (told : D → Told) (changes : HandChanges) (old new : Par
     transactions = left.opens;
     locks = λ m apart. ap (λ (l : LockState). locks_of l m) left.locks;
     dropped = λ m apart. ap (λ (l : List (List Dropped)). dropped_in l m) left.dropped;
+    rights = λ m table apart holds. ap (λ (r : List (Option ℕ)). right_of r table) (sym left.rights) ∙ holds;
     promised = ap (λ (h : Option Hand). new.journal.promised + share_of h (transaction_of old.transactions.opens n)) is ∙ left.promised
         ∙ ap (λ (h : Option Hand). old.journal.promised + share_of h (transaction_of new.transactions.opens n)) (sym (changes hands n hand None is).own);
   }

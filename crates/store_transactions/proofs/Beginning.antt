@@ -281,6 +281,7 @@ module _ {D : Type 0} (told : D → Told) (laws : BeginLaws) (old : Parts D) (n 
         dropped = refl;
         entries = more;
         none_held = refl;
+        no_right = refl;
         promised = (λ i. j.promised + (3 + open_share (idle i))) ∙ begin_promised j.promised old.journal.promised entered ∙ (λ i. old.journal.promised + (0 + open_share (sym now_open i)));
         opens = others_same told laws old new n t numbers so;
       })
@@ -302,6 +303,7 @@ module _ {D : Type 0} (told : D → Told) (laws : BeginLaws) (old : Parts D) (n 
         dropped = refl;
         entries = room;
         none_held = refl;
+        no_right = refl;
         promised = (λ i. j.promised + (3 + open_share (idle i))) ∙ refused_promised j.promised old.journal.promised released ∙ (λ i. old.journal.promised + (0 + open_share (sym idle i)));
         opens = λ m apart. refl;
       })

@@ -1,7 +1,7 @@
 -- a step of a summarise, in a place that the store shows
 use Rattle.std.proofs.Common.{◌≡◌, ◌≢◌, ◌⊎◌, inl, inr, ℕ, ◌+◌, ◌/◌, ◌<◌, Bool, List, [], length, Option, None, Some, refl, sym, ap, subst, ◌∙◌}
 use Rattle.std.specs.Prelude.{slice_get}
-use Rattle.std.proofs.lemmas.Option.{slice_get_within}
+use Rattle.std.proofs.lemmas.Option.{none-some, same_Some}
 use Rattle.disk_trait.specs.Told.{Told}
 use Rattle.block_model.specs.declared.reply.Point.{Point}
 use Rattle.block_model.specs.declared.reply.Reply.TheVariants as replies
@@ -44,6 +44,7 @@ use Rattle.line_texts.specs.Beginnings.{Begins, StandsAt}
 use Rattle.line_texts.specs.Place.{Place}
 use Rattle.store_parts.specs.declared.hand.Hand.TheVariants as hands
 use Rattle.store_parts.specs.Hands.{block_of}
+use Rattle.store_parts.specs.HandFits.{right_at}
 use Rattle.store_parts.specs.ShowsPlace.{IsLeftToMark, IsPlaceOf}
 use Rattle.store_parts.specs.StoreStates.{ShownStore, hand_in}
 use Rattle.store_upkeep.proofs.SummariseLocks.{OthersStay, same_stays, set_stays, set_there}
@@ -60,6 +61,11 @@ of_any_copy : (copy : Option OpenTransaction) (a : SummariseState) → IsLeftToM
 of_any_copy None a = tt
 of_any_copy (Some x) a = tt
 
+right_of_its : (own table : ℕ) (standing : Standing) → right_at own standing ≡ Some table → table ≡ own
+right_of_its own table standings.Begins has = absurd (none-some table has)
+right_of_its own table standings.AtRange has = sym (same_Some own table has)
+right_of_its own table standings.Done has = absurd (none-some table has)
+
 pub is_summarise : (layout : DiskLayout) (a : SummariseState) → a.index < length layout.schema.indexes → (index_at layout a.index).table < length layout.schema.tables
     → IsUpkeep layout (hands.Summarises a) a.index (λ at. task_of layout at a) (count_of a)
 is_summarise layout a within below = record {
@@ -75,6 +81,9 @@ is_summarise layout a within below = record {
   told = refl;
   own = λ transaction copy. of_any_copy copy a;
   in_table = refl;
+  no_insert = tt;
+  asked = λ asked. tt;
+  right = λ table has. right_of_its (index_at layout a.index).table table a.standing has;
   task_is = λ table blocks tx stored transaction now is. is;
   is_task = λ table blocks tx stored transaction now is. is;
 }
@@ -146,22 +155,22 @@ HasIt (did.Moved point) = Unit {0}
 HasIt (did.Finished point) = Unit {0}
 HasIt answer = ⊥
 
-pub right_left : (table s : ℕ) (rights righted : List (Option ℕ)) (standing : Standing) (answer : Did) → RightAnswers table s rights righted standing answer → OthersStay table rights righted
-right_left table s rights righted standings.Begins (did.Moved point) right = set_stays table (Some s) rights righted right.1
-right_left table s rights righted standings.Begins (did.Finished point) right = set_stays table (Some s) rights righted right.1
-right_left table s rights righted standings.Begins (did.Blocked held) right = set_stays table (Some s) rights righted right.1
-right_left table s rights righted standings.Begins (did.NoRight by) right = same_stays table rights righted right.2
-right_left table s rights righted standings.AtRange answer right = same_stays table rights righted right
-right_left table s rights righted standings.Done answer right = same_stays table rights righted right
+pub right_left : (table s : ℕ) (rights righted : List (Option ℕ)) (standing : Standing) (answer : Did) → table < length rights → RightAnswers table s rights righted standing answer → OthersStay table s rights righted
+right_left own s rights righted standings.Begins (did.Moved point) below right = set_stays own s (Some s) rights righted below (λ m is. sym (same_Some s m is)) right.1
+right_left own s rights righted standings.Begins (did.Finished point) below right = set_stays own s (Some s) rights righted below (λ m is. sym (same_Some s m is)) right.1
+right_left own s rights righted standings.Begins (did.Blocked held) below right = set_stays own s (Some s) rights righted below (λ m is. sym (same_Some s m is)) right.1
+right_left own s rights righted standings.Begins (did.NoRight by) below right = same_stays own s rights righted right.2
+right_left own s rights righted standings.AtRange answer below right = same_stays own s rights righted right
+right_left own s rights righted standings.Done answer below right = same_stays own s rights righted right
 
 pub right_taken : (table s : ℕ) (rights righted : List (Option ℕ)) (standing : Standing) (answer : Did) → RightAnswers table s rights righted standing answer → HasIt answer → table < length rights
     → (standing ≡ standings.AtRange → right_of rights table ≡ Some s) → standing ≢ standings.Done → right_of righted table ≡ Some s
-right_taken table s rights righted standings.Begins (did.Moved point) right has below held left = set_there table (Some s) rights righted below right.1
-right_taken table s rights righted standings.Begins (did.Finished point) right has below held left = set_there table (Some s) rights righted below right.1
-right_taken table s rights righted standings.Begins (did.Blocked h) right has below held left = absurd has
-right_taken table s rights righted standings.Begins (did.NoRight by) right has below held left = absurd has
-right_taken table s rights righted standings.AtRange answer right has below held left = ap (λ (l : List (Option ℕ)). right_of l table) right ∙ held refl
-right_taken table s rights righted standings.Done answer right has below held left = absurd (left refl)
+right_taken own s rights righted standings.Begins (did.Moved point) right has below held left = set_there own (Some s) rights righted below right.1
+right_taken own s rights righted standings.Begins (did.Finished point) right has below held left = set_there own (Some s) rights righted below right.1
+right_taken own s rights righted standings.Begins (did.Blocked h) right has below held left = absurd has
+right_taken own s rights righted standings.Begins (did.NoRight by) right has below held left = absurd has
+right_taken own s rights righted standings.AtRange answer right has below held left = ap (λ (l : List (Option ℕ)). right_of l own) right ∙ held refl
+right_taken own s rights righted standings.Done answer right has below held left = absurd (left refl)
 
 -- ---- its step in the place
 

@@ -28,6 +28,7 @@ use Rattle.line_texts.specs.Place.{Hand as HandAt, Place, database_at, new_hand}
 use Rattle.line_texts.specs.StatementSteps.{Steps, StepsTo, Waits, what_of}
 use Rattle.store_parts.specs.declared.hand.Hand.{Hand}
 use Rattle.store_parts.specs.Hands.{HandShows, statement_of}
+use Rattle.store_parts.specs.HandsAsk.{HandAsked}
 use Rattle.store_parts.specs.HandsInTables.{IsTaskOf}
 use Rattle.store_parts.specs.ShowsPlace.{IsOfTransaction, IsPlaceOf}
 use Rattle.store_parts.specs.StoreStates.{ShownStore, hand_in}
@@ -76,6 +77,9 @@ module _ (old new : ShownStore) (n : ℕ) (was next : Hand) (index : ℕ) (task 
     locks = so.locks;
     rights = so.rights;
     entries = so.left.entries;
+    queue = so.left.queue;
+    dropped = so.left.dropped;
+    asked = subst (λ (h : Option Hand). HandAsked old.layout h (p.accounts n).dropped) (sym so.now) (so.stays.asked (p.accounts n).dropped);
     hand = leads_so old new n was index task count is so.left p shown alike (p.hands n) (p.accounts n) next_shows own_then;
     tasks = tasks_then;
   })
