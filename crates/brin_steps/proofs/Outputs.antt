@@ -144,15 +144,3 @@ complete status layout l l' k k' F G o read write f g fits room =
     let r = o.ran in
     subst (λ n. (n ≡ 0) ⊎ (n ≡ 7)) (sym o.status_is)
     (ended o.end (length r.0) F G (JournalWasFull layout l l') (λ e. (r.7.spent e).0) (fits_less l l' r.0 fits r.5) (filled status layout l l' k k' o) (λ e. read (o.status_is ∙ e)) (λ e. write (o.status_is ∙ e)) f g (room l'))
-
-no_usage : (end : RunEnd) → exit_status end ≢ 2
-no_usage (Ok u) e = omega arith
-no_usage (Err faults.Read) e = omega arith
-no_usage (Err faults.Write) e = omega arith
-no_usage (Err (faults.Unanswered Memory)) e = omega arith
-no_usage (Err faults.Spent) e = omega arith
-no_usage (Err (faults.Unanswered Full)) e = omega arith
-
--- a run has another status than words that ask for nothing
-pub not_usage : (status : ℕ) (layout : DiskLayout) (l l' k k' : Option (List ℕ)) → IsScriptOutput status layout l l' k k' → status ≢ 2
-not_usage status layout l l' k k' r h = no_usage r.end (sym r.status_is ∙ h)

@@ -23,11 +23,10 @@ use Rattle.store_parts.specs.Hands.{HandShows}
 use Rattle.store_parts.specs.ShowsPlace.{ShowsPlace}
 use Rattle.store_parts.specs.StepIs.{StepIs}
 use Rattle.store_parts.specs.StoreStates.{StoreState, hand_at}
-use Rattle.session_steps.specs.Sessions.{IsInHandThen}
 use Rattle.brin_steps.specs.declared.orders.Answer.{Answer}
 use Rattle.brin_steps.specs.declared.orders.Answer.TheVariants as answers
 use Rattle.brin_steps.specs.Leading.{PlacesLead}
-use Rattle.brin_steps.specs.Orders.{DoesSo, FinishesSo, IsCutShort, IsHalted, IsInHandStill, IsNotMade, StepsSo, step_answer}
+use Rattle.brin_steps.specs.Orders.{DoesSo, FinishesSo, IsCutShort, IsHalted, IsNotMade, StepsSo, step_answer}
 use Rattle.brin_steps.proofs.Leading.{led_as}
 
 -- ---- one step
@@ -39,11 +38,6 @@ step_told n names (steps.Blocked what by) p q same is = subst (λ (l : List (Lis
 
 pub not_made : (n entries : ℕ) (p q : Place) → StepIs p n (Err (stops.Spent entries)) q → IsNotMade n p q
 not_made n entries p q is = (subst (λ (r : Place). LacksRoom r n) (sym is.2) is.0, is.2)
-
-pub still_in_hand : (names : List (List ℕ)) (step : Step) (hand : Option Hand) → IsInHandThen (Ok step) hand → IsInHandStill (step_answer names step) hand
-still_in_hand names (steps.Moved point) hand there = there
-still_in_hand names (steps.Done reply) hand there = tt
-still_in_hand names (steps.Blocked what by) hand there = tt
 
 -- ---- all steps
 
