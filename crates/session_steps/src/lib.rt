@@ -11,7 +11,6 @@ mod sessions;
 mod steps;
 mod store;
 mod submitting;
-mod waiting;
 
 pub use faults::SessionFault;
 pub use store::Store;

@@ -8,12 +8,12 @@ ghost use Rattle.store_parts.specs.StepIs.{answer_of, hand_after};
 ghost use Rattle.store_parts.specs.Stepping.{IsFit, IsShown};
 ghost use Rattle.store_parts.specs.UndoneLaws.{StepsSo};
 
-use crate::waiting::{begin_delete, begin_select, delete_on, select_on};
 use brin_insert::Insert;
 use disk_trait::Disk;
 use store_inserts::{insert_on, put_row};
 use store_marks::mark;
 use store_parts::{Hand, Parts, Step, StoreFault, Stepped};
+use store_scans::{begin_delete, begin_select, delete_on, select_on};
 use store_transactions::{begin, commit, roll_back};
 use store_upkeep::{desummarise_on, explain_on, summarise_on};
 
