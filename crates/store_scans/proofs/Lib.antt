@@ -21,3 +21,4 @@ pub mod Marked
 pub mod Machine
 pub mod Finished
 pub mod Mays
+pub mod Begun
