@@ -1,19 +1,13 @@
 -- a step of a scan that goes on
-use Rattle.std.proofs.Common.{◌≡◌, ◌≢◌, ℕ, ◌≤◌, Bool, List, [], length, Option, None, Some, All, refl, sym, ap, subst, ◌∙◌}
+use Rattle.std.proofs.Common.{◌≡◌, ◌≢◌, ℕ, ◌≤◌, Bool, List, length, Option, Some, All, refl, sym, ap, subst, ◌∙◌}
 use Rattle.std.specs.FinMap as finite
 use Rattle.std.proofs.lemmas.Option.{same_Some}
-use Rattle.block_model.specs.declared.place.Spot.{Spot}
 use Rattle.block_model.specs.declared.reply.Point.{Point}
-use Rattle.block_model.specs.declared.reply.Point.TheVariants as points
 use Rattle.block_model.specs.declared.request.Entry.{Entry}
 use Rattle.block_model.specs.declared.row.Query.{Query}
-use Rattle.block_model.specs.declared.row.Row.{Row}
 use Rattle.store_layout.specs.DiskLayout.{DiskLayout}
 use Rattle.page_layout.specs.PageContents.{Slot}
-use Rattle.page_layout.specs.RowBytes.{StoredRow}
-use Rattle.page_locks.specs.declared.did.Did.{Did}
 use Rattle.page_locks.specs.declared.did.Did.TheVariants as did
-use Rattle.heap_rows.specs.RowPlaces.{slot_at}
 use Rattle.snapshot_core.specs.declared.statuses.Status.{Status}
 use Rattle.statements.specs.declared.limits.TheConstants.{MAX_ENTRIES}
 use Rattle.row_versions.specs.declared.sessions.Open.{Open}
@@ -28,9 +22,8 @@ use Rattle.table_coverage.specs.TableSteps.{Stays}
 use Rattle.table_coverage.proofs.Views.{pick_same}
 use Rattle.brin_scan.specs.declared.stage.Stage.{Stage}
 use Rattle.brin_scan.specs.declared.stage.Stage.TheVariants as stages
-use Rattle.brin_scan.specs.Finds.{FindHand, FindSteps, SeesThere, Sight, scanning, sees_stored}
+use Rattle.brin_scan.specs.Finds.{FindHand, scanning}
 use Rattle.brin_scan.specs.LastStatuses.{Remembers}
-use Rattle.brin_scan.specs.ScanAnswers.{ScanStepped}
 use Rattle.brin_scan.specs.ScanHands.{ScanHand}
 use Rattle.brin_scan.specs.ScanSteps.{ScanGoes, account_at, point_at}
 use Rattle.brin_scan.specs.TableScans.{Beside, table_scan, task_of}

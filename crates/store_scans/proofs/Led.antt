@@ -1,8 +1,7 @@
 -- the place that a store shows behind a step of a scan that is made
-use Rattle.std.proofs.Common.{◌≡◌, ◌≢◌, ℕ, Bool, List, Option, None, Some, refl, sym, ap, subst, ◌∙◌}
+use Rattle.std.proofs.Common.{◌≡◌, ℕ, List, Option, Some, sym, ap, subst, ◌∙◌}
 use Rattle.std.specs.FinMap as finite
 use Rattle.block_model.specs.declared.request.Entry.{Entry}
-use Rattle.block_model.specs.DatabaseState.{OpenTransaction}
 use Rattle.block_model.specs.SerialRun.{IsLegal, serial_run}
 use Rattle.page_layout.specs.PageContents.{Slot}
 use Rattle.page_locks.specs.RightHolders.{right_of}

@@ -1,24 +1,19 @@
 -- a look for which memory is short, in a place that the store shows
-use Rattle.std.proofs.Common.{◌≡◌, ◌≢◌, ◌⊎◌, inl, inr, ℕ, ◌+◌, ◌<◌, ◌≤◌, ◌==◌, Bool, true, false, not, ◌&&◌, List, [], ◌∷◌, ◌++◌, length, length-append, Option, None, Some, refl, sym, ap, subst, ◌∙◌, arith}
-use Rattle.std.specs.Prelude.{IsTrue}
+use Rattle.std.proofs.Common.{◌≡◌, ◌≢◌, inl, inr, ℕ, ◌≤◌, ◌==◌, Bool, not, ◌&&◌, List, [], ◌∷◌, ◌++◌, length, Option, None, Some, refl, sym, ap, subst, ◌∙◌}
 use Rattle.std.specs.FinMap as finite
-use Rattle.std.proofs.lemmas.Bool.{true≢false}
 use Rattle.std.proofs.lemmas.Option.{none-some}
 use Rattle.block_model.specs.declared.reply.Refusal.TheVariants as refusals
 use Rattle.block_model.specs.declared.reply.Reply.TheVariants as replies
 use Rattle.block_model.specs.declared.request.Entry.{Entry}
-use Rattle.block_model.specs.declared.request.Request.TheVariants as requests
 use Rattle.block_model.specs.declared.request.Tag.TheVariants as tags
 use Rattle.block_model.specs.declared.row.Query.{Query}
 use Rattle.block_model.specs.DatabaseState.{DatabaseState, OpenTransaction}
 use Rattle.block_model.specs.RequestEffect.{IsLegalRequest, NoMemory, after_failure, after_request}
-use Rattle.store_layout.specs.DiskLayout.{DiskLayout}
 use Rattle.page_locks.specs.RightHolders.{right_of}
 use Rattle.page_store.specs.PageMap.{PageMap, page_at}
 use Rattle.heap_rows.specs.HeapBlocks.{HasBlocks}
 use Rattle.index_steps.specs.ShownRows.{shown_by}
 use Rattle.statements.specs.declared.limits.TheConstants.{MAX_ENTRIES}
-use Rattle.statements.specs.StatementRequests.{tagged_entry}
 use Rattle.snapshot_core.specs.declared.statuses.Status.{Status}
 use Rattle.row_versions.specs.declared.sessions.Open.{Open}
 use Rattle.row_versions.specs.StoredVersions.{transaction_of}
@@ -29,43 +24,33 @@ use Rattle.transactions.specs.ShowsDatabase.{DoesRequest, ShowsDatabase}
 use Rattle.transactions.specs.TransactionsState.{TransactionsState, with_failed}
 use Rattle.table_coverage.specs.Accounts.{Account}
 use Rattle.table_coverage.specs.Machines.{Unseen, table_state, task_turned}
-use Rattle.table_coverage.specs.Refusals.{LacksMemory}
-use Rattle.table_coverage.specs.Table.{Resting, Scans, TableScan, TableState, Task}
+use Rattle.table_coverage.specs.Table.{Resting, TableState, Task}
 use Rattle.table_coverage.proofs.Views.{pick_other, pick_same}
-use Rattle.brin_scan.specs.declared.stage.Stage.{Stage}
 use Rattle.brin_scan.specs.declared.stage.Stage.TheVariants as stages
-use Rattle.brin_scan.specs.Finds.{FindHand, scanning}
-use Rattle.brin_scan.specs.TableScans.{table_scan}
-use Rattle.line_texts.specs.Beginnings.{IsAtRest}
+use Rattle.brin_scan.specs.Finds.{FindHand}
 use Rattle.line_texts.specs.Place.{Hand as HandAt, Place, database_at, new_hand}
-use Rattle.line_texts.specs.Requests.{refused_request}
-use Rattle.line_texts.specs.StatementSteps.{Ended, ForMemory, LacksRoom, Steps, StepsTo}
+use Rattle.line_texts.specs.StatementSteps.{Ended, Steps, StepsTo}
 use Rattle.store_parts.specs.declared.hand.Hand.{Hand}
 use Rattle.store_parts.specs.Hands.{HandShows}
 use Rattle.store_parts.specs.HandsInTables.{IsTaskOf, table_in}
 use Rattle.store_parts.specs.LeadLaws.{HasInHand}
 use Rattle.store_parts.specs.Leaving.{CountsFew, LeadsTo, LeavesOthers, SameLocks, StepsAtOnce, StepsInTable}
-use Rattle.store_parts.specs.PlacesAfter.{TurnsIn, place_after, place_at_once, refusal_in}
+use Rattle.store_parts.specs.PlacesAfter.{place_after, place_at_once}
 use Rattle.store_parts.specs.RefusalLaws.{CountsNoMore, refused_in}
 use Rattle.store_parts.specs.ShowsPlace.{IsPlaceOf, ShowsTable}
 use Rattle.store_parts.specs.StoreStates.{ShownStore, hand_in}
 use Rattle.store_parts.proofs.Leads.{failure_counts_no_more, fewer_counts_few, nothing_leaves_slots, request_leads, same_sees_alike}
 use Rattle.store_parts.proofs.Places.{step_at_once_is_shown, table_step_is_shown}
-use Rattle.store_parts.proofs.Refusals.{scan_is_refused}
 use Rattle.store_parts.proofs.Requests.{look_is_legal}
-use Rattle.store_parts.proofs.Seeing.{task_elsewhere}
-use Rattle.store_parts.proofs.Steps.{lacks_memory, turn_is_refused}
 use Rattle.store_parts.proofs.Tables.{own_table_goes_on}
 use Rattle.store_scans.specs.declared.looking.Looking.{Looking}
 use Rattle.store_scans.specs.LookLaws.{LookLaws}
-use Rattle.store_scans.specs.Looks.{deletes_of, hand_before, statement_for}
-use Rattle.store_scans.proofs.GoesOn.{begun_task}
+use Rattle.store_scans.specs.Looks.{statement_for}
 use Rattle.store_scans.proofs.Led.{order_stays}
-use Rattle.store_scans.proofs.Standing.{LooksThere, account_is, in_hand, scans_at, shows}
+use Rattle.store_scans.proofs.Standing.{LooksThere, account_is, in_hand, shows}
 use Rattle.store_scans.proofs.Tells.{none_in_hand}
 use Rattle.store_scans.proofs.Turns.{copy}
-use Rattle.store_scans.proofs.Words.{first_in_none, in_table, looks, not_work, on_table, refused_is, takes_memory}
-
+use Rattle.store_scans.proofs.Words.{in_table}
 use Rattle.store_scans.proofs.Refusals.{begun_or_not, entries_then, first_step, later_step, none_before, refused_entry, turns}
 
 -- ---- the place then

@@ -1,7 +1,6 @@
 -- what a step of a scan promises, by what its calls ensure
-use Rattle.std.proofs.Common.{◌≡◌, ◌≢◌, inl, inr, ℕ, ◌+◌, ◌<◌, ◌≤◌, Bool, false, List, [], ◌∷◌, ◌++◌, length, length-append, Option, None, Some, All, refl, sym, ap, ◌∙◌, subst, arith}
+use Rattle.std.proofs.Common.{◌≡◌, ◌≢◌, ℕ, ◌+◌, ◌<◌, ◌≤◌, false, List, [], ◌∷◌, ◌++◌, length, length-append, Option, None, Some, All, refl, sym, ap, ◌∙◌, subst, arith}
 use Rattle.disk_trait.specs.Told.{Told}
-use Rattle.block_model.specs.declared.place.Spot.{Spot}
 use Rattle.block_model.specs.declared.reply.Point.{Point}
 use Rattle.block_model.specs.declared.reply.Refusal.TheVariants as refusals
 use Rattle.block_model.specs.declared.reply.Reply.{Reply}
@@ -46,7 +45,6 @@ use Rattle.store_parts.specs.declared.hand.Stepped.{Stepped}
 use Rattle.store_parts.specs.declared.hand.Stepped.TheVariants as stepped
 use Rattle.store_parts.specs.declared.parts.Parts.{Parts}
 use Rattle.store_parts.specs.HandFits.{FitsHand, locks_held}
-use Rattle.store_parts.specs.Hands.{statement_of}
 use Rattle.store_parts.specs.JournalState.{JournalState}
 use Rattle.store_parts.specs.Leaving.{LeavesOthers}
 use Rattle.store_parts.specs.Shares.{hand_share, share_of}
@@ -73,7 +71,7 @@ use Rattle.store_scans.proofs.Refused.{RefusedLeft, scan_refused}
 use Rattle.store_scans.proofs.Standing.{LooksThere, kept, scans_at, shows, sight}
 use Rattle.store_scans.proofs.Stands.{IsThere, all_stand}
 use Rattle.store_scans.proofs.Tells.{scan_tells}
-use Rattle.store_scans.proofs.Words.{FitsLook, first_holds, first_statement, fits_first, fits_look, fits_scan, first_shares, holds_none, scan_holds, scan_share, scan_shares, scan_statement, share_is, statement_is}
+use Rattle.store_scans.proofs.Words.{FitsLook, first_holds, first_statement, fits_first, fits_look, fits_scan, holds_none, scan_holds, scan_statement, statement_is}
 
 -- in a table that is kept a scan finds no damage
 abbrev pub NotDamaged : Type 0

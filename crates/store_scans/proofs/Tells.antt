@@ -1,17 +1,15 @@
 -- the last step of a scan behind which its statement replies: its look is entered
-use Rattle.std.proofs.Common.{◌≡◌, ◌⊎◌, inl, inr, ℕ, ◌+◌, ◌≤◌, Bool, false, List, [], ◌∷◌, ◌++◌, length, Option, None, Some, All, refl, sym, ap, subst, ◌∙◌}
-use Rattle.std.specs.FinMap as finite
+use Rattle.std.proofs.Common.{◌≡◌, ◌⊎◌, inl, inr, ℕ, ◌≤◌, Bool, false, List, [], ◌∷◌, ◌++◌, length, Option, None, Some, All, refl, sym, ap, subst, ◌∙◌}
 use Rattle.std.proofs.lemmas.Option.{none-some}
 use Rattle.block_model.specs.declared.place.Spot.{Spot}
 use Rattle.block_model.specs.declared.reply.Point.{Point}
-use Rattle.block_model.specs.declared.reply.Point.TheVariants as points
 use Rattle.block_model.specs.declared.reply.Reply.{Reply}
 use Rattle.block_model.specs.declared.request.Entry.{Entry}
 use Rattle.block_model.specs.declared.request.Tag.TheVariants as tags
 use Rattle.block_model.specs.declared.row.Query.{Query}
 use Rattle.block_model.specs.declared.row.Row.{Row}
 use Rattle.block_model.specs.DatabaseState.{DatabaseState}
-use Rattle.block_model.specs.RequestEffect.{Answer, Found, IsLegalRequest, after_request, effect, reply_to, rows_found}
+use Rattle.block_model.specs.RequestEffect.{Answer, Found, IsLegalRequest, after_request, effect, rows_found}
 use Rattle.store_layout.specs.DiskLayout.{DiskLayout}
 use Rattle.page_layout.specs.PageContents.{Slot}
 use Rattle.page_store.specs.PageMap.{PageMap}
@@ -26,8 +24,8 @@ use Rattle.transactions.specs.ShowsDatabase.{ShowsDatabase}
 use Rattle.transactions.specs.TransactionsState.{TransactionsState}
 use Rattle.table_coverage.specs.Accounts.{Account, no_account}
 use Rattle.table_coverage.specs.Machines.{table_state, task_turned}
-use Rattle.table_coverage.specs.Table.{Resting, Scans, TableScan, TableState, Task}
-use Rattle.table_coverage.specs.TableSteps.{HasNothingToMark, Scanned}
+use Rattle.table_coverage.specs.Table.{Resting, TableState, Task}
+use Rattle.table_coverage.specs.TableSteps.{Scanned}
 use Rattle.table_coverage.proofs.Views.{pick_same}
 use Rattle.brin_scan.specs.Finds as scans
 use Rattle.brin_scan.specs.Finds.{FindHand, is_found}
@@ -55,7 +53,7 @@ use Rattle.store_scans.specs.Looks.{deletes_of, statement_for}
 use Rattle.store_scans.proofs.Found.{goes, now, read, rows_are, scan_then}
 use Rattle.store_scans.proofs.Stepped.{MakesStep}
 use Rattle.store_scans.proofs.Led.{IsInHand, ScanLeft, order_stays, place_shown}
-use Rattle.store_scans.proofs.Standing.{LooksThere, account_is, in_hand, pages_show, scans_at, shows}
+use Rattle.store_scans.proofs.Standing.{LooksThere, account_is, in_hand, pages_show, shows}
 use Rattle.store_scans.proofs.Stands.{IsThere}
 use Rattle.store_scans.proofs.Turns.{copy, reads, tells_nothing, turns_there}
 use Rattle.store_scans.proofs.Words.{next_is}
