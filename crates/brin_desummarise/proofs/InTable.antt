@@ -18,7 +18,7 @@ use Rattle.index_steps.specs.ShownTable.{indexes_of}
 use Rattle.brin_desummarise.specs.declared.stage.Stage.{Stage}
 use Rattle.brin_desummarise.specs.declared.stage.Stage.TheVariants as stages
 use Rattle.brin_desummarise.specs.Desummarises.{Begins, DesummariseDoes, DesummariseState, IsAtWork, IsDone, IsWaitingAt, LacksRight, StageDoes, StepsAt, StoreStep, TakesRight, Works, count_at, phase_at, range_of, state_of, table_of}
-use Rattle.brin_desummarise.specs.TableSteps.{DoesInTable, HasCounted, LeavesTheRest, account_by, lock_turned, shown_after, shown_before, task_at}
+use Rattle.brin_desummarise.specs.TableSteps.{DoesInTable, HasCounted, IsFirstWithin, LeavesTheRest, account_by, first_task, lock_turned, shown_after, shown_before, task_at}
 use Rattle.brin_desummarise.proofs.Settling.{comes_to_range, pick_other, pick_same, replies, stays_there}
 use Rattle.brin_desummarise.proofs.Shown.{shows_here}
 use Rattle.brin_desummarise.proofs.Tables.{IndexHere, MaintainCompletes, MaintainGoes, MaintainKnows, OtherIndexes, ends_there, goes_there}
@@ -101,6 +101,15 @@ module _ (s at range : ℕ) (shown : ShownTable) (below : at < shown.indexes) (u
     adds = λ x y is. is;
   }
 
+-- a step at its range isn't its first one
+not_first : (first within : Task) (stage : Stage) → IsAtWork stage → IsFirstWithin stage first within
+not_first first within stages.Right work = absurd work
+not_first first within stages.Map work = tt
+not_first first within (stages.Clear x) work = tt
+not_first first within (stages.Drop x) work = tt
+not_first first within stages.Lacked work = absurd work
+not_first first within stages.Cleared work = absurd work
+
 module _ (goes : MaintainGoes) (completes : MaintainCompletes) (knows : MaintainKnows) (here : IndexHere) (others : OtherIndexes)
     (step : StoreStep) (at n block : ℕ) (there : slice_get (indexes_of step.layout (table_of step.layout n)) at ≡ Some n) where
   abbrev s : ℕ
@@ -133,10 +142,13 @@ module _ (goes : MaintainGoes) (completes : MaintainCompletes) (knows : Maintain
   begins_quietly right = (
     0,
     refl,
-    λ u rests lock kept. (
-      Considers (Desummarising range) at range,
-      takes s at range old (slice_get_within (indexes_of step.layout table) at n there) u rests kept (λ m is. right.free m (sym lock ∙ is)),
-      comes_to_range s old u (Some s) at range,
+    (
+      (λ u rests lock kept. (
+        Considers (Desummarising range) at range,
+        takes s at range old (slice_get_within (indexes_of step.layout table) at n there) u rests kept (λ m is. right.free m (sym lock ∙ is)),
+        comes_to_range s old u (Some s) at range,
+      )),
+      (λ u rests lock kept. refl),
     ),
   )
 
@@ -149,26 +161,32 @@ module _ (goes : MaintainGoes) (completes : MaintainCompletes) (knows : Maintain
     works before after (did.Moved point) work steps = (
       steps.0.0,
       has_counted before after steps.0.0 work steps.0.2,
-      λ u task lock kept.
-          let at_range : u.task s ≡ Maintains (Desummarising range) at range (phase_at before) = task ∙ task_is at range before work in (
-            Maintains (Desummarising range) at range (phase_at after),
-            subst (λ (account : Account → Account). DoesAt s (table_state old u) (table_state new (lock_turned (Some s) (task_turned s (Maintains (Desummarising range) at range (phase_at after)) u))) point account) (sym (account_is before steps.0.0 work))
-                (goes_there goes completes knows here others step n range at there before u at_range kept rest after point steps.0.0 steps.0.1 steps.1),
-            subst (λ (t : Task). Settles s (table_state new (lock_turned (Some s) (task_turned s (Maintains (Desummarising range) at range (phase_at after)) u))) (table_state new (lock_turned (Some s) (task_turned s t u)))) (sym (task_is at range after steps.1))
-                (stays_there s new u (Some s) at range (phase_at after)),
-          ),
+      (
+        (λ u task lock kept.
+            let at_range : u.task s ≡ Maintains (Desummarising range) at range (phase_at before) = task ∙ task_is at range before work in (
+              Maintains (Desummarising range) at range (phase_at after),
+              subst (λ (account : Account → Account). DoesAt s (table_state old u) (table_state new (lock_turned (Some s) (task_turned s (Maintains (Desummarising range) at range (phase_at after)) u))) point account) (sym (account_is before steps.0.0 work))
+                  (goes_there goes completes knows here others step n range at there before u at_range kept rest after point steps.0.0 steps.0.1 steps.1),
+              subst (λ (t : Task). Settles s (table_state new (lock_turned (Some s) (task_turned s (Maintains (Desummarising range) at range (phase_at after)) u))) (table_state new (lock_turned (Some s) (task_turned s t u)))) (sym (task_is at range after steps.1))
+                  (stays_there s new u (Some s) at range (phase_at after)),
+            )),
+        (λ u task lock kept. not_first (first_task step.layout at (state_of n block before)) _ before work),
+      ),
     )
     works before after (did.Finished point) work steps = (
       steps.0.0,
       has_counted before after steps.0.0 work steps.0.2,
-      λ u task lock kept.
-          let at_range : u.task s ≡ Maintains (Desummarising range) at range (phase_at before) = task ∙ task_is at range before work in (
-            Considers (Desummarising range) at (suc range),
-            subst (λ (account : Account → Account). DoesAt s (table_state old u) (table_state new (lock_turned (Some s) (task_turned s (Considers (Desummarising range) at (suc range)) u))) point account) (sym (account_is before steps.0.0 work))
-                (ends_there goes completes knows here others step n range at there before u at_range kept rest after point steps.0.0 steps.0.1 steps.1),
-            subst (λ (t : Task). Settles s (table_state new (lock_turned (Some s) (task_turned s (Considers (Desummarising range) at (suc range)) u))) (table_state new (lock_turned None (task_turned s t u)))) (sym (task_rests at range after steps.1))
-                (replies s new u (Some s) at range),
-          ),
+      (
+        (λ u task lock kept.
+            let at_range : u.task s ≡ Maintains (Desummarising range) at range (phase_at before) = task ∙ task_is at range before work in (
+              Considers (Desummarising range) at (suc range),
+              subst (λ (account : Account → Account). DoesAt s (table_state old u) (table_state new (lock_turned (Some s) (task_turned s (Considers (Desummarising range) at (suc range)) u))) point account) (sym (account_is before steps.0.0 work))
+                  (ends_there goes completes knows here others step n range at there before u at_range kept rest after point steps.0.0 steps.0.1 steps.1),
+              subst (λ (t : Task). Settles s (table_state new (lock_turned (Some s) (task_turned s (Considers (Desummarising range) at (suc range)) u))) (table_state new (lock_turned None (task_turned s t u)))) (sym (task_rests at range after steps.1))
+                  (replies s new u (Some s) at range),
+            )),
+        (λ u task lock kept. not_first (first_task step.layout at (state_of n block before)) _ before work),
+      ),
     )
     works before after (did.Blocked held) work steps = (
       λ u task lock kept. is_blocked (table_state old u) s at range held.page.block before (steps.0 (index_view_at at (table_state old u)) (shows_here step.layout step.pages step.locks step.blocks n at there u)),

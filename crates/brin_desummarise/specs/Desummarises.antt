@@ -2,9 +2,11 @@
 use Rattle.std.specs.Prelude.{◌≡◌, ◌≢◌, ℕ, ◌+◌, ◌/◌, ◌<◌, List, length, slice_set, Option, Some}
 use Rattle.block_model.specs.declared.reply.Point.{Point}
 use Rattle.block_model.specs.declared.reply.Point.TheVariants as points
+use Rattle.disk_trait.specs.Told.{Told}
 use Rattle.store_layout.specs.DiskLayout.{DiskLayout}
 use Rattle.page_layout.specs.PageContents.{Slot}
-use Rattle.page_store.specs.PageMap.{PageMap}
+use Rattle.page_store.specs.Keeps.{Keeps}
+use Rattle.page_store.specs.PageMap.{PageMap, View}
 use Rattle.page_locks.specs.declared.did.Did.{Did}
 use Rattle.page_locks.specs.declared.did.Did.TheVariants as did
 use Rattle.page_locks.specs.LockHolders.{LockState}
@@ -200,6 +202,11 @@ abbrev pub RightAnswers : (table actor : ℕ) → (rights righted : List (Option
 RightAnswers table actor rights righted stages.Right (did.NoRight by) = (right_of rights table ≡ Some by) × (by ≢ actor) × (righted ≡ rights)
 RightAnswers table actor rights righted stages.Right answer = ((n : ℕ) → right_of rights table ≡ Some n → n ≡ actor) × (righted ≡ slice_set rights table (Some actor))
 RightAnswers table actor rights righted stage answer = righted ≡ rights
+
+-- of any disk, a step that lacks the summarise lock changes no page and no page lock
+abbrev pub StaysWithoutRight : {D : Type 0} → (D → Told) → (old new : View D) → (before after : LockState) → Did → Type 0
+StaysWithoutRight told old new before after (did.NoRight by) = (after ≡ before) × Keeps told old new
+StaysWithoutRight told old new before after answer = Unit {0}
 
 -- what is damaged where a step finds damage: the map names a tuple for the range that isn't one of it
 abbrev pub DamageAt : DiskLayout → PageMap → (index range : ℕ) → Stage → Type 0

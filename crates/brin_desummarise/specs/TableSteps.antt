@@ -9,7 +9,7 @@ use Rattle.page_locks.specs.RightHolders.{right_of}
 use Rattle.table_coverage.specs.Accounts.{Account, no_account}
 use Rattle.table_coverage.specs.InOneIndex.{DoesAt, with_ranges}
 use Rattle.table_coverage.specs.Machines.{ShownTable, Unseen, table_state, task_turned}
-use Rattle.table_coverage.specs.Table.{Desummarising, Maintains, Resting, Task}
+use Rattle.table_coverage.specs.Table.{Considers, Desummarising, Maintains, Resting, Task}
 use Rattle.table_coverage.specs.TableCovered.{IsTableKept}
 use Rattle.table_coverage.specs.TablePoints.{PageLock, SummariseLock, WaitedFor, waits_for}
 use Rattle.table_coverage.specs.TableSteps.{IsBlocked, Settles}
@@ -56,12 +56,27 @@ abbrev pub HasCounted : (before after : Stage) → (count : ℕ) → Type 0
 HasCounted stages.Right after count = count_at after ≡ 0
 HasCounted before after count = count_at after ≡ count_at before + count
 
--- A step that goes on, or replies, counts the range where it takes out its entry; one that waits tells for what.
+-- what its statement begins with, before it is judged where it goes on: the work at its range
+abbrev pub first_task : DiskLayout → (at : ℕ) → DesummariseState → Task
+first_task layout at a = Considers (Desummarising (range_of layout a)) at (range_of layout a)
+
+-- with its first step the session is at that, before it is judged where it goes on
+abbrev pub IsFirstWithin : Stage → (first within : Task) → Type 0
+IsFirstWithin stages.Right first within = within ≡ first
+IsFirstWithin stage first within = Unit {0}
+
+-- so is this step of the table, and its first one begins with that
+abbrev pub DesummariseGoes : (s : ℕ) → (old new : ShownTable) → (held held_then : Option ℕ) → (before after : Task) → Point → (Account → Account) → Stage → (first : Task) → Type 0
+DesummariseGoes s old new held held_then before after point account stage first = (goes : DesummariseGoesTo s old new held held_then before after point account)
+    × ((u : Unseen) (was : u.task s ≡ before) (lock : u.summarise_lock ≡ held) (kept : IsTableKept (table_state old u)) → IsFirstWithin stage first (goes u was lock kept).0)
+
+-- A step that goes on, or replies, counts the range where it takes out its entry, and the first one begins with its statement's work; one that
+-- waits tells for what.
 abbrev pub DesummariseDid : (s at : ℕ) → (old new : ShownTable) → (held : Option ℕ) → DiskLayout → (a b : DesummariseState) → Did → Type 0
 DesummariseDid s at old new held layout a b (did.Moved point) = (count : ℕ) × HasCounted a.stage b.stage count
-    × DesummariseGoesTo s old new held (Some s) (task_of layout at a) (task_of layout at b) point (account_by a.stage count)
+    × DesummariseGoes s old new held (Some s) (task_of layout at a) (task_of layout at b) point (account_by a.stage count) a.stage (first_task layout at a)
 DesummariseDid s at old new held layout a b (did.Finished point) = (count : ℕ) × HasCounted a.stage b.stage count
-    × DesummariseGoesTo s old new held None (task_of layout at a) (task_of layout at b) point (account_by a.stage count)
+    × DesummariseGoes s old new held None (task_of layout at a) (task_of layout at b) point (account_by a.stage count) a.stage (first_task layout at a)
 DesummariseDid s at old new held layout a b (did.Blocked waited) =
     DesummariseWaitsFor s old held (task_of layout at a) (PageLock at waited.page.block) × (b ≡ a)
 DesummariseDid s at old new held layout a b (did.NoRight by) =

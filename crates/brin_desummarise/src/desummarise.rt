@@ -12,7 +12,7 @@ ghost use Rattle.index_contents.specs.IndexChanges.{LeavesOthers};
 ghost use Rattle.index_order.specs.KeepsOrder.{KeepsOrder};
 ghost use Rattle.index_steps.specs.StepAnswers.{BlockedWell, IsOfStore};
 ghost use Rattle.index_steps.specs.SwapAnswers.{FaultNamesPageOf, LeavesLocks, MachineOutcome, TakesAtMost};
-ghost use Rattle.brin_desummarise.specs.Desummarises.{DamageIn, DesummariseDoes, GivesAt, IsDesummariseOf, IsLeft, RightAnswers, StandsAfter, count_at, held_at, step_of, table_of, taken_at};
+ghost use Rattle.brin_desummarise.specs.Desummarises.{DamageIn, DesummariseDoes, GivesAt, IsDesummariseOf, IsLeft, RightAnswers, StandsAfter, StaysWithoutRight, count_at, held_at, step_of, table_of, taken_at};
 
 use crate::indexes::blocks_a_range;
 use crate::stage::{Stage, count_at};
@@ -62,6 +62,13 @@ impl Desummarise {
         })
     }
 
+    /// The number of its index.
+    pub fn index(&self) -> u8
+        ensures { result ≡ self.now.index }
+    {
+        self.index
+    }
+
     /// One where its steps took an entry out of the map, else none.
     pub fn count(&self) -> u64
         ensures { result ≡ count_at self.now.stage }
@@ -91,6 +98,7 @@ impl Desummarise {
         ensures right { IfOk result (RightAnswers (table_of pages.old.layout self.old.index) actor rights.old rights.new self.old.stage) }
         ensures rights { OnErr result (rights.new ≡ rights.old) }
         ensures blocked { IfOk result (BlockedWell D.told self.old.index actor pages.old pages.new locks.old locks.new) }
+        ensures no_right { IfOk result (StaysWithoutRight D.told pages.old pages.new locks.old locks.new) }
         ensures of_store { IfErr result IsOfStore }
         ensures others { LeavesOthers D.told self.old.index pages.old pages.new }
         ensures order { KeepsOrder D.told self.old.index pages.old pages.new }

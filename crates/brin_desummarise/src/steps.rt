@@ -12,7 +12,7 @@ ghost use Rattle.index_order.specs.KeepsOrder.{KeepsOrder};
 ghost use Rattle.index_steps.specs.Readings.{IsMisnamed};
 ghost use Rattle.index_steps.specs.StepAnswers.{BlockedWell, IsOfStore, NeverBlocked};
 ghost use Rattle.index_steps.specs.SwapAnswers.{FaultNamesPageOf, LeavesLocks, MachineOutcome, TakesAtMost};
-ghost use Rattle.brin_desummarise.specs.Desummarises.{DamageAt, GivesAt, IsLeft, RightAnswers, StageDoes, StandsAfter, StepsAt, held_at, step_of, table_of, taken_at};
+ghost use Rattle.brin_desummarise.specs.Desummarises.{DamageAt, GivesAt, IsLeft, RightAnswers, StageDoes, StandsAfter, StaysWithoutRight, StepsAt, held_at, step_of, table_of, taken_at};
 
 use crate::indexes::table_of;
 use crate::stage::Stage;
@@ -46,6 +46,7 @@ pub(crate) fn step_in<D: Disk + Drop>(
     ensures right { IfOk result (λ o. RightAnswers (table_of pages.old.layout at.index) at.actor rights.old rights.new stage o.1) }
     ensures rights { OnErr result (rights.new ≡ rights.old) }
     ensures blocked { IfOk result (λ o. BlockedWell D.told at.index at.actor pages.old pages.new locks.old locks.new o.1) }
+    ensures no_right { IfOk result (λ o. StaysWithoutRight D.told pages.old pages.new locks.old locks.new o.1) }
     ensures of_store { IfErr result IsOfStore }
     ensures others { LeavesOthers D.told at.index pages.old pages.new }
     ensures order { KeepsOrder D.told at.index pages.old pages.new }
@@ -96,6 +97,7 @@ fn take_right<D: Disk + Drop>(
     ensures own { IfOk result (λ o. held_at o.0 ≡ 0) }
     ensures still { Survives D.told (λ passed. ⊥) pages.now pages.now }
     ensures never_blocked { IfOk result (λ o. NeverBlocked o.1) }
+    ensures no_right { IfOk result (λ o. (locks : LockState) → StaysWithoutRight D.told pages.now pages.now locks locks o.1) }
     ensures of_store { IfErr result IsOfStore }
     ensures at { IfErr result (FaultNamesPageOf pages.now.layout at.index) }
     ensures outcome { MachineOutcome D.told (Untold D.told pages.now) pages.now pages.now result }

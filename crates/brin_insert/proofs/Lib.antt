@@ -18,3 +18,4 @@ pub mod Outcomes
 pub mod OwnLocks
 pub mod Placed
 pub mod Ordered
+pub mod Asked

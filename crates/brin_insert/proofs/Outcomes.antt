@@ -1,8 +1,8 @@
 -- what a step leaves, and when each error comes, by what its call says
-use Rattle.std.proofs.Common.{◌≡◌, ℕ, ◌/◌, List, Option, Some, sym, ap, subst, ◌∙◌}
+use Rattle.std.proofs.Common.{◌≡◌, ℕ, ◌/◌, false, List, Option, Some, sym, ap, subst, ◌∙◌}
 use Rattle.std.specs.Prelude.{Err}
 use Rattle.block_model.specs.declared.place.Spot.{Spot}
-use Rattle.store_layout.specs.DiskLayout.{DiskLayout}
+use Rattle.store_layout.specs.DiskLayout.{DiskLayout, page_offset}
 use Rattle.disk_trait.specs.Told.{Told}
 use Rattle.page_layout.specs.PageContents.{Slot}
 use Rattle.page_store.specs.declared.faults.MachineFault.{MachineFault}
@@ -10,14 +10,16 @@ use Rattle.page_store.specs.declared.faults.MachineFault.TheVariants as faults
 use Rattle.page_store.specs.declared.faults.StoreError.{StoreError}
 use Rattle.page_store.specs.declared.faults.StoreError.TheVariants as errors
 use Rattle.page_store.specs.Keeps.{Tells}
-use Rattle.page_store.specs.Outcome.{Refused}
+use Rattle.page_store.specs.Outcome.{NamesPage, Refused}
 use Rattle.page_store.specs.PageMap.{View}
 use Rattle.page_locks.specs.declared.did.Did.{Did}
 use Rattle.page_locks.specs.LockHolders.{LockState}
 use Rattle.heap_rows.specs.HeapBlocks.{OfBlocks}
 use Rattle.table_coverage.specs.Table.{Inserts, Task}
 use Rattle.range_tuple.specs.TupleBytes.{tuple_bytes}
+use Rattle.coverage.specs.IndexView.{map_page_of}
 use Rattle.index_contents.specs.IndexContents.{relation_of}
+use Rattle.revmap.specs.MapEntries.{map_place}
 use Rattle.index_contents.specs.IndexChanges.{LeavesOthers}
 use Rattle.index_steps.specs.IndexTuples.{index_at, shape_of}
 use Rattle.index_steps.specs.SwapAnswers.{FaultNamesPageOf, MachineOutcome, SaysFullIn}
@@ -64,17 +66,24 @@ module _ {D : Type 0} (told : D → Told) (store : View D) (locks : LockState) (
       → IsInsertFull s insert.at (shown_by store.layout store.pages locks insert.row.table blocks)
       (Inserts x.block x.slot insert.row insert.at (on_index (shape_of store.layout hand.index) hand.stage insert.copied (tuple_bytes hand.widened))) number
 
-  pub index_full : FullInTable → (fault : MachineFault) → range ≡ x.block / (index_at store.layout hand.index).pages_per_range
+  pub index_full : insert.asking ≡ false → FullInTable → (fault : MachineFault) → range ≡ x.block / (index_at store.layout hand.index).pages_per_range
       → SaysFullIn store.layout hand.index (λ number. Tells told store → StepFull (shape_of store.layout hand.index) s range (insert_at store.layout store.pages locks hand.index hand.stage insert.copied hand.widened) number) fault
       → SaysInsertFull (relation_at store.layout insert) (λ number. OfBlocks told store insert.row.table (λ blocks. IsInsertFull s insert.at (shown_by store.layout store.pages locks insert.row.table blocks) (task_of store.layout insert) number)) fault
-  index_full lacks (faults.Full relation number) ranged says = (
+  index_full silent lacks (faults.Full relation number) ranged says = (
     says.0 ∙ sym (index_next store.layout insert x hand placed got),
     λ tells blocks has.
-        subst (λ (t : Task). IsInsertFull s insert.at (shown_by store.layout store.pages locks insert.row.table blocks) t number) (sym (task_is store.layout insert x hand placed got))
+        subst (λ (t : Task). IsInsertFull s insert.at (shown_by store.layout store.pages locks insert.row.table blocks) t number) (sym (task_is store.layout insert x hand placed got silent))
         (lacks blocks number (subst (λ (m : ℕ). StepFull (shape_of store.layout hand.index) s m (insert_at store.layout store.pages locks hand.index hand.stage insert.copied hand.widened) number) ranged (says.1 tells))),
   )
-  index_full lacks (faults.Store error) ranged says = tt
-  index_full lacks faults.Memory ranged says = tt
+  index_full silent lacks (faults.Store error) ranged says = tt
+  index_full silent lacks faults.Memory ranged says = tt
 
   pub index_others : (new : View D) → LeavesOthers told hand.index store new → LeavesOtherRelations told (relation_at store.layout insert) store new
   index_others new others = subst (λ (relation : ℕ). LeavesOtherRelations told relation store new) (sym (index_next store.layout insert x hand placed got)) (record { leaves = others.leaves; pages = others.pages })
+
+-- where it asks, damage is told by a page of the map
+pub map_names : (layout : DiskLayout) (relation index other range : ℕ) (error : StoreError) → relation ≡ relation_of layout index → other ≡ index → NamesPage layout (map_place layout other range) error → FaultNamesRelation layout relation (faults.Store error)
+map_names layout relation index other range errors.Disk same is names = tt
+map_names layout relation index other range (errors.Reopen count) same is names = tt
+map_names layout relation index other range (errors.Damaged at) same is names =
+    (map_page_of range, names ∙ ap (λ (n : ℕ). page_offset layout (record { relation = relation_of layout n; block = map_page_of range })) is ∙ ap (λ (r : ℕ). page_offset layout (record { relation = r; block = map_page_of range })) (sym same))

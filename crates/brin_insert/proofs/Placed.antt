@@ -7,7 +7,6 @@ use Rattle.heap_rows.specs.RowPlaces.{place_for}
 use Rattle.heap_rows.specs.RowPut.{IsSpotOf}
 use Rattle.block_model.specs.declared.reply.Point.{Point}
 use Rattle.page_locks.specs.declared.did.Did.{Did}
-use Rattle.page_locks.specs.declared.did.Did.TheVariants as did
 use Rattle.brin_insert.specs.InsertAnswers.{StandsPlaced, TakesFirstPlace, TakesPlaceWithin, WaitsForNoRow}
 use Rattle.brin_insert.specs.InsertHands.{InsertHand}
 use Rattle.brin_insert.specs.Inserts.{HasReached}

@@ -1,15 +1,15 @@
 -- where an insert comes by a step in its table
-use Rattle.std.proofs.Common.{◌≡◌, ◌≢◌, inl, inr, ℕ, zero, suc, ◌<◌, false, refl, sym, ap, ◌∙◌}
-use Rattle.std.proofs.lemmas.Bool.{cases_eq, false≢true}
+use Rattle.std.proofs.Common.{◌≡◌, ◌≢◌, inl, inr, ℕ, zero, suc, ◌*◌, ◌/◌, ◌<◌, refl, sym, ap, ◌∙◌}
+use Rattle.std.specs.Prelude.{IsTrue}
+use Rattle.std.proofs.lemmas.Bool.{cases_eq}
 use Rattle.block_model.specs.declared.reply.Point.{Point}
 use Rattle.block_model.specs.declared.row.Row.{Row}
 use Rattle.coverage.specs.Statements.{OnIndex, Empty}
-use Rattle.table_coverage.specs.InOneIndex.{DoesAt}
-use Rattle.table_coverage.specs.Machines.{ShownTable, Unseen, table_state, task_turned}
-use Rattle.table_coverage.specs.Table.{Task, Resting, Reaches, Inserts, pick}
+use Rattle.table_coverage.specs.Machines.{ShownIndex, ShownTable, Unseen, table_state, task_turned}
+use Rattle.table_coverage.specs.Table.{Asks, Task, Resting, Reaches, Inserts, pick}
 use Rattle.table_coverage.specs.TableCovered.{IsTableKept}
-use Rattle.table_coverage.specs.TableSteps.{Onward, Stays, ToIndex, Inserted, Settles, GoesOn}
-use Rattle.brin_insert.specs.InsertAnswers.{InsertGoesTo, account_of}
+use Rattle.table_coverage.specs.TableSteps.{Onward, Stays, ToAsk, ToIndex, Inserted, Settles, GoesOn}
+use Rattle.brin_insert.specs.InsertAnswers.{AccountsCome, DoesWith, InsertGoesTo}
 
 pub pick_same : (i : ℕ) → {A : Type 0} → (a b : A) → pick i i a b ≡ a
 pick_same zero a b = refl
@@ -20,6 +20,10 @@ pick_other zero zero a b apart = absurd (apart refl)
 pick_other zero (suc j) a b apart = refl
 pick_other (suc i) zero a b apart = refl
 pick_other (suc i) (suc j) a b apart = pick_other i j a b (λ e. apart (ap suc e))
+
+-- a row at block and slot asks in an index that is shown so
+abbrev pub AsksShown : ShownIndex → (b k : ℕ) → Type 0
+AsksShown i b k = IsTrue i.autosummarize × (k ≡ 0) × (b / i.pages_per_range * i.pages_per_range ≡ b) × (0 < b / i.pages_per_range)
 
 -- the session's statement settles, with all else as it was
 module _ (s : ℕ) (shown : ShownTable) (u : Unseen) where
@@ -44,10 +48,12 @@ module _ (s : ℕ) (shown : ShownTable) (u : Unseen) where
     pub stays_in : (on : OnIndex) → Settles s (table_state shown (task_turned s (Inserts b k r at on) u)) (table_state shown (task_turned s (Inserts b k r at on) u))
     stays_in on = settles_by (Inserts b k r at on) (Inserts b k r at on) (Stays (Inserts b k r at on) tt)
 
-    -- it comes to the next index, which asks for nothing
-    pub comes_to_index : at < shown.indexes → (shown.index at).autosummarize ≡ false
-        → Settles s (table_state shown (task_turned s (Reaches b k r at) u)) (table_state shown (task_turned s (Inserts b k r at Empty) u))
-    comes_to_index below plain = settles_by (Reaches b k r at) (Inserts b k r at Empty) (ToIndex b k r at below (λ asks. false≢true (sym plain ∙ asks.0)))
+    -- it comes to the next index, where it asks for a summary first, or for none
+    pub comes_to_ask : at < shown.indexes → AsksShown (shown.index at) b k → Settles s (table_state shown (task_turned s (Reaches b k r at) u)) (table_state shown (task_turned s (Asks b k r at) u))
+    comes_to_ask below asks = settles_by (Reaches b k r at) (Asks b k r at) (ToAsk b k r at below asks)
+
+    pub comes_to_index : at < shown.indexes → (AsksShown (shown.index at) b k → ⊥) → Settles s (table_state shown (task_turned s (Reaches b k r at) u)) (table_state shown (task_turned s (Inserts b k r at Empty) u))
+    comes_to_index below plain = settles_by (Reaches b k r at) (Inserts b k r at Empty) (ToIndex b k r at below plain)
 
     -- no index is left, and it replies
     pub is_complete : at ≡ shown.indexes → Settles s (table_state shown (task_turned s (Reaches b k r at) u)) (table_state shown (task_turned s Resting u))
@@ -55,7 +61,7 @@ module _ (s : ℕ) (shown : ShownTable) (u : Unseen) where
 
 -- what it does, and where it settles, is a step
 pub goes_by : (s : ℕ) (old new : ShownTable) (before between after : Task) (point : Point)
-    → ((u : Unseen) → u.task s ≡ before → IsTableKept (table_state old u) → DoesAt s (table_state old u) (table_state new (task_turned s between u)) point (account_of before))
+    → ((u : Unseen) → u.task s ≡ before → IsTableKept (table_state old u) → DoesWith s (table_state old u) (table_state new (task_turned s between u)) point (AccountsCome s old before))
     → ((u : Unseen) → Settles s (table_state new (task_turned s between u)) (table_state new (task_turned s after u)))
     → InsertGoesTo s old new before after point
 goes_by s old new before between after point does settles u at kept = (between, does u at kept, settles u)

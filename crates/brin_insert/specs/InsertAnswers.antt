@@ -1,5 +1,5 @@
 -- what a step of an insert makes of its table, what it leaves, and when each error comes
-use Rattle.std.specs.Prelude.{◌≡◌, ◌≢◌, ℕ, ◌*◌, List, Option, None, Some}
+use Rattle.std.specs.Prelude.{◌≡◌, ◌≢◌, ℕ, ◌+◌, ◌*◌, ◌/◌, List, Option, None, Some}
 use Rattle.block_model.specs.declared.place.Place.{Place}
 use Rattle.block_model.specs.declared.place.Spot.{Spot}
 use Rattle.block_model.specs.declared.reply.Point.{Point}
@@ -19,15 +19,14 @@ use Rattle.heap_rows.specs.HeapBlocks.{HasBlocks}
 use Rattle.heap_rows.specs.Heaps.{relation_of as heap_of, slots_a_page}
 use Rattle.heap_rows.specs.RowPlaces.{FillsSlot, new_row, place_for}
 use Rattle.heap_rows.specs.RowPut.{IsSpotOf}
-use Rattle.table_coverage.specs.Accounts.{Account, no_account}
+use Rattle.table_coverage.specs.Accounts.{AccountIs, Accounts, Adds, Asking, no_account}
 use Rattle.table_coverage.specs.GoingOn.{IsInserting}
-use Rattle.table_coverage.specs.InOneIndex.{DoesAt}
 use Rattle.table_coverage.specs.Machines.{ShownTable, Unseen, table_state, task_turned}
 use Rattle.table_coverage.specs.Refusals.{IsTaskFull}
-use Rattle.table_coverage.specs.Table.{Task, Resting}
+use Rattle.table_coverage.specs.Table.{Asks, Task, TableState, Resting}
 use Rattle.table_coverage.specs.TableCovered.{IsTableKept}
-use Rattle.table_coverage.specs.TablePoints.{PageLock, waits_for}
-use Rattle.table_coverage.specs.TableSteps.{IsBlocked, IsHeapFull, Settles}
+use Rattle.table_coverage.specs.TablePoints.{PageLock, does_point, waits_for}
+use Rattle.table_coverage.specs.TableSteps.{Does, IsBlocked, IsHeapFull, Settles}
 use Rattle.index_contents.specs.IndexContents.{relation_of as index_relation}
 use Rattle.brin_insert.specs.declared.insert.Insert.{Insert}
 use Rattle.brin_insert.specs.InsertHands.{InsertHand}
@@ -35,16 +34,25 @@ use Rattle.brin_insert.specs.Inserts.{HasStepLeft, task_of, work_of}
 use Rattle.brin_insert.specs.RowSteps.{blocks_with}
 use Rattle.index_steps.specs.ShownRows.{shown_by}
 
--- a statement begins with an empty account, and an insert adds nothing to it
-abbrev pub account_of : (before : Task) → Account → Account
-account_of Resting account = no_account
-account_of before account = account
+-- What the session does is printed under this point, and this comes of the accounts.
+pub record DoesWith (s : ℕ) (w v : TableState) (point : Point) (Comes : Accounts → Accounts → Type 0) : Type 0 where
+  pub does : Does s w v
+  pub point_is : does_point s w v does ≡ Some point
+  pub adds : (a c : Accounts) → Comes a c → Adds s w v does a c
+
+-- A statement begins with an empty account. Where an insert asks for a summary, it asks for that of the range before its row's; no other step of
+-- it makes anything of its account or of the queue.
+abbrev pub AccountsCome : (s : ℕ) → ShownTable → (before : Task) → Accounts → Accounts → Type 0
+AccountsCome s shown Resting a c = AccountIs s a c no_account
+AccountsCome s shown (Asks b k r at) a c = (range : ℕ) × (b / (shown.index at).pages_per_range ≡ range + 1)
+    × Asking s a c (record { table = a.table; at = at; range = range }) ((shown.index at).entry range)
+AccountsCome s shown before a c = AccountIs s a c (a.of s)
 
 -- Whatever the pages and locks don't show, this is a step of the table: the session's insert comes from one task to the other, under this
 -- point; nothing else changes than what they show.
 abbrev pub InsertGoesTo : (s : ℕ) → (old new : ShownTable) → (before after : Task) → Point → Type 0
 InsertGoesTo s old new before after point = (u : Unseen) → u.task s ≡ before → IsTableKept (table_state old u)
-    → (between : Task) × DoesAt s (table_state old u) (table_state new (task_turned s between u)) point (account_of before)
+    → (between : Task) × DoesWith s (table_state old u) (table_state new (task_turned s between u)) point (AccountsCome s old before)
     × Settles s (table_state new (task_turned s between u)) (table_state new (task_turned s after u))
 
 -- it waits for the lock of this page of the index of that place among the table's

@@ -7,4 +7,5 @@ pub mod Inserts
 pub mod StageLocks
 pub mod InsertLocks
 pub mod InsertAnswers
+pub mod AskedFor
 pub mod InsertCalls

@@ -12,6 +12,7 @@ ghost use Rattle.page_store.specs.PageMap.{PageMap};
 ghost use Rattle.page_locks.specs.LockHolders.{LockState};
 ghost use Rattle.range_tuple.specs.TupleBytes.{tuple_bytes};
 ghost use Rattle.range_tuple.specs.Tuples.{Tuple};
+ghost use Rattle.table_coverage.specs.Accounts.{Accounts, Asked, Asking};
 ghost use Rattle.table_coverage.specs.Machines.{MachineSteps, MachineWaits, ShownTable, Unseen, table_state};
 ghost use Rattle.table_coverage.specs.Table.{Inserts, Task};
 ghost use Rattle.table_coverage.specs.TableCovered.{IsTableKept};
@@ -20,6 +21,7 @@ ghost use Rattle.index_steps.specs.IndexTuples.{index_at, shape_of};
 ghost use Rattle.index_steps.specs.MoveEnds.{IsMoving};
 ghost use Rattle.brin_insert.specs.declared.stage.Stage.{Stage as AnyStage};
 ghost use Rattle.brin_insert.specs.declared.stage.Stage.TheVariants as stages;
+ghost use Rattle.brin_insert.specs.AskedFor.{AreRequestsOf, IsAsked, IsRequestOf};
 ghost use Rattle.brin_insert.specs.InsertCalls.{InsertCalls};
 ghost use Rattle.brin_insert.specs.InsertAnswers.{InsertGoesTo, InsertWaitsFor, IsInsertFull};
 ghost use Rattle.brin_insert.specs.InsertSteps.{StepWaits, insert_at, on_index};
@@ -94,3 +96,11 @@ pub(crate) fn a_row_is_put_in_its_table()
 {
     a_row_begins_its_insert();
 }
+
+/// What an insert asks for is what its session asks for in the table, where the queue and what it asked for in vain are its accounts': so they
+/// are behind it. Does nothing.
+pub fn an_ask_is_of_the_accounts()
+    ensures { (layout : DiskLayout) (request : ℕ × ℕ) (queue queued dropped after : List (ℕ × ℕ)) (entry : Option Spot) (s : ℕ) (a : Accounts) (asked : Asked) → IsAsked request queue queued dropped after entry → IsRequestOf layout request asked
+        → AreRequestsOf layout queue a.queue → AreRequestsOf layout dropped (a.of s).dropped
+        → (c : Accounts) × Asking s a c asked entry × AreRequestsOf layout queued c.queue × AreRequestsOf layout after (c.of s).dropped }
+{}

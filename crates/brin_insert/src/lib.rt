@@ -1,9 +1,10 @@
 //! An insert of a row, by steps (`Insert`): it puts the row into the heap; then, in each index of the table, in the order of their
 //! declarations, it reads the map, copies the tuple of its row's range, adds the row, and has the tuple with the row take the old
-//! one's place, if that still stands there; else it reads the map again. Each step is one of the protocol's insert (table_coverage)
+//! one's place, if that still stands there; else it reads the map again. Before that it asks for a summary of the range before its row's,
+//! where the index has autosummarize, the row is at the first place of its range, and the one before has no entry. Each step is one of the protocol's insert (table_coverage)
 //! in the table that the pages and the page locks show, under its point; `IndexInsert` is the work in one index. No step takes memory,
 //! and one copies a tuple at most. An insert that is stepped alone ends or waits within a number of steps. It stands on index_steps,
-//! heap_rows and table_coverage.
+//! heap_rows, summary_queue and table_coverage.
 #![tactic(auto)]
 
 mod in_index;
@@ -16,6 +17,7 @@ mod stage;
 pub use index_insert::IndexInsert;
 pub use insert::Insert;
 pub use laws::{
-    an_insert_ends_alone, an_insert_is_a_machine_of_its_table, an_insert_steps_in_its_table,
+    an_ask_is_of_the_accounts, an_insert_ends_alone, an_insert_is_a_machine_of_its_table,
+    an_insert_steps_in_its_table,
 };
 pub use stage::Stage;

@@ -121,14 +121,17 @@ module _ (goes : MaintainGoes) (completes : MaintainCompletes) (knows : Maintain
       stays hand point works = (
         works.0.0,
         omega (arith, works.0.2),
-        λ u task held kept.
-            let does = goes_there goes completes knows here others step a at there small u task kept rest hand point works.0.0 works.0.1 works.1 in (
-              does.0,
-              does.1,
-              Maintains job at a.range (phase_of (shape_of step.layout a.index) hand),
-              does.2,
-              stays_there s new (unnamed_turned does.0 u) (Some s) job at a.range (phase_of (shape_of step.layout a.index) hand),
-            ),
+        (
+          (λ u task held kept.
+              let does = goes_there goes completes knows here others step a at there small u task kept rest hand point works.0.0 works.0.1 works.1 in (
+                does.0,
+                does.1,
+                Maintains job at a.range (phase_of (shape_of step.layout a.index) hand),
+                does.2,
+                stays_there s new (unnamed_turned does.0 u) (Some s) job at a.range (phase_of (shape_of step.layout a.index) hand),
+              )),
+          (λ u task held kept. tt),
+        ),
       )
 
       ends : (hand : SummariseHand) (point : Point) (b : SummariseState) (answer : Did) → WorksAt step at_range hand (did.Finished point) → ComesTo in_range (after_range a hand) point b answer
@@ -136,29 +139,35 @@ module _ (goes : MaintainGoes) (completes : MaintainCompletes) (knows : Maintain
       ends hand point _ _ works (RangeIsNext next) = (
         works.0.0,
         omega (arith, works.0.2),
-        λ u task held kept.
-            let does = ends_there goes completes knows here others step a at there small u task kept rest hand point works.0.0 works.0.1 works.1 in
-            let after : Unseen = unnamed_turned does.0 u in (
-              does.0,
-              does.1,
-              Considers job at (a.range + 1),
-              subst (λ (m : ℕ). DoesAt s (table_state old u) (table_state new (lock_turned (Some s) (task_turned s (Considers job at m) after))) point (with_ranges works.0.0)) (omega arith) does.2,
-              comes_to_range s new after (Some s) a.wish in_range a.extent at (a.range + 1) (each_here step.layout step.paged step.locked step.blocks a.index at there after) next,
-            ),
+        (
+          (λ u task held kept.
+              let does = ends_there goes completes knows here others step a at there small u task kept rest hand point works.0.0 works.0.1 works.1 in
+              let after : Unseen = unnamed_turned does.0 u in (
+                does.0,
+                does.1,
+                Considers job at (a.range + 1),
+                subst (λ (m : ℕ). DoesAt s (table_state old u) (table_state new (lock_turned (Some s) (task_turned s (Considers job at m) after))) point (with_ranges works.0.0)) (omega arith) does.2,
+                comes_to_range s new after (Some s) a.wish in_range a.extent at (a.range + 1) (each_here step.layout step.paged step.locked step.blocks a.index at there after) next,
+              )),
+          (λ u task held kept. tt),
+        ),
       )
       ends hand point _ _ works (NoneIsLeft lacks) = (
         works.0.0,
         omega (arith, works.0.2),
-        λ u task held kept.
-            let does = ends_there goes completes knows here others step a at there small u task kept rest hand point works.0.0 works.0.1 works.1 in
-            let after : Unseen = unnamed_turned does.0 u in (
-              does.0,
-              does.1,
-              Considers job at (a.range + 1),
-              subst (λ (m : ℕ). DoesAt s (table_state old u) (table_state new (lock_turned (Some s) (task_turned s (Considers job at m) after))) point (with_ranges works.0.0)) (omega arith) does.2,
-              comes_behind_last s new after a.wish in_range a.extent at (a.range + 1) (indexes_left step.layout a.index at) (each_here step.layout step.paged step.locked step.blocks a.index at there after)
-                  (slice_get_within (indexes_of step.layout table) at a.index there) refl lacks,
-            ),
+        (
+          (λ u task held kept.
+              let does = ends_there goes completes knows here others step a at there small u task kept rest hand point works.0.0 works.0.1 works.1 in
+              let after : Unseen = unnamed_turned does.0 u in (
+                does.0,
+                does.1,
+                Considers job at (a.range + 1),
+                subst (λ (m : ℕ). DoesAt s (table_state old u) (table_state new (lock_turned (Some s) (task_turned s (Considers job at m) after))) point (with_ranges works.0.0)) (omega arith) does.2,
+                comes_behind_last s new after a.wish in_range a.extent at (a.range + 1) (indexes_left step.layout a.index at) (each_here step.layout step.paged step.locked step.blocks a.index at there after)
+                    (slice_get_within (indexes_of step.layout table) at a.index there) refl lacks,
+              )),
+          (λ u task held kept. tt),
+        ),
       )
 
       waits : (hand : SummariseHand) (held : Held) → WorksAt step at_range hand (did.Blocked held) → DoesInTable step at at_range (record at_range { hand = hand }) (did.Blocked held)
@@ -181,24 +190,30 @@ module _ (goes : MaintainGoes) (completes : MaintainCompletes) (knows : Maintain
     begins_quietly right _ _ (RangeIsNext next) = (
       0,
       refl,
-      λ u task lock kept. (
-        u.unnamed,
-        (λ i x is. is),
-        Considers (job_of a.wish in_range (length step.blocks)) at (first_of a.wish in_range),
-        takes s at in_range old (slice_get_within (indexes_of step.layout table) at a.index there) u kept (λ n is. right.free n (sym lock ∙ is)) a.wish task,
-        comes_to_range s old u (Some s) a.wish in_range (length step.blocks) at (first_of a.wish in_range) (each_here step.layout step.pages step.locks step.blocks a.index at there u) next,
+      (
+        (λ u task lock kept. (
+          u.unnamed,
+          (λ i x is. is),
+          Considers (job_of a.wish in_range (length step.blocks)) at (first_of a.wish in_range),
+          takes s at in_range old (slice_get_within (indexes_of step.layout table) at a.index there) u kept (λ n is. right.free n (sym lock ∙ is)) a.wish task,
+          comes_to_range s old u (Some s) a.wish in_range (length step.blocks) at (first_of a.wish in_range) (each_here step.layout step.pages step.locks step.blocks a.index at there u) next,
+        )),
+        (λ u task lock kept. refl),
       ),
     )
     begins_quietly right _ _ (NoneIsLeft lacks) = (
       0,
       refl,
-      λ u task lock kept. (
-        u.unnamed,
-        (λ i x is. is),
-        Considers (job_of a.wish in_range (length step.blocks)) at (first_of a.wish in_range),
-        takes s at in_range old (slice_get_within (indexes_of step.layout table) at a.index there) u kept (λ n is. right.free n (sym lock ∙ is)) a.wish task,
-        comes_behind_last s old u a.wish in_range (length step.blocks) at (first_of a.wish in_range) (indexes_left step.layout a.index at) (each_here step.layout step.pages step.locks step.blocks a.index at there u)
-            (slice_get_within (indexes_of step.layout table) at a.index there) refl lacks,
+      (
+        (λ u task lock kept. (
+          u.unnamed,
+          (λ i x is. is),
+          Considers (job_of a.wish in_range (length step.blocks)) at (first_of a.wish in_range),
+          takes s at in_range old (slice_get_within (indexes_of step.layout table) at a.index there) u kept (λ n is. right.free n (sym lock ∙ is)) a.wish task,
+          comes_behind_last s old u a.wish in_range (length step.blocks) at (first_of a.wish in_range) (indexes_left step.layout a.index at) (each_here step.layout step.pages step.locks step.blocks a.index at there u)
+              (slice_get_within (indexes_of step.layout table) at a.index there) refl lacks,
+        )),
+        (λ u task lock kept. refl),
       ),
     )
 

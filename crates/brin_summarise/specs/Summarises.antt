@@ -2,9 +2,11 @@
 use Rattle.std.specs.Prelude.{◌≡◌, ◌≢◌, ℕ, ◌+◌, ◌*◌, ◌/◌, ◌≤◌, ◌<◌, List, length, slice_set, Option, Some}
 use Rattle.block_model.specs.declared.reply.Point.{Point}
 use Rattle.block_model.specs.declared.reply.Point.TheVariants as points
+use Rattle.disk_trait.specs.Told.{Told}
 use Rattle.store_layout.specs.DiskLayout.{DiskLayout}
 use Rattle.page_layout.specs.PageContents.{Slot}
-use Rattle.page_store.specs.PageMap.{PageMap}
+use Rattle.page_store.specs.Keeps.{Keeps}
+use Rattle.page_store.specs.PageMap.{PageMap, View}
 use Rattle.page_locks.specs.declared.did.Did.{Did}
 use Rattle.page_locks.specs.declared.did.Did.TheVariants as did
 use Rattle.page_locks.specs.declared.held.Held.{Held}
@@ -185,6 +187,11 @@ abbrev pub RightAnswers : (table actor : ℕ) → (rights righted : List (Option
 RightAnswers table actor rights righted standings.Begins (did.NoRight by) = (right_of rights table ≡ Some by) × (by ≢ actor) × (righted ≡ rights)
 RightAnswers table actor rights righted standings.Begins answer = ((n : ℕ) → right_of rights table ≡ Some n → n ≡ actor) × (righted ≡ slice_set rights table (Some actor))
 RightAnswers table actor rights righted standing answer = righted ≡ rights
+
+-- of any disk, a step that lacks the summarise lock changes no page and no page lock
+abbrev pub StaysWithoutRight : {D : Type 0} → (D → Told) → (old new : View D) → (before after : LockState) → Did → Type 0
+StaysWithoutRight told old new before after (did.NoRight by) = (after ≡ before) × Keeps told old new
+StaysWithoutRight told old new before after answer = Unit {0}
 
 -- what its step needs of the pages, where it finds the index full, and where it finds damage: as its work at the range does
 abbrev pub ReadyAt : DiskLayout → PageMap → SummariseState → Type 0

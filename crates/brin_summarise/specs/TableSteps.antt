@@ -11,7 +11,7 @@ use Rattle.table_coverage.specs.Accounts.{Account, no_account}
 use Rattle.table_coverage.specs.InOneIndex.{DoesAt, with_ranges}
 use Rattle.table_coverage.specs.Machines.{IsFewer, ShownTable, Unseen, table_state, task_turned}
 use Rattle.table_coverage.specs.Refusals.{IsTaskFull}
-use Rattle.table_coverage.specs.Table.{EachRange, Job, Maintains, OneRange, Restarts, Resting, Task, WholeRanges}
+use Rattle.table_coverage.specs.Table.{Considers, EachRange, Job, Maintains, OneRange, Restarts, Resting, Task, WholeRanges}
 use Rattle.table_coverage.specs.TableCovered.{IsTableKept}
 use Rattle.table_coverage.specs.TablePoints.{PageLock, SummariseLock, WaitedFor, waits_for}
 use Rattle.table_coverage.specs.TableSteps.{IsBlocked, Settles}
@@ -26,7 +26,7 @@ use Rattle.brin_summarise.specs.declared.wish.Wish.{Wish}
 use Rattle.brin_summarise.specs.declared.wish.Wish.TheVariants as wishes
 use Rattle.range_summarise.specs.SummariseHands.{table_of}
 use Rattle.range_summarise.specs.SummariseSteps.{phase_of}
-use Rattle.brin_summarise.specs.Summarises.{StoreStep, SummariseState, count_of, in_range_of}
+use Rattle.brin_summarise.specs.Summarises.{StoreStep, SummariseState, count_of, first_of, in_range_of}
 
 -- the ranges that are asked for, as a maintenance statement's
 abbrev pub job_of : Wish → (in_range extent : ℕ) → Job
@@ -113,13 +113,29 @@ SummariseWaitsFor s shown held task what = (u : Unseen) → u.task s ≡ task �
 abbrev pub IsSummariseFull : (s at : ℕ) → ShownTable → Task → (number : ℕ) → Type 0
 IsSummariseFull s at shown task number = (u : Unseen) → u.task s ≡ task → IsTableKept (table_state shown u) → IsTaskFull (table_state shown u) s task at number
 
--- A step that goes on, or replies, counts the ranges that it gives a final tuple; one that waits tells for what.
+-- What its statement begins with, before it is judged where it goes on: the work over so many blocks of the table, at the first range that it
+-- looks at.
+abbrev pub first_task : DiskLayout → (at extent : ℕ) → SummariseState → Task
+first_task layout at extent a = Considers (job_of a.wish (in_range_of layout a.index) extent) at (first_of a.wish (in_range_of layout a.index))
+
+-- with its first step the session is at that, before it is judged where it goes on
+abbrev pub IsFirstWithin : Standing → (first within : Task) → Type 0
+IsFirstWithin standings.Begins first within = within ≡ first
+IsFirstWithin standing first within = Unit {0}
+
+-- so is this step of the table, and its first one begins with that
+abbrev pub SummariseGoes : (s : ℕ) → (old new : ShownTable) → (held held_then : Option ℕ) → (before after : Task) → Point → (Account → Account) → Standing → (first : Task) → Type 0
+SummariseGoes s old new held held_then before after point account standing first = (goes : SummariseGoesTo s old new held held_then before after point account)
+    × ((u : Unseen) (was : u.task s ≡ before) (lock : u.summarise_lock ≡ held) (kept : IsTableKept (table_state old u)) → IsFirstWithin standing first (goes u was lock kept).2)
+
+-- A step that goes on, or replies, counts the ranges that it gives a final tuple, and the first one begins with its statement's work; one that
+-- waits tells for what.
 abbrev pub SummariseDid : (s at : ℕ) → (old new : ShownTable) → (held : Option ℕ) → DiskLayout → (a b : SummariseState) → Did → Type 0
 SummariseDid s at old new held layout a b (did.Moved point) = (count : ℕ) × HasCounted a.standing (count_of a) count (count_of b)
-    × SummariseGoesTo s old new held (Some s) (task_of layout at a) (task_of layout at b) point (account_by a.wish a.standing count)
+    × SummariseGoes s old new held (Some s) (task_of layout at a) (task_of layout at b) point (account_by a.wish a.standing count) a.standing (first_task layout at old.blocks a)
 SummariseDid s at old new held layout a b (did.Finished point) = (count : ℕ) × HasCounted a.standing (count_of a) count (count_of b)
-    × SummariseGoesTo s old new held (held_behind a.wish s (indexes_left layout a.index at)) (task_of layout at a) (task_of layout at b) point
-    (account_by a.wish a.standing count)
+    × SummariseGoes s old new held (held_behind a.wish s (indexes_left layout a.index at)) (task_of layout at a) (task_of layout at b) point
+    (account_by a.wish a.standing count) a.standing (first_task layout at old.blocks a)
 SummariseDid s at old new held layout a b (did.Blocked waited) =
     SummariseWaitsFor s old held (task_of layout at a) (PageLock at waited.page.block) × (task_of layout at b ≡ task_of layout at a)
 SummariseDid s at old new held layout a b (did.NoRight by) =

@@ -42,6 +42,7 @@ pub(crate) fn come_to(course: &mut Course, work: &mut RangeSummarise, in_range: 
     ensures next { result ≡ true → (index : ℕ) (point : AnyPoint) → ComesTo in_range (state_of index course.old work.old) point (state_of index course.new work.new) (dids.Moved point) }
     ensures last { result ≡ false → (index : ℕ) (point : AnyPoint) → ComesTo in_range (state_of index course.old work.old) point (state_of index course.new work.new) (dids.Finished point) }
     ensures there { result ≡ true → course.new.standing ≡ Standing.AtRange }
+    ensures same_wish { course.new.wish ≡ course.old.wish }
     ensures done { result ≡ false → course.new.standing ≡ Standing.Done }
     ensures free { (index : ℕ) → held_by (state_of index course.new work.new) ≡ 0 }
     ensures exact { (layout : DiskLayout) (blocks : List (List Slot)) (index : ℕ) → IsExactNow layout blocks (state_of index course.new work.new) }

@@ -13,7 +13,7 @@ ghost use Rattle.index_steps.specs.StepAnswers.{BlockedWell, IsOfStore, NeverBlo
 ghost use Rattle.index_steps.specs.SwapAnswers.{LeavesLocks, MachineOutcome, SaysFullIn, StaysWhereFull, TakesAtMost};
 ghost use Rattle.range_summarise.specs.SummariseHands.{table_of};
 ghost use Rattle.range_summarise.specs.StepCauses.{NamesPageAt};
-ghost use Rattle.brin_summarise.specs.Summarises.{DamageIn, FullAt, GivesBy, IsSummariseOf, KeepsExact, ReadyAt, RightAnswers, StandsThen, SummariseDoes, count_of, held_by, state_of, step_of, taken_by};
+ghost use Rattle.brin_summarise.specs.Summarises.{DamageIn, FullAt, GivesBy, IsSummariseOf, KeepsExact, ReadyAt, RightAnswers, StandsThen, StaysWithoutRight, SummariseDoes, count_of, held_by, state_of, step_of, taken_by};
 
 use crate::course::{
     Course, Standing, a_summarise_begins_without_locks, come_to, first_of, made_at,
@@ -73,6 +73,13 @@ impl Summarise {
         })
     }
 
+    /// The number of its index.
+    pub fn index(&self) -> u8
+        ensures { result ≡ self.now.index }
+    {
+        self.index
+    }
+
     /// How many ranges it has given a final tuple.
     pub fn count(&self) -> u64
         ensures { result ≡ count_of self.now }
@@ -104,9 +111,11 @@ impl Summarise {
         ensures stands { IfOk result (StandsThen self.old self.new) }
         ensures of { IsSummariseOf pages.old.layout self.new }
         ensures same_index { self.new.index ≡ self.old.index }
+        ensures same_wish { self.new.wish ≡ self.old.wish }
         ensures right { IfOk result (RightAnswers (table_of pages.old.layout self.old.index) actor rights.old rights.new self.old.standing) }
         ensures rights { OnErr result (rights.new ≡ rights.old) }
         ensures blocked { IfOk result (BlockedWell D.told self.old.index actor pages.old pages.new locks.old locks.new) }
+        ensures no_right { IfOk result (StaysWithoutRight D.told pages.old pages.new locks.old locks.new) }
         ensures full { IfErr result (SaysFullIn pages.old.layout self.old.index (λ number. Tells D.told pages.old → FullAt pages.old.layout pages.old.pages locks.old actor self.old number)) }
         ensures at_full { IfErr result (StaysWhereFull locks.old locks.new) }
         ensures others { LeavesOthers D.told self.old.index pages.old pages.new }
@@ -170,6 +179,8 @@ fn begin<D: Disk + Drop>(
     ensures still { Survives D.told (λ passed. ⊥) pages.now pages.now }
     ensures at_full { IfErr result (λ fault. (locks : LockState) → StaysWhereFull locks locks fault) }
     ensures never_blocked { IfOk result NeverBlocked }
+    ensures no_right { IfOk result (λ did. (locks : LockState) → StaysWithoutRight D.told pages.now pages.now locks locks did) }
+    ensures same_wish { course.new.wish ≡ course.old.wish }
     ensures of_store { IfErr result IsOfStore }
     ensures at { IfErr result (NamesPageAt pages.now.layout index work.old.stage) }
     ensures outcome { MachineOutcome D.told (Untold D.told pages.now) pages.now pages.now result }
@@ -214,6 +225,8 @@ fn go_on<D: Disk + Drop>(
     ensures stands { IfOk result (StandsThen (state_of index course.old work.old) (state_of index course.new work.new)) }
     ensures of { IsSummariseOf pages.old.layout (state_of index course.new work.new) }
     ensures blocked { IfOk result (BlockedWell D.told index actor pages.old pages.new locks.old locks.new) }
+    ensures no_right { IfOk result (StaysWithoutRight D.told pages.old pages.new locks.old locks.new) }
+    ensures same_wish { course.new.wish ≡ course.old.wish }
     ensures full { IfErr result (SaysFullIn pages.old.layout index (λ number. Tells D.told pages.old → FullAt pages.old.layout pages.old.pages locks.old actor (state_of index course.old work.old) number)) }
     ensures at_full { IfErr result (StaysWhereFull locks.old locks.new) }
     ensures others { LeavesOthers D.told index pages.old pages.new }

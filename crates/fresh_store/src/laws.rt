@@ -4,7 +4,8 @@ ghost use Rattle.std.specs.Prelude.{◌≡◌, List, ℕ};
 ghost use Rattle.block_model.specs.declared.place.Place.{Place as AnyPlace};
 ghost use Rattle.store_layout.specs.DiskLayout.{IsPlace};
 ghost use Rattle.disk_trait.specs.Told.{Told};
-ghost use Rattle.page_store.specs.PageMap.{page_at};
+ghost use Rattle.page_store.specs.Forms.{IsPageIn};
+ghost use Rattle.page_store.specs.PageMap.{IsWhole, page_at};
 ghost use Rattle.opened_pages.specs.Opens.{OpensAs};
 ghost use Rattle.opened_pages.specs.PageOrder.{AreInOrder};
 ghost use Rattle.store_format.specs.FreshStore.{IsFormatted, IsOldOrNew, fresh_page};
@@ -13,11 +14,14 @@ ghost use Rattle.fresh_store.specs.FreshPages.{IsOldOrFresh, fresh_pages};
 use store_format::{a_closed_gate_is_no_store, a_new_store_has_its_control_page};
 use store_layout::{Layout, pages_fill_the_disk};
 
-/// A new store opens to the fresh pages, and these stand in order. At each place is the page that a new store has there.
+/// A new store opens to the fresh pages, and these stand in order. At each place is the page that a new store has there, which passes its
+/// check.
 pub fn a_new_store_opens_to_fresh_pages(layout: &Layout)
     ensures opens { (image : List ℕ) → IsFormatted layout.now image → OpensAs layout.now image (fresh_pages layout.now) }
     ensures order { AreInOrder layout.now (fresh_pages layout.now) }
     ensures pages { (place : AnyPlace) → IsPlace layout.now place → page_at (fresh_pages layout.now) place ≡ fresh_page layout.now place }
+    ensures whole { IsWhole layout.now (fresh_pages layout.now) }
+    ensures checked { (place : AnyPlace) → IsPlace layout.now place → IsPageIn layout.now place.relation (fresh_page layout.now place) }
 {
     layout.known();
     pages_fill_the_disk(layout);

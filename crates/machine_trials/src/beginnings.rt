@@ -1,19 +1,18 @@
 //! What a session begins.
 
-ghost use Rattle.std.specs.Prelude.{◌≡◌, ◌<◌, true, not, length, IfSome};
-ghost use Rattle.std.specs.List.{list_all};
+ghost use Rattle.std.specs.Prelude.{◌≡◌, ◌<◌, length, IfSome};
 ghost use Rattle.page_layout.specs.RowBytes.{HaveKinds};
 ghost use Rattle.heap_rows.specs.Heaps.{kinds_at};
 ghost use Rattle.query_words.specs.LineFits.{FitsStatement};
-ghost use Rattle.brin_insert.specs.Inserts.{AsksNothing};
 ghost use Rattle.machine_trials.specs.Works.{IsWorkOf};
 
 use crate::turns::has_few_tables;
-use crate::work::Work;
-use block_model::{Index, Query, Row, RowId, Values};
+use crate::work::{Cleaning, Delete, Work};
+use block_model::{Query, Row, RowId, Values};
 use brin_insert::Insert;
 use brin_scan::{Explain, Scan};
 use brin_summarise::{Summarise, Wish};
+use brin_vacuum::Vacuum;
 use index_steps::declared_index;
 use statements::Statement;
 use std::alloc::Global;
@@ -35,39 +34,25 @@ pub(crate) fn work_for(
             None => None,
         },
         Statement::Select(query) => select_of(alloc, layout, query),
+        Statement::Delete(query) => delete_of(alloc, layout, query),
         Statement::Explain(query) => explain_of(alloc, layout, query),
         Statement::Summarize { index, block } => summarise_of(alloc, layout, index, block),
+        Statement::Vacuum { table } => vacuum_of(alloc, layout, table),
         _ => None,
     }
 }
 
-/// An insert of these values into the table; `None` where an index of the store asks for summaries, too.
+/// An insert of these values into the table; `None` where memory is wanting.
 fn insert_of(alloc: Global, layout: &Layout, table: u8, id: RowId, values: Values) -> Option<Work>
     requires table { table < length layout.now.schema.tables }
     requires kinds { HaveKinds (kinds_at layout.now table) values }
     ensures { IfSome result (IsWorkOf layout.now) }
 {
-    if !asks_nothing(layout, table) {
-        return None;
-    }
     let row = Row { table, id, values };
     match Insert::new(alloc, row, layout) {
         Ok(insert) => Some(Work::Insert(id, insert)),
         Err(_) => None,
     }
-}
-
-/// Whether no index of the store asks for summaries.
-fn asks_nothing(layout: &Layout, table: u8) -> bool
-    ensures { result ≡ true → AsksNothing layout.now table }
-{
-    none_asks(layout.schema().indexes.as_slice())
-}
-
-fn none_asks(indexes: &[Index]) -> bool
-    ensures { result ≡ list_all (λ index. not index.auto) indexes.now }
-{
-    indexes.iter().all(|index| !index.auto)
 }
 
 /// The scan of a select.
@@ -77,6 +62,18 @@ fn select_of(alloc: Global, layout: &Layout, query: Query) -> Option<Work>
 {
     match Scan::new(alloc, query, layout) {
         Ok(scan) => Some(Work::Select(scan)),
+        Err(_) => None,
+    }
+}
+
+/// The scan of a delete.
+fn delete_of(alloc: Global, layout: &Layout, query: Query) -> Option<Work>
+    requires table { query.table < length layout.now.schema.tables }
+    ensures { IfSome result (IsWorkOf layout.now) }
+{
+    let table = query.table;
+    match Scan::new(alloc, query, layout) {
+        Ok(scan) => Some(Work::Delete(Delete::Scans(table, scan))),
         Err(_) => None,
     }
 }
@@ -105,6 +102,18 @@ fn summarise_of(alloc: Global, layout: &Layout, index: u8, block: Option<u32>) -
     let table = declared_index(layout, index).table;
     match Summarise::new(alloc, index, wish, layout) {
         Ok(summarise) => Some(Work::Summarise(table, summarise)),
+        Err(_) => None,
+    }
+}
+
+/// A vacuum of the table.
+fn vacuum_of(alloc: Global, layout: &Layout, table: u8) -> Option<Work>
+    requires table { table < length layout.now.schema.tables }
+    ensures { IfSome result (IsWorkOf layout.now) }
+{
+    has_few_tables(layout);
+    match Vacuum::new(alloc, table, layout) {
+        Ok(vacuum) => Some(Work::Vacuum(Cleaning::Drops(table, vacuum))),
         Err(_) => None,
     }
 }

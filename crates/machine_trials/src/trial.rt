@@ -7,22 +7,26 @@ ghost use Rattle.tx_table.specs.TxState.{IsOver};
 ghost use Rattle.machine_trials.specs.Works.{IsWorkOf, max_tables};
 
 use crate::beginnings::work_for;
+use crate::deletes::turn_delete;
 use crate::names::SESSIONS;
 use crate::quiet_disk::QuietDisk;
-use crate::transactions::{Open, begun, commits, id_for};
+use crate::transactions::{Ending, Open, begun, ending_of, ends, fail, id_for, snapshots_of};
 use crate::turns::{Turn, turn_explain, turn_insert, turn_select, turn_summarise};
+use crate::vacuums::turn_vacuum;
 use crate::work::Work;
 use block_model::{NoMemory, Sizes, Words};
 use disk_trait::Disk;
 use engine_pages::PageStore;
 use page_locks::{Locks, Rights};
 use schema_words::read_declarations;
+use snapshot_core::Snapshot;
 use statements::Statement;
 use std::alloc::Global;
 use std::marker::Model;
 use std::mem;
 use store_format::format;
 use store_layout::Layout;
+use summary_queue::Queue;
 use tx_table::TxTable;
 
 /// How many locks may be held at once: three a session.
@@ -39,6 +43,7 @@ pub struct Trial {
     pages: Box<PageStore<QuietDisk>>,
     locks: Locks,
     rights: Rights,
+    queue: Queue,
     tx: TxTable,
     open: Vec<Option<Open>>,
     works: Vec<Work>,
@@ -112,6 +117,7 @@ impl Trial {
         let mut pages = Box::new(alloc, pages).ok()?;
         let locks = Locks::new(alloc, LOCKS).ok()?;
         let rights = no_rights(alloc)?;
+        let queue = Queue::new(alloc).ok()?;
         let open = no_transactions(alloc)?;
         let works = match no_works(alloc) {
             Ok(works) => works,
@@ -123,6 +129,7 @@ impl Trial {
                 pages,
                 locks,
                 rights,
+                queue,
                 tx,
                 open,
                 works,
@@ -170,16 +177,17 @@ impl Trial {
         Some(t)
     }
 
-    /// The session commits its transaction.
-    pub fn commit(&mut self, session: usize) -> Option<()>
+    /// The session ends its transaction, and is told how: so, but by a rollback where it has failed.
+    pub fn end(&mut self, session: usize, wanted: Ending) -> Option<Ending>
         ensures { self.new ≡ self.old }
     {
         if session >= self.open.len() {
             return None;
         }
         let open = mem::replace(&mut self.open[session], None)?;
-        if commits(&mut self.tx, &mut self.pages, open.t) {
-            Some(())
+        let ending = ending_of(&open, wanted);
+        if ends(&mut self.tx, &mut self.pages, open.t, ending) {
+            Some(ending)
         } else {
             None
         }
@@ -195,6 +203,9 @@ impl Trial {
         let Ok(actor) = u32::try_from(session) else {
             return Turn::Failed;
         };
+        let Ok(live) = snapshots_of(self.alloc, self.open.as_slice()) else {
+            return Turn::Failed;
+        };
         let work = take_work(&mut self.works, session);
         let open = match self.open.get(session) {
             Some(Some(open)) => Some(open),
@@ -206,12 +217,22 @@ impl Trial {
             &mut self.pages,
             &mut self.locks,
             &mut self.rights,
+            &mut self.queue,
             &self.tx,
             open,
+            live.as_slice(),
             actor,
         );
         put_work(&mut self.works, session, work);
+        heed(&mut self.open, session, &turn);
         turn
+    }
+}
+
+/// By a conflict the session's transaction fails.
+fn heed(open: &mut Vec<Option<Open>>, session: usize, turn: &Turn) {
+    if let Turn::Conflict(_) = turn {
+        fail(open, session);
     }
 }
 
@@ -240,8 +261,10 @@ fn turn_of(
     pages: &mut PageStore<QuietDisk>,
     locks: &mut Locks,
     rights: &mut Rights,
+    queue: &mut Queue,
     tx: &TxTable,
     open: Option<&Open>,
+    live: &[Snapshot],
     actor: u32,
 ) -> (Work, Turn)
     requires work { IsWorkOf pages.old.layout work }
@@ -254,7 +277,7 @@ fn turn_of(
 {
     match work {
         Work::Nothing => (Work::Nothing, Turn::Failed),
-        Work::Insert(id, insert) => turn_insert(id, insert, pages, locks, actor),
+        Work::Insert(id, insert) => turn_insert(id, insert, pages, locks, queue, actor),
         Work::Summarise(table, summarise) => {
             turn_summarise(table, summarise, pages, locks, rights, actor)
         }
@@ -263,5 +286,12 @@ fn turn_of(
             Some(open) => turn_select(alloc, scan, pages, tx, open),
             None => (Work::Nothing, Turn::Failed),
         },
+        Work::Delete(delete) => match open {
+            Some(open) => turn_delete(alloc, delete, pages, tx, open),
+            None => (Work::Nothing, Turn::Failed),
+        },
+        Work::Vacuum(cleaning) => {
+            turn_vacuum(alloc, cleaning, pages, locks, rights, tx, live, actor)
+        }
     }
 }

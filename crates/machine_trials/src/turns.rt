@@ -23,6 +23,7 @@ use page_locks::{Did, Held, Locks, Rights};
 use page_store::MachineFault;
 use std::alloc::Global;
 use store_layout::Layout;
+use summary_queue::Queue;
 use tx_table::TxTable;
 
 /// How many locks a step takes at most: those of a move.
@@ -38,6 +39,8 @@ pub enum Turn {
     /// That actor holds the summarise lock of the table.
     NoRight { table: u8, by: u32 },
     Full { relation: u8, number: u64 },
+    /// Another transaction has deleted the row of this number.
+    Conflict(RowId),
     /// The store failed, memory was wanting, or there is nothing to step.
     Failed,
 }
@@ -48,6 +51,7 @@ pub(crate) fn turn_insert(
     insert: Insert,
     pages: &mut PageStore<QuietDisk>,
     locks: &mut Locks,
+    queue: &mut Queue,
     actor: u32,
 ) -> (Work, Turn)
     requires made { IsInsertFor pages.old.layout insert }
@@ -59,7 +63,7 @@ pub(crate) fn turn_insert(
     if !has_room(locks) {
         return (Work::Insert(id, insert), Turn::Failed);
     }
-    match insert.step(pages, locks, actor) {
+    match insert.step(pages, locks, queue, actor) {
         Ok(Did::Moved(point)) => (Work::Insert(id, insert), Turn::Moved(point)),
         Ok(Did::Finished(point)) => (Work::Nothing, Turn::Done(point, Reply::Inserted { id })),
         Ok(Did::Blocked(held)) => (Work::Insert(id, insert), Turn::Blocked(held)),
@@ -159,7 +163,7 @@ pub(crate) fn turn_select(
 }
 
 /// Whether room is left for the locks of a step.
-fn has_room(locks: &Locks) -> bool
+pub(crate) fn has_room(locks: &Locks) -> bool
     ensures { result ≡ true → count_of locks.now + 3 ≤ locks.now.limit }
 {
     let limit = locks.limit() as usize;
@@ -174,7 +178,7 @@ pub(crate) fn has_few_tables(layout: &Layout)
 }
 
 /// That the machine comes to nothing.
-fn stopped(fault: MachineFault) -> Turn {
+pub(crate) fn stopped(fault: MachineFault) -> Turn {
     match fault {
         MachineFault::Full { relation, number } => Turn::Full { relation, number },
         _ => Turn::Failed,

@@ -13,3 +13,4 @@ mod pages;
 pub use fault::FormatFault;
 pub use laws::{a_closed_gate_is_no_store, a_new_store_has_its_control_page};
 pub use making::format;
+pub use pages::fill_page;

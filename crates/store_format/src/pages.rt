@@ -75,7 +75,7 @@ fn write_page<D: Disk>(disk: &mut D, layout: &Layout, place: Place) -> Result<()
 
 /// Makes of a page of zeros the one that a new store has at a place.
 #[tactic(auto, unfolding(crate::specs::FreshStore::unstarted_page))]
-fn fill_page(layout: &Layout, place: Place, page: &mut [u8])
+pub fn fill_page(layout: &Layout, place: Place, page: &mut [u8])
     requires { page.old ≡ replicate PAGE_SIZE 0 }
     ensures page { page.new ≡ fresh_page layout.now place }
     ensures whole { length page.new ≡ PAGE_SIZE }

@@ -14,6 +14,7 @@ use Rattle.disk_trait.specs.Told.{Told}
 use Rattle.block_model.specs.declared.place.Spot.{Spot}
 use Rattle.page_store.specs.Keeps.{Leaves}
 use Rattle.page_locks.specs.LockCounts.{locks_of}
+use Rattle.page_locks.specs.RightHolders.{right_of}
 use Rattle.row_versions.specs.declared.sessions.Open.{Open}
 use Rattle.row_versions.specs.StoredVersions.{transaction_of}
 use Rattle.brin_insert.specs.declared.insert.Insert.{Insert}
@@ -27,6 +28,7 @@ use Rattle.store_parts.specs.Shares.{share_of}
 use Rattle.store_parts.specs.StepIs.{hand_after}
 use Rattle.store_parts.specs.Stepping.{LeavesTheOthers, StaysFit}
 use Rattle.store_parts.specs.StoreLaws.{HandChanges}
+use Rattle.store_parts.specs.StoreStates.{dropped_in}
 use Rattle.store_parts.specs.UndoneLaws.{FitOfStores, FitsParts}
 
 pub stays_fit : {D : Type 0} (told : D → Told) (changes : HandChanges) (stores : FitOfStores told) (old new : Parts D) (n : ℕ) (hand : Hand) (answer : Stepped) → FitsParts told new n (hand_after answer)
@@ -37,6 +39,8 @@ pub record LeavesWith {D : Type 0} (told : D → Told) (old new : Parts D) (n : 
   pub leaves : Leaves told old.pages new.pages
   pub transactions : (m : ℕ) → m ≢ n → transaction_of new.transactions.opens m ≡ transaction_of old.transactions.opens m
   pub locks : (m : ℕ) → m ≢ n → locks_of new.locks m ≡ locks_of old.locks m
+  pub dropped : (m : ℕ) → m ≢ n → dropped_in new.dropped m ≡ dropped_in old.dropped m
+  pub rights : new.rights ≡ old.rights
   pub promised : new.journal.promised + share_of was (transaction_of old.transactions.opens n) ≡ old.journal.promised + share_of now (transaction_of new.transactions.opens n)
 
 pub leaves_others : {D : Type 0} (told : D → Told) (changes : HandChanges) (old new : Parts D) (n : ℕ) (hand : Hand) (answer : Stepped) → LeavesWith told old new n (Some hand) (hand_after answer)
@@ -45,6 +49,8 @@ leaves_others told changes old new n hand answer leaves = λ names hands has. re
   leaves = leaves.leaves;
   transactions = leaves.transactions;
   locks = leaves.locks;
+  dropped = leaves.dropped;
+  rights = λ m table apart holds. ap (λ (r : List (Option ℕ)). right_of r table) (sym leaves.rights) ∙ holds;
   promised =
       ap (λ (h : Option Hand). new.journal.promised + share_of h (transaction_of old.transactions.opens n)) has ∙ leaves.promised
       ∙ ap (λ (h : Option Hand). old.journal.promised + share_of h (transaction_of new.transactions.opens n)) (sym (changes hands n hand (hand_after answer) has).own);

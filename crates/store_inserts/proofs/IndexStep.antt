@@ -1,6 +1,5 @@
 -- a step of an insert in an index, as a step of the place that the store shows
-use Rattle.std.proofs.Common.{◌≡◌, ◌≢◌, ◌⊎◌, inl, inr, ℕ, ◌<◌, ◌≤◌, List, [], ◌∷◌, length, Option, None, Some, refl, sym, ap, subst, ◌∙◌, arith, ◌+◌}
-use Rattle.std.specs.Prelude.{slice_get}
+use Rattle.std.proofs.Common.{◌≡◌, ◌≢◌, inl, ℕ, false, ◌<◌, ◌≤◌, List, [], ◌∷◌, length, Option, None, Some, refl, sym, ap, subst, ◌∙◌, arith}
 use Rattle.std.specs.FinMap as finite
 use Rattle.std.proofs.lemmas.Option.{none-some, same_Some}
 use Rattle.block_model.specs.declared.place.Place.{Place as PagePlace}
@@ -10,14 +9,8 @@ use Rattle.block_model.specs.declared.reply.Point.TheVariants as points
 use Rattle.block_model.specs.declared.reply.Reply.TheVariants as replies
 use Rattle.block_model.specs.declared.request.Entry.{Entry}
 use Rattle.block_model.specs.declared.row.Row.{Row}
-use Rattle.block_model.specs.DatabaseState.{DatabaseState}
-use Rattle.block_model.specs.RequestEffect.{Answer, Inserted}
-use Rattle.block_model.specs.SerialRun.{IsLegal, serial_run}
-use Rattle.store_layout.specs.DiskLayout.{DiskLayout}
-use Rattle.page_layout.specs.PageContents.{Slot}
-use Rattle.page_store.specs.PageMap.{PageMap, block_at, page_at}
-use Rattle.page_locks.specs.declared.did.Did.{Did}
-use Rattle.page_locks.specs.declared.did.Did.TheVariants as did
+use Rattle.block_model.specs.RequestEffect.{Inserted}
+use Rattle.page_store.specs.PageMap.{block_at, page_at}
 use Rattle.page_locks.specs.LockHolders.{holder}
 use Rattle.page_locks.specs.RightHolders.{right_of}
 use Rattle.opened_pages.specs.PageOrder.{IsIndexInOrder}
@@ -26,53 +19,40 @@ use Rattle.heap_rows.specs.Heaps.{relation_of as heap_of}
 use Rattle.row_versions.specs.declared.sessions.Open.{Open}
 use Rattle.row_versions.specs.StoredVersions.{transaction_of}
 use Rattle.statements.specs.declared.limits.TheConstants.{MAX_ENTRIES}
-use Rattle.statements.specs.declared.statement.Statement.{Statement}
 use Rattle.statements.specs.declared.statement.Statement.TheVariants as statements
 use Rattle.snapshot_core.specs.declared.statuses.Status.{Status}
 use Rattle.tx_table.specs.Statuses.{status_relation}
 use Rattle.transactions.specs.CountedRows.{counts as counts_of}
-use Rattle.transactions.specs.Laws.{ShowAlike}
-use Rattle.transactions.specs.ShowsDatabase.{ShowsDatabase}
 use Rattle.transactions.specs.TransactionsState.{TransactionsState}
-use Rattle.coverage.specs.Statements.{OnIndex}
-use Rattle.range_tuple.specs.TupleBytes.{tuple_bytes}
 use Rattle.index_contents.specs.IndexContents.{index_page, relation_of as index_relation}
-use Rattle.table_coverage.specs.Accounts.{Account, no_account}
+use Rattle.table_coverage.specs.Accounts.{Account, Asked, no_account}
 use Rattle.table_coverage.specs.GoingOn.{IsInserting}
-use Rattle.table_coverage.specs.InOneIndex.{DoesAt}
 use Rattle.table_coverage.specs.Machines.{Unseen, table_state, task_turned}
-use Rattle.table_coverage.specs.Table.{Inserts, Resting, TableState, Task}
-use Rattle.table_coverage.specs.TableCovered.{IsTableKept}
-use Rattle.table_coverage.specs.TableSteps.{Settles}
+use Rattle.table_coverage.specs.Table.{Resting, TableState, Task}
 use Rattle.table_coverage.proofs.Views.{pick_other, pick_same}
-use Rattle.index_steps.specs.IndexTuples.{index_at, shape_of}
 use Rattle.index_steps.specs.ShownRows.{shown_by}
-use Rattle.index_steps.specs.ShownTable.{indexes_of}
 use Rattle.index_steps.specs.SwapAnswers.{LeavesLocks}
-use Rattle.line_texts.specs.Place.{Hand as HandAt, Place, database_at}
+use Rattle.line_texts.specs.Names.{dropped_of}
+use Rattle.line_texts.specs.Place.{Hand as HandAt, Place, accounts_at, database_at}
 use Rattle.line_texts.specs.Requests.{Course, MakesAll, NoneLeft}
 use Rattle.line_texts.specs.StatementSteps.{Ended, MakesAt, Moved, Steps, course_of}
+use Rattle.brin_insert.specs.AskedFor.{InsertAsks}
 use Rattle.brin_insert.specs.declared.insert.Insert.{Insert}
-use Rattle.brin_insert.specs.InsertAnswers.{InsertDid, InsertGoesTo, InsertStepped, account_of, heap_after, relation_at}
+use Rattle.brin_insert.specs.InsertAnswers.{AccountsCome, DoesWith, InsertGoesTo, relation_at}
 use Rattle.brin_insert.specs.InsertHands.{InsertHand}
-use Rattle.brin_insert.specs.InsertSteps.{on_index}
-use Rattle.brin_insert.specs.Inserts.{IsInsertFor, task_of, work_of}
-use Rattle.brin_insert.proofs.Numbers.{number_within, own_table}
-use Rattle.brin_insert.proofs.Outcomes.{index_next}
-use Rattle.brin_insert.proofs.Tasks.{number_there, task_is}
+use Rattle.brin_insert.specs.Inserts.{task_of}
 use Rattle.store_parts.specs.declared.hand.Hand.{Hand}
 use Rattle.store_parts.specs.declared.hand.Hand.TheVariants as hands
 use Rattle.store_parts.specs.Hands.{HandShows, put_answers}
+use Rattle.store_parts.specs.HandsAsk.{HandAsked, named_requests}
 use Rattle.store_parts.specs.HandsInTables.{IsTaskOf, table_in}
-use Rattle.store_parts.specs.LeadLaws.{NoRequestLeads, NothingLeavesSlots, SameCountsFew}
 use Rattle.store_parts.specs.Leaving.{IsRelationOf, LeavesOthers, LocksIn, StepsInTable}
-use Rattle.store_parts.specs.PlaceLaws.{TableStepIsShown}
-use Rattle.store_parts.specs.PlacesAfter.{TurnsIn, place_after, point_in}
+use Rattle.store_parts.specs.PlacesAfter.{TurnsAsking, place_after, place_asking, point_in}
 use Rattle.store_parts.specs.ShowsPlace.{IsOfTransaction, IsPlaceOf, IsRowOf, ShowsTable, is_put}
-use Rattle.store_parts.specs.StepLaws.{MachineTurns, TurnGoesOn, TurnReplies}
-use Rattle.store_parts.specs.StoreStates.{ShownStore, hand_in}
-use Rattle.store_parts.specs.TableLaws.{OwnTableGoesOn}
-use Rattle.store_inserts.proofs.AtIndex.{AtIndex, hand_here, in_table, insert_of, kept_here, on_there, own_relation, own_row_here, put_of, relation_here, shows_here, task_before, task_here, told_here}
+use Rattle.store_parts.specs.StoreStates.{ShownStore, dropped_in, hand_in}
+use Rattle.store_parts.proofs.Asks.{asked_are_named}
+use Rattle.store_inserts.proofs.Asking.{ComesOf, comes_so}
+use Rattle.store_inserts.proofs.AtIndex.{AtIndex, busy_before, hand_here, in_table, insert_of, kept_here, own_relation, own_row_here, put_of, relation_here, shows_here, task_here}
 use Rattle.store_inserts.proofs.Points.{IsPlain, index_point}
 use Rattle.store_inserts.specs.TakenLaws.{IndexLaws}
 
@@ -89,9 +69,11 @@ pub record InIndex (old new : ShownStore) (n : ℕ) (before after : Insert) (han
   pub transactions : new.transactions ≡ old.transactions
   pub rights : new.rights ≡ old.rights
   pub entries : new.entries ≡ old.entries
+  pub asks : InsertAsks old.layout old.pages before after old.queue new.queue
+  pub dropped : (m : ℕ) → m ≢ n → dropped_in new.dropped m ≡ dropped_in old.dropped m
   pub few : length old.entries ≤ MAX_ENTRIES
 
-pub put_shown : (insert : Insert) (r : Row) (x : Spot) (account : Account) → insert.place ≡ Some x → insert.row ≡ r → account ≡ no_account → HandShows (Some (hands.Inserts insert)) (Some (put_of r)) account
+pub put_shown : (insert : Insert) (r : Row) (x : Spot) (account : Account) → insert.place ≡ Some x → insert.row ≡ r → account ≡ record no_account { dropped = account.dropped } → HandShows (Some (hands.Inserts insert)) (Some (put_of r)) account
 put_shown insert r x account placed row tells =
     (put_of r, refl, ap insert_of (sym row), ap (λ (q : Row). Inserted q.id ∷ []) (sym row) ∙ ap (λ (o : Option Spot). put_answers o insert.row.id) (sym placed), tells)
 
@@ -119,19 +101,9 @@ not_pruned point plain is = subst IsPlain is plain
 pub is_no_work : (r : Row) → insert_of r ≢ statements.Work
 is_no_work r is = cc
 
--- the account of a session that is at work
-account_stays : (task : Task) (b k : ℕ) (r : Row) (at : ℕ) (on : OnIndex) (account : Account) → task ≡ Inserts b k r at on → account_of task account ≡ account
-account_stays task b k r at on account is = ap (λ (t : Task). account_of t account) is
-
-pub at_work : (b k : ℕ) (r : Row) (at : ℕ) (on : OnIndex) → Inserts b k r at on ≢ Resting
-at_work b k r at on is = cc
-
 module _ (old new : ShownStore) (n : ℕ) (before after : Insert) (hand : InsertHand) (x : Spot) (step : InIndex old new n before after hand x) where
   abbrev table : ℕ
   table = before.row.table
-
-  abbrev on : OnIndex
-  on = on_there old n before hand x step.at
 
   steps_in : ((other : ℕ) → table_in old.layout (hand_in new.hands n) ≡ Some other → other ≡ table) → StepsInTable n table old new
   steps_in then = record {
@@ -162,15 +134,15 @@ module _ (old new : ShownStore) (n : ℕ) (before after : Insert) (hand : Insert
     abbrev w : TableState
     w = table_state (shown_by old.layout old.pages old.locks table shows.blocks) u
 
-    at_task : u.task n ≡ Inserts x.block x.slot before.row before.at on
-    at_task = task_here old n before hand x step.at p shown ∙ task_before old n before hand x step.at
+    at_task : IsInserting (u.task n)
+    at_task = subst IsInserting (sym (task_here old n before hand x step.at p shown)) (busy_before old n before hand x step.at)
 
-    -- the account behind the step
+    -- the account behind the step, and the summaries that are asked for
+    come : ComesOf old n before after p shows.blocks new.queue
+    come = comes_so old n before after hand x step.at p shown shows.blocks new.queue step.asks
+
     abbrev account : Account
-    account = account_of (task_of old.layout before) (p.accounts n)
-
-    account_is : account ≡ no_account
-    account_is = account_stays (task_of old.layout before) x.block x.slot before.row before.at on (p.accounts n) (task_before old n before hand x step.at) ∙ told_here old n before hand x step.at p shown
+    account = come.account
 
     journal_is : new.entries ≡ p.journal
     journal_is = step.entries ∙ sym shown.journal
@@ -196,34 +168,39 @@ module _ (old new : ShownStore) (n : ℕ) (before after : Insert) (hand : Insert
       abbrev between : Task
       between = (goes u (task_here old n before hand x step.at p shown) (kept_here old n before hand x step.at p shown)).0
 
-      abbrev did_so : DoesAt n w (table_state (shown_by old.layout new.pages new.locks table shows.blocks) (task_turned n between u)) point (account_of (task_of old.layout before))
+      abbrev mid : TableState
+      mid = table_state (shown_by old.layout new.pages new.locks table shows.blocks) (task_turned n between u)
+
+      abbrev did_so : DoesWith n w mid point (AccountsCome n (shown_by old.layout old.pages old.locks table shows.blocks) (task_of old.layout before))
       did_so = (goes u (task_here old n before hand x step.at p shown) (kept_here old n before hand x step.at p shown)).1
 
       plain : IsPlain point
-      plain = index_point n w (table_state (shown_by old.layout new.pages new.locks table shows.blocks) (task_turned n between u)) point x.block x.slot before.row before.at on at_task did_so.does did_so.point_is
+      plain = index_point n w mid point at_task did_so.does did_so.point_is
 
       busy : u.task n ≢ Resting
-      busy rests = at_work x.block x.slot before.row before.at on (sym at_task ∙ rests)
+      busy = not_resting (u.task n) at_task
 
-      abbrev Turns : Type 0
-      Turns = (turns : TurnsIn p n (insert_of before.row) table v account) × (point_in turns ≡ Some point) × (turns.step.between ≡ table_state (shown_by old.layout new.pages new.locks table shows.blocks) (task_turned n between u))
+      abbrev Turns : List Asked → Type 0
+      Turns queue = (turns : TurnsAsking p n (insert_of before.row) table v account queue) × (point_in turns ≡ Some point) × (turns.step.between ≡ mid)
 
-      turns : Turns
-      turns = laws.machine p n table (insert_of before.row) w (table_state (shown_by old.layout new.pages new.locks table shows.blocks) (task_turned n between u)) v point (account_of (task_of old.layout before))
-          shows.shown shown.queue (is_no_work before.row) refl did_so (not_pruned point plain) (goes u (task_here old n before hand x step.at p shown) (kept_here old n before hand x step.at p shown)).2 (inl busy)
+      turns : Turns come.queue
+      turns = laws.machine p n table (insert_of before.row) w mid v point account come.queue
+          shows.shown (is_no_work before.row) refl did_so.does did_so.point_is (λ b has. did_so.adds (accounts_at p table) b (come.comes b has)) come.more (not_pruned point plain)
+          (goes u (task_here old n before hand x step.at p shown) (kept_here old n before hand x step.at p shown)).2 (inl busy)
 
       task_then : v.task n ≡ task_of old.layout after
       task_then = pick_same n (task_of old.layout after) (u.task n)
 
       -- so the store shows the place behind it, whatever the session has in hand then
-      abbrev Behind : Option HandAt → Type 0
-      Behind at = IsPlaceOf new (place_after p n table at v account (counts_of new.transactions stored) new.entries)
+      abbrev Behind : Option HandAt → List Asked → Type 0
+      Behind at queue = IsPlaceOf new (place_asking p n table at v account (counts_of new.transactions stored) new.entries queue)
 
       behind : (at : Option HandAt) → HandShows (hand_in new.hands n) at account
           → ((hand : Hand) → hand_in new.hands n ≡ Some hand → IsOfTransaction (transaction_of new.transactions.opens n) (finite.get (database_at p).sessions n) hand)
           → ((other : ℕ) → table_in old.layout (hand_in new.hands n) ≡ Some other → other ≡ table)
-          → IsTaskOf old.layout table shows.blocks new.transactions.tx stored (transaction_of new.transactions.opens n) (hand_in new.hands n) (then.task n) → Behind at
-      behind at hand_then own_then in_then is_at = laws.shown old new p n table at v account shown step.others (steps_in in_then)
+          → IsTaskOf old.layout table shows.blocks new.transactions.tx stored (transaction_of new.transactions.opens n) (hand_in new.hands n) (then.task n)
+          → dropped_in new.dropped n ≡ dropped_of old.layout account.dropped → HandAsked old.layout (hand_in new.hands n) account.dropped → Behind at come.queue
+      behind at hand_then own_then in_then is_at told asked = laws.shown old new p n table at v account come.queue shown step.others (steps_in in_then)
           (laws.few old new stored stored (λ t. ap (λ (s : TransactionsState). counts_of s stored t) step.transactions))
           (laws.leads laws.alike old new p n at account shown step.entries step.transactions same_statuses same_heaps (record { hand = hand_then; own = own_then; order = step.order }))
           (laws.own old new stored n table (p.tables table) v then shows.blocks shows step.others turns.0.step refl has
@@ -231,40 +208,48 @@ module _ (old new : ShownStore) (n : ℕ) (before after : Insert) (hand : Insert
           (λ t. shows.counts t ∙ ap (λ (s : TransactionsState). counts_of s stored t) (sym step.transactions))
           (λ m other. pick_other m n (task_of old.layout after) (u.task m) other)
           is_at (laws.slots old stored n shows.blocks))
+          (record { requests = come.requests; told = told; others = step.dropped; hand = asked })
 
       -- it goes on
-      module _ (now : hand_in new.hands n ≡ Some (hands.Inserts after)) (inserting : IsInserting (task_of old.layout after)) where
-        goes_shown : Behind (Some (put_of before.row))
+      module _ (now : hand_in new.hands n ≡ Some (hands.Inserts after)) (inserting : IsInserting (task_of old.layout after)) (named : dropped_in new.dropped n ≡ named_requests old.layout after.dropped.items) where
+        goes_shown : Behind (Some (put_of before.row)) come.queue
         goes_shown = behind (Some (put_of before.row))
-            (subst (λ (h : Option Hand). HandShows h (Some (put_of before.row)) account) (sym now) (put_shown after before.row x account step.still step.row account_is))
+            (subst (λ (h : Option Hand). HandShows h (Some (put_of before.row)) account) (sym now) (put_shown after before.row x account step.still step.row come.tells))
             (λ h is. subst (λ (h : Hand). IsOfTransaction (transaction_of new.transactions.opens n) (finite.get (database_at p).sessions n) h) (same_Some (hands.Inserts after) h (sym now ∙ is)) row_then)
             (λ other is. same_Some other table (sym is ∙ ap (table_in old.layout) now ∙ ap (λ (r : Row). Some r.table) step.row))
             (subst (λ (h : Option Hand). IsTaskOf old.layout table shows.blocks new.transactions.tx stored (transaction_of new.transactions.opens n) h (then.task n)) (sym now)
             ((λ own. task_then), (λ apart. absurd (apart (ap (λ (r : Row). r.table) step.row)))))
+            (named ∙ asked_are_named old.layout after.dropped.items account.dropped come.asked)
+            (subst (λ (h : Option Hand). HandAsked old.layout h account.dropped) (sym now) come.asked)
           where
             row_then : IsRowOf (transaction_of new.transactions.opens n) (is_put after.place) after.row.id.t after.row.id.k
             row_then = row_stays (transaction_of old.transactions.opens n) (transaction_of new.transactions.opens n) before after (ap (λ (s : TransactionsState). transaction_of s.opens n) step.transactions) (step.still ∙ sym step.at.placed) step.row (own_row_here old n before hand x step.at p shown)
 
         pub goes_on : (q : Place) × IsPlaceOf new q × Steps p n (Moved point) q
         goes_on = (
-          place_after p n table (Some (put_of before.row)) v account (counts_of new.transactions stored) new.entries,
+          place_asking p n table (Some (put_of before.row)) v account (counts_of new.transactions stored) new.entries come.queue,
           goes_shown,
           record {
             hand = put_of before.row;
             in_hand = hand_here old n before hand x step.at p shown;
-            steps = laws.goes p n table (put_of before.row) v account (counts_of new.transactions stored) point course turns.0 turns.1 (not_resting (v.task n) (subst IsInserting (sym task_then) inserting)) (plain_enters point p n (put_of before.row) course plain course_is);
+            steps = laws.goes p n table (put_of before.row) v account come.queue (counts_of new.transactions stored) point course turns.0 turns.1 (not_resting (v.task n) (subst IsInserting (sym task_then) inserting)) (plain_enters point p n (put_of before.row) course plain course_is);
             fits = fits;
           },
         )
 
       -- it is done
-      module _ (now : hand_in new.hands n ≡ None) (rests : task_of old.layout after ≡ Resting) where
-        done_shown : Behind None
-        done_shown = behind None
-            (subst (λ (h : Option Hand). HandShows h None account) (sym now) (refl, ap (λ (a : Account). a.dropped) account_is))
+      module _ (now : hand_in new.hands n ≡ None) (rests : task_of old.layout after ≡ Resting) (silent : before.asking ≡ false) (kept : dropped_in new.dropped n ≡ dropped_in old.dropped n) where
+        done_shown : Behind None p.queue
+        done_shown = subst (Behind None) (come.silent silent).0 (behind None
+            (subst (λ (h : Option Hand). HandShows h None account) (sym now) refl)
             (λ h is. absurd (none-some h (sym now ∙ is)))
             (λ other is. absurd (none-some other (ap (table_in old.layout) (sym now) ∙ is)))
             (subst (λ (h : Option Hand). IsTaskOf old.layout table shows.blocks new.transactions.tx stored (transaction_of new.transactions.opens n) h (then.task n)) (sym now) (task_then ∙ rests))
+            (kept ∙ shown.told n ∙ ap (λ (a : Account). dropped_of old.layout a.dropped) (sym (come.silent silent).1))
+            (subst (λ (h : Option Hand). HandAsked old.layout h account.dropped) (sym now) tt))
+
+        turns_done : Turns p.queue
+        turns_done = subst Turns (come.silent silent).0 turns
 
         pub is_done : (q : Place) × IsPlaceOf new q × Steps p n (Ended (replies.Inserted before.row.id)) q
         is_done = (
@@ -273,7 +258,7 @@ module _ (old new : ShownStore) (n : ℕ) (before after : Insert) (hand : Insert
           record {
             hand = put_of before.row;
             in_hand = hand_here old n before hand x step.at p shown;
-            steps = laws.replies p n table (put_of before.row) v account (counts_of new.transactions stored) point course (replies.Inserted before.row.id) turns.0 turns.1 (task_then ∙ rests)
+            steps = laws.replies p n table (put_of before.row) v account (counts_of new.transactions stored) point course (replies.Inserted before.row.id) turns_done.0 turns_done.1 (task_then ∙ rests)
                 (subst (λ (c : Course). MakesAll p.opening n (insert_of before.row) (course_of p (put_of before.row)) c) (sym course_is) (NoneLeft (course_of p (put_of before.row)) refl)) refl;
             fits = fits;
           },

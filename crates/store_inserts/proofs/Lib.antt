@@ -2,12 +2,14 @@ pub mod Points
 pub mod Opens
 pub mod NextRow
 pub mod AtIndex
+pub mod Asking
 pub mod IndexStep
 pub mod StaysHere
 pub mod Refused
 pub mod FullIndex
 pub mod RowStep
 pub mod Beside
+pub mod FewDropped
 pub mod OnParts
 pub mod Refusing
 pub mod RowRefused

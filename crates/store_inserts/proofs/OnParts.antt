@@ -1,8 +1,7 @@
 -- a later step of an insert, over the parts of a store
-use Rattle.std.proofs.Common.{◌≡◌, ◌≢◌, ℕ, ◌+◌, ◌<◌, ◌≤◌, List, [], ◌∷◌, length, Option, None, Some, Ok, refl, sym, ap, subst, ◌∙◌, arith}
+use Rattle.std.proofs.Common.{◌≡◌, ◌≢◌, inl, ℕ, false, ◌+◌, ◌<◌, ◌≤◌, List, length, Option, None, Some, refl, sym, ap, subst, ◌∙◌, arith}
 use Rattle.std.specs.Prelude.{IfSome, IsSome, slice_get}
 use Rattle.disk_trait.specs.Told.{Told}
-use Rattle.block_model.specs.declared.place.Place.{Place as PagePlace}
 use Rattle.block_model.specs.declared.place.Spot.{Spot}
 use Rattle.block_model.specs.declared.reply.Point.{Point}
 use Rattle.block_model.specs.declared.reply.Reply.TheVariants as replies
@@ -11,7 +10,7 @@ use Rattle.block_model.specs.declared.reply.What.TheVariants as whats
 use Rattle.block_model.specs.declared.row.Row.{Row}
 use Rattle.store_layout.specs.DiskLayout.{DiskLayout}
 use Rattle.page_layout.specs.PageContents.{Slot}
-use Rattle.page_store.specs.Keeps.{Keeps, Leaves, Tells}
+use Rattle.page_store.specs.Keeps.{Keeps, Tells}
 use Rattle.page_store.specs.PageMap.{PageMap, View, page_at}
 use Rattle.page_locks.specs.declared.did.Did.{Did}
 use Rattle.page_locks.specs.declared.did.Did.TheVariants as did
@@ -30,10 +29,9 @@ use Rattle.index_order.specs.KeepsOrder.{KeepsOrder}
 use Rattle.index_steps.specs.ShownRows.{shown_by}
 use Rattle.index_steps.specs.ShownTable.{indexes_of}
 use Rattle.index_steps.specs.SwapAnswers.{LeavesLocks, TakesAtMost}
-use Rattle.table_coverage.specs.Table.{Resting}
-use Rattle.line_texts.specs.Place.{Place}
 use Rattle.brin_insert.specs.declared.insert.Insert.{Insert}
-use Rattle.brin_insert.specs.InsertAnswers.{BlockedOn, InsertDid, InsertStepped, IsLeftBy, LeavesOtherRelations, StandsPlaced, heap_after, relation_at}
+use Rattle.brin_insert.specs.InsertAnswers.{BlockedOn, InsertDid, InsertStepped, LeavesOtherRelations, StandsPlaced, heap_after, relation_at}
+use Rattle.brin_insert.specs.AskedFor.{InsertAsks}
 use Rattle.brin_insert.specs.InsertHands.{InsertHand}
 use Rattle.brin_insert.specs.InsertLocks.{held_by, stage_at, stage_of, taken_by}
 use Rattle.brin_insert.specs.declared.stage.Stage.TheVariants as stages
@@ -47,19 +45,18 @@ use Rattle.store_parts.specs.declared.hand.Hand.{Hand}
 use Rattle.store_parts.specs.declared.hand.Hand.TheVariants as hands
 use Rattle.store_parts.specs.declared.hand.Stepped.{Stepped}
 use Rattle.store_parts.specs.declared.hand.Stepped.TheVariants as stepped
-use Rattle.store_parts.specs.declared.limits.TheConstants.{MAX_LOCKS}
 use Rattle.store_parts.specs.declared.parts.Parts.{Parts}
 use Rattle.store_parts.specs.Hands.{statement_of}
 use Rattle.store_parts.specs.Shares.{share_of}
 use Rattle.store_parts.specs.StepIs.{hand_after}
-use Rattle.store_parts.specs.HandFits.{FitsHand, IsHandFor, IsOwnRow, IsUnderWay, locks_held}
+use Rattle.store_parts.specs.HandFits.{FitsHand, IsHandFor, IsOwnRow, locks_held}
 use Rattle.store_parts.specs.Leaving.{LeavesOthers}
-use Rattle.store_parts.specs.ShowsPlace.{IsPlaceOf}
 use Rattle.store_parts.specs.StepAnswers.{StaysReady}
 use Rattle.store_parts.specs.Stepping.{IsFit, LeavesTheOthers}
 use Rattle.store_parts.specs.StoreLaws.{HandChanges}
-use Rattle.store_parts.specs.StoreStates.{ShownStore, hand_in, shown_of, store_of, with_hand}
+use Rattle.store_parts.specs.StoreStates.{ShownStore, dropped_in, hand_in, shown_of, store_of, with_hand}
 use Rattle.store_parts.specs.UndoneLaws.{FitOfParts, FitOfStores, FitsParts, StepsSo}
+use Rattle.reply_texts.specs.declared.dropped.Dropped.{Dropped}
 use Rattle.store_inserts.proofs.AtIndex.{AtIndex, insert_of, number_here, shows_here}
 use Rattle.store_inserts.proofs.Beside.{AtWork, at_work_of, leaves_others, stays_fit}
 use Rattle.store_inserts.proofs.IndexStep.{InIndex, goes_on, is_done}
@@ -71,7 +68,8 @@ use Rattle.transactions.specs.Laws.{ShowAlike}
 use Rattle.block_model.specs.declared.reply.Refusal.TheVariants as refusals
 use Rattle.line_texts.specs.Names.{index_name, name_of}
 use Rattle.line_texts.specs.StatementSteps.{Steps, Waits}
-use Rattle.std.proofs.lemmas.Option.{same_Some}
+use Rattle.std.proofs.lemmas.Option.{none-some, same_Some}
+use Rattle.store_parts.proofs.HeldLocks.{holder_has_lock}
 use Rattle.block_model.specs.declared.reply.Reply.{Reply}
 use Rattle.block_model.specs.declared.request.Entry.{Entry}
 use Rattle.block_model.specs.declared.request.Request.TheVariants as requests
@@ -84,6 +82,7 @@ use Rattle.brin_insert.specs.declared.stage.Stage.{Stage}
 use Rattle.brin_insert.specs.InsertAnswers.{IsInsertFull, SaysInsertFull}
 use Rattle.line_texts.specs.StatementSteps.{Ended}
 use Rattle.store_parts.specs.declared.faults.StoreFault.TheVariants as stops
+use Rattle.store_parts.specs.HandsAsk.{named_requests}
 use Rattle.store_parts.specs.HandsInTables.{table_in}
 use Rattle.store_parts.specs.JournalState.{JournalState}
 use Rattle.store_inserts.proofs.FullIndex.{index_lacks_room, index_refused}
@@ -134,10 +133,10 @@ pub waited_there : (layout other : DiskLayout) → other ≡ layout → (index :
 waited_there layout other same index block what named table at there =
     subst (λ (l : DiskLayout). slice_get (indexes_of l table) at ≡ Some index → what ≡ whats.Page (index_name l table at) block) same (named table at) there
 
-module _ {D : Type 0} (told : D → Told) (changes : HandChanges) (of_parts : FitOfParts told) (of_stores : FitOfStores told) (parts : Parts D) (pages : View D) (locks : LockState) (n : ℕ) (before after : Insert)
-    (fit : IsFit told parts n (hands.Inserts before)) (left : MachineLeft told parts pages locks n before after) where
+module _ {D : Type 0} (told : D → Told) (changes : HandChanges) (of_parts : FitOfParts told) (of_stores : FitOfStores told) (parts : Parts D) (pages : View D) (locks : LockState) (n : ℕ) (queue : List (ℕ × ℕ)) (dropped : List (List Dropped)) (before after : Insert)
+    (fit : IsFit told parts n (hands.Inserts before)) (left : MachineLeft told parts pages locks n before after) (kept_others : (m : ℕ) → m ≢ n → dropped_in dropped m ≡ dropped_in parts.dropped m) where
   abbrev new : Parts D
-  new = record parts { pages = pages; locks = locks }
+  new = record parts { pages = pages; locks = locks; queue = queue; dropped = dropped }
 
   pub fits : FitsParts told parts n (Some (hands.Inserts before))
   fits = of_parts parts n (hands.Inserts before) fit
@@ -162,6 +161,7 @@ module _ {D : Type 0} (told : D → Told) (changes : HandChanges) (of_parts : Fi
     in_hand = subst (λ (l : DiskLayout). FitsHand l (transaction_of parts.transactions.opens n) h) (sym left.others.leaves.layout) in_hand;
     limit = left.counts.limit ∙ fits.limit;
     own = own;
+    held = λ table holds. absurd (none-some table (fits.held table holds));
     rights = fits.rights ∙ ap (λ (l : DiskLayout). length l.schema.tables) (sym left.others.leaves.layout);
     entries = fits.entries;
     share = let more = fits.share in omega (arith, more, share);
@@ -176,6 +176,8 @@ module _ {D : Type 0} (told : D → Told) (changes : HandChanges) (of_parts : Fi
     leaves = left.others.leaves;
     transactions = λ m other. refl;
     locks = λ m other. left.counts.adds.others m other;
+    dropped = kept_others;
+    rights = refl;
     promised = ap (λ (s : ℕ). parts.journal.promised + s) share;
   })
 
@@ -204,8 +206,8 @@ module _ {D : Type 0} (told : D → Told) (changes : HandChanges) (of_parts : Fi
       opens = λ m other. refl;
     }
 
-    in_index : Tells told parts.pages → after.place ≡ Some work.x → (h : Option Hand) → InIndex before_it (after_it h) n before after work.hand work.x
-    in_index tells still h = record {
+    in_index : Tells told parts.pages → InsertAsks parts.pages.layout parts.pages.pages before after parts.queue queue → after.place ≡ Some work.x → (h : Option Hand) → InIndex before_it (after_it h) n before after work.hand work.x
+    in_index tells asks still h = record {
       at = at_index;
       still = still;
       row = left.row;
@@ -216,6 +218,8 @@ module _ {D : Type 0} (told : D → Told) (changes : HandChanges) (of_parts : Fi
       transactions = refl;
       rights = refl;
       entries = refl;
+      asks = asks;
+      dropped = kept_others;
       few = fits.entries;
     }
 
@@ -241,16 +245,17 @@ module _ {D : Type 0} (told : D → Told) (changes : HandChanges) (of_parts : Fi
 
   -- it goes on
   pub moved_so : IndexLaws → (point : Point) → OfBlocks told parts.pages before.row.table (InsertStepped parts.pages.layout parts.pages.pages pages.pages parts.locks locks n before after (did.Moved point))
-      → HasStepLeft after → StandsPlaced before.place after.place → locks_of locks n ≤ held_by (stage_of after)
+      → HasStepLeft after → StandsPlaced before.place after.place → locks_of locks n ≤ held_by (stage_of after) → dropped_in dropped n ≡ named_requests parts.pages.layout after.dropped.items
+      → (Tells told parts.pages → InsertAsks parts.pages.layout parts.pages.pages before after parts.queue queue)
       → StepsSo told parts new n (hands.Inserts before) (stepped.Moved point (hands.Inserts after))
   unfolding in_index at_index
-  moved_so laws point stepped_so step_left placed own = record {
+  moved_so laws point stepped_so step_left placed own named asks = record {
     steps = λ names hand_list has tells ready then p shown.
         let at = at_index names hand_list has in
         let shows = shows_here (before_it names hand_list has) n before work.hand work.x at p shown in
         let it = came (did.Moved point) stepped_so tells shows.blocks shows.has in
-        goes_on (before_it names hand_list has) (after_it names hand_list has (Some (hands.Inserts after))) n before after work.hand work.x (in_index names hand_list has tells (still_there placed) (Some (hands.Inserts after))) p shown
-        point it.0 (has_then (did.Moved point) stepped_so tells shows.blocks shows.has) laws (now_has names hand_list has (Some (hands.Inserts after))) it.1;
+        goes_on (before_it names hand_list has) (after_it names hand_list has (Some (hands.Inserts after))) n before after work.hand work.x (in_index names hand_list has tells (asks tells) (still_there placed) (Some (hands.Inserts after))) p shown
+        point it.0 (has_then (did.Moved point) stepped_so tells shows.blocks shows.has) laws (now_has names hand_list has (Some (hands.Inserts after))) it.1 named;
     fit = stays_fit told changes of_stores parts new n (hands.Inserts before) (stepped.Moved point (hands.Inserts after)) (fits_then (Some (hands.Inserts after)) (in_hand_then step_left (placed_then placed)) own refl);
     others = others_so (stepped.Moved point (hands.Inserts after)) refl;
     stays = λ names hand_list has. same_statement;
@@ -259,16 +264,17 @@ module _ {D : Type 0} (told : D → Told) (changes : HandChanges) (of_parts : Fi
 
   -- it is done
   pub done_so : IndexLaws → (point : Point) → OfBlocks told parts.pages before.row.table (InsertStepped parts.pages.layout parts.pages.pages pages.pages parts.locks locks n before after (did.Finished point))
-      → StandsPlaced before.place after.place → locks_of locks n ≤ 0
+      → StandsPlaced before.place after.place → locks_of locks n ≤ 0 → before.asking ≡ false → dropped ≡ parts.dropped
+      → (Tells told parts.pages → InsertAsks parts.pages.layout parts.pages.pages before after parts.queue queue)
       → StepsSo told parts new n (hands.Inserts before) (stepped.Done (replies.Inserted before.row.id))
   unfolding in_index at_index
-  done_so laws point stepped_so placed own = record {
+  done_so laws point stepped_so placed own silent kept asks = record {
     steps = λ names hand_list has tells ready then p shown.
         let at = at_index names hand_list has in
         let shows = shows_here (before_it names hand_list has) n before work.hand work.x at p shown in
         let it = came (did.Finished point) stepped_so tells shows.blocks shows.has in
-        is_done (before_it names hand_list has) (after_it names hand_list has None) n before after work.hand work.x (in_index names hand_list has tells (still_there placed) None) p shown
-        point it.0 (has_then (did.Finished point) stepped_so tells shows.blocks shows.has) laws (now_has names hand_list has None) it.1;
+        is_done (before_it names hand_list has) (after_it names hand_list has None) n before after work.hand work.x (in_index names hand_list has tells (asks tells) (still_there placed) None) p shown
+        point it.0 (has_then (did.Finished point) stepped_so tells shows.blocks shows.has) laws (now_has names hand_list has None) it.1 silent (ap (λ (l : List (List Dropped)). dropped_in l n) kept);
     fit = stays_fit told changes of_stores parts new n (hands.Inserts before) (stepped.Done (replies.Inserted before.row.id)) (fits_then None tt own refl);
     others = others_so (stepped.Done (replies.Inserted before.row.id)) refl;
     stays = λ names hand_list has. tt;
@@ -276,10 +282,10 @@ module _ {D : Type 0} (told : D → Told) (changes : HandChanges) (of_parts : Fi
   }
 
   -- nothing changed but the machine
-  stays_here : (names : List (List ℕ)) (hand_list : List (Option Hand)) (has : hand_in hand_list n ≡ Some (hands.Inserts before)) → Tells told parts.pages → after.place ≡ Some work.x
+  stays_here : queue ≡ parts.queue → dropped ≡ parts.dropped → after.dropped.items ≡ before.dropped.items → (names : List (List ℕ)) (hand_list : List (Option Hand)) (has : hand_in hand_list n ≡ Some (hands.Inserts before)) → Tells told parts.pages → after.place ≡ Some work.x
       → task_of parts.pages.layout after ≡ task_of parts.pages.layout before → locks ≡ parts.locks → pages.pages ≡ parts.pages.pages
       → StaysHere (before_it names hand_list has) (after_it names hand_list has (Some (hands.Inserts after))) n before after work.hand work.x
-  stays_here names hand_list has tells still task same_locks same_pages = record {
+  stays_here same_queue kept same_dropped names hand_list has tells still task same_locks same_pages = record {
     at = at_index names hand_list has;
     still = still;
     row = left.row;
@@ -292,28 +298,32 @@ module _ {D : Type 0} (told : D → Told) (changes : HandChanges) (of_parts : Fi
     transactions = refl;
     rights = refl;
     entries = refl;
+    queue = same_queue;
+    dropped = kept;
+    same_dropped = same_dropped;
   }
 
   -- it waits
   pub waits_so : TurnWaits → PlaceStaysShown → NoRequestLeads → ShowAlike → (held : Held) → OfBlocks told parts.pages before.row.table (InsertStepped parts.pages.layout parts.pages.pages pages.pages parts.locks locks n before after (did.Blocked held))
       → HasStepLeft after → StandsPlaced before.place after.place → BlockedOn told (relation_at parts.pages.layout before) n parts.pages pages parts.locks locks (did.Blocked held) → locks_of locks n ≤ held_by (stage_of after)
+      → queue ≡ parts.queue → dropped ≡ parts.dropped → after.dropped.items ≡ before.dropped.items
       → (index : ℕ) → IfSome (work_of before) (λ (h : InsertHand). index ≡ h.index)
       → (what : What) → ((table at : ℕ) → slice_get (indexes_of parts.pages.layout table) at ≡ Some index → what ≡ whats.Page (index_name parts.pages.layout table at) held.page.block)
       → StepsSo told parts new n (hands.Inserts before) (stepped.Blocked what held.by (hands.Inserts after))
   unfolding in_index at_index
-  waits_so law stays leads alike held stepped_so step_left placed blocked own index is what named = record {
+  waits_so law stays leads alike held stepped_so step_left placed blocked own same_queue kept same_dropped index is what named = record {
     steps = λ names hand_list has tells ready then p shown.
         let at = at_index names hand_list has in
         let shows = shows_here (before_it names hand_list has) n before work.hand work.x at p shown in
         let it = came (did.Blocked held) stepped_so tells shows.blocks shows.has in (
           p,
-          stays_shown (before_it names hand_list has) (after_it names hand_list has (Some (hands.Inserts after))) n before after work.hand work.x (stays_here names hand_list has tells (still_there placed) (it.1) blocked.3 (blocked.4.pages tells)) p shown stays leads alike,
+          stays_shown (before_it names hand_list has) (after_it names hand_list has (Some (hands.Inserts after))) n before after work.hand work.x (stays_here same_queue kept same_dropped names hand_list has tells (still_there placed) (it.1) blocked.3 (blocked.4.pages tells)) p shown stays leads alike,
           subst (λ (w : What). Steps p n (Waits (refusals.Blocked w (name_of p held.by))) p) (sym (named before.row.table before.at (number_here (before_it names hand_list has) n before work.hand work.x at ∙ ap Some (sym (subst (λ (o : Option InsertHand). IfSome o (λ (h : InsertHand). index ≡ h.index)) work.got is)))))
               (is_waiting law (before_it names hand_list has) n before work.hand work.x at p shown held.page held.by it.0 blocked.0 blocked.1 fits.entries),
         );
     fit = stays_fit told changes of_stores parts new n (hands.Inserts before) (stepped.Blocked what held.by (hands.Inserts after)) (fits_then (Some (hands.Inserts after)) (in_hand_then step_left (placed_then placed)) own refl);
     others = others_so (stepped.Blocked what held.by (hands.Inserts after)) refl;
-    stays = λ names hand_list has. (record { pages = blocked.4; transactions = refl; locks = blocked.3; rights = refl; journal = refl }, same_statement);
+    stays = λ names hand_list has. (record { pages = blocked.4; transactions = refl; locks = blocked.3; rights = refl; journal = refl; queue = same_queue; dropped = kept }, same_statement, (blocked.2, inl (holder_has_lock parts.locks held.page held.by blocked.1)));
     cause = left.ready;
   }
 
@@ -321,15 +331,15 @@ module _ {D : Type 0} (told : D → Told) (changes : HandChanges) (of_parts : Fi
   pub spent_so : IndexLaws → RefusalLaws → (relation_told number : ℕ)
       → SaysInsertFull (relation_at parts.pages.layout before) (λ (number : ℕ). OfBlocks told parts.pages before.row.table (λ (blocks : List (List Slot)). IsInsertFull n before.at (shown_by parts.pages.layout parts.pages.pages parts.locks before.row.table blocks) (task_of parts.pages.layout before) number)) (faults.Full relation_told number)
       → after.place ≡ before.place → HasStepLeft after → task_of parts.pages.layout after ≡ task_of parts.pages.layout before → stage_of after ≡ stage_of before → locks ≡ parts.locks → Keeps told parts.pages pages
-      → (entries : ℕ) → entries ≡ length parts.journal.entries → MAX_ENTRIES ≤ length parts.journal.entries
+      → queue ≡ parts.queue → dropped ≡ parts.dropped → after.dropped.items ≡ before.dropped.items → (entries : ℕ) → entries ≡ length parts.journal.entries → MAX_ENTRIES ≤ length parts.journal.entries
       → StepsSo told parts new n (hands.Inserts before) (stepped.Undone (stops.Spent entries) (hands.Inserts after))
   unfolding in_index at_index
-  spent_so laws refusals_laws relation_told number says place step_left task stage same_locks keeps entries entries_is full = record {
+  spent_so laws refusals_laws relation_told number says place step_left task stage same_locks keeps same_queue kept same_dropped entries entries_is full = record {
     steps = λ names hand_list has tells ready afterwards p shown.
         let at = at_index names hand_list has in
         let shows = shows_here (before_it names hand_list has) n before work.hand work.x at p shown in (
           p,
-          stays_shown (before_it names hand_list has) (after_it names hand_list has (Some (hands.Inserts after))) n before after work.hand work.x (stays_here names hand_list has tells (place ∙ work.placed) task same_locks (keeps.pages tells)) p shown laws.stays laws.leads laws.alike,
+          stays_shown (before_it names hand_list has) (after_it names hand_list has (Some (hands.Inserts after))) n before after work.hand work.x (stays_here same_queue kept same_dropped names hand_list has tells (place ∙ work.placed) task same_locks (keeps.pages tells)) p shown laws.stays laws.leads laws.alike,
           (
             index_lacks_room refusals_laws.insert (before_it names hand_list has) n before work.hand work.x at p shown number (says.1 tells shows.blocks shows.has) refusals_laws.refused
                 (subst (λ (l : List Entry). MAX_ENTRIES ≤ length l) (sym shown.journal) full),
@@ -340,7 +350,7 @@ module _ {D : Type 0} (told : D → Told) (changes : HandChanges) (of_parts : Fi
     fit = stays_fit told changes of_stores parts new n (hands.Inserts before) (stepped.Undone (stops.Spent entries) (hands.Inserts after))
         (fits_then (Some (hands.Inserts after)) (in_hand_then step_left (subst (λ (o : Option Spot). IsSome o) (sym place) fits.in_hand.3)) own refl);
     others = others_so (stepped.Undone (stops.Spent entries) (hands.Inserts after)) refl;
-    stays = λ names hand_list has. (record { pages = keeps; transactions = refl; locks = same_locks; rights = refl; journal = refl }, same_statement);
+    stays = λ names hand_list has. (record { pages = keeps; transactions = refl; locks = same_locks; rights = refl; journal = refl; queue = same_queue; dropped = kept }, same_statement);
     cause = left.ready;
   }
     where
@@ -386,6 +396,8 @@ module _ {D : Type 0} (told : D → Told) (changes : HandChanges) (of_parts : Fi
         failed = refused.failed;
         entries = refused.entries;
         room = refused.room;
+        queue = refl;
+        dropped = refl;
         now = (changes hand_list n (hands.Inserts before) None has).own;
         below = fits.in_hand.1.table;
         was_in = λ other is. same_Some other before.row.table (sym is ∙ ap (table_in parts.pages.layout) has);

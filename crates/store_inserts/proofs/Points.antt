@@ -1,5 +1,5 @@
 -- the name of a step of an insert, and where it comes
-use Rattle.std.proofs.Common.{◌≡◌, ◌⊎◌, inl, inr, ⊎_elim, ℕ, Bool, true, false, Option, None, Some, refl, sym, ap, subst, ◌∙◌}
+use Rattle.std.proofs.Common.{◌≡◌, ⊎_elim, ℕ, Bool, true, false, None, Some, refl, sym, ap, subst, ◌∙◌}
 use Rattle.std.proofs.lemmas.Bool.{false≢true}
 use Rattle.std.proofs.lemmas.Option.{none-some, same_Some}
 use Rattle.block_model.specs.declared.reply.Point.{Point}
@@ -9,7 +9,8 @@ use Rattle.coverage.specs.IndexView.{IndexView}
 use Rattle.coverage.specs.Points.{insert_point, on_index_point}
 use Rattle.coverage.specs.Statements.{OnIndex, Statement}
 use Rattle.coverage.specs.Steps.{Again, Gone, InsertCopies, InsertDrop, InsertNoEntry, InsertOnIndex, InsertSet, InsertStep, InsertSwap, InsertUnchanged, Maps, MovePut, OnIndexStep}
-use Rattle.table_coverage.specs.Table.{Inserts, Reaches, Resting, TableState, Task}
+use Rattle.table_coverage.specs.GoingOn.{IsInserting}
+use Rattle.table_coverage.specs.Table.{Asks, Inserts, Reaches, Resting, TableState, Task}
 use Rattle.table_coverage.specs.TablePoints.{does_point}
 use Rattle.table_coverage.specs.TableSteps.{AsksSummary, BeginsScan, Blocked, Conflicts, Does, InsertCompletes, InsertGoes, Judges, MaintainCompletes, MaintainGoes, MarksRow, PrunesBlock, PutsRow, ReadsBlock, RefusesInsert, RefusesMaintain, RefusesRow, RefusesScan, RefusesVacuum, RestartsIndex, SweepsPage, TakesLock, Transacts}
 
@@ -36,23 +37,29 @@ insert_plain (InsertSet x y old new sets same) = tt
 insert_plain (InsertDrop x drops) = tt
 
 abbrev pub is_at_index : Task → Bool
+is_at_index (Asks b k r at) = true
 is_at_index (Inserts b k r at on_index) = true
 is_at_index task = false
+
+inserts_there : (task : Task) → IsInserting task → is_at_index task ≡ true
+inserts_there (Asks b k r at) inserting = refl
+inserts_there (Inserts b k r at on_index) inserting = refl
+inserts_there task inserting = absurd inserting
 
 abbrev is_resting : Task → Bool
 is_resting Resting = true
 is_resting task = false
 
 module _ (s : ℕ) (w v : TableState) (point : Point) where
-  module _ (b k : ℕ) (r : Row) (at : ℕ) (on : OnIndex) (was : w.task s ≡ Inserts b k r at on) where
+  module _ (was : IsInserting (w.task s)) where
     not_there : (task : Task) → w.task s ≡ task → is_at_index task ≡ false → ⊥
-    not_there task is other = false≢true (sym other ∙ ap is_at_index (sym is ∙ was))
+    not_there task is other = false≢true (sym other ∙ ap is_at_index (sym is) ∙ inserts_there (w.task s) was)
 
     -- at an index
     pub index_point : (does : Does s w v) → does_point s w v does ≡ Some point → IsPlain point
     index_point (PutsRow c j q place turns takes) is = absurd (not_there _ turns.was refl)
     index_point (RefusesRow t refused turns fails) is = absurd (none-some _ is)
-    index_point (AsksSummary c j q i turns only) is = absurd (not_there _ turns.was refl)
+    index_point (AsksSummary c j q i turns only) is = subst IsPlain (same_Some _ _ is) tt
     index_point (InsertGoes c j q i old new turns stepped step) is = subst IsPlain (same_Some _ _ is) (insert_plain step)
     index_point (InsertCompletes c j q i old turns stepped step) is = subst IsPlain (same_Some _ _ is) (insert_plain step)
     index_point (RefusesInsert c j q old refused turns fails) is = absurd (none-some _ is)

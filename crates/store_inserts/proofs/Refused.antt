@@ -1,23 +1,20 @@
 -- an insert that is refused, as a step of the place that the store shows
-use Rattle.std.proofs.Common.{◌≡◌, ◌≢◌, ◌⊎◌, inl, inr, ℕ, ◌+◌, ◌<◌, ◌≤◌, Bool, true, false, not, List, [], ◌∷◌, ◌++◌, length, Option, None, Some, refl, sym, ap, subst, ◌∙◌, arith, length-append}
-use Rattle.std.specs.Prelude.{IsTrue, ◌&&◌, ◌==◌}
+use Rattle.std.proofs.Common.{◌≡◌, ◌≢◌, ℕ, ◌+◌, ◌<◌, ◌≤◌, Bool, true, false, not, List, [], ◌∷◌, ◌++◌, length, Option, None, Some, refl, sym, ap, subst, ◌∙◌, arith, length-append}
+use Rattle.std.specs.Prelude.{◌&&◌, ◌==◌}
 use Rattle.std.specs.FinMap as finite
-use Rattle.std.proofs.lemmas.Bool.{and_parts, eq-eqb, false≢true}
-use Rattle.std.proofs.lemmas.Option.{none-some, same_Some}
+use Rattle.std.proofs.lemmas.Bool.{and_parts, eq-eqb}
+use Rattle.std.proofs.lemmas.Option.{none-some}
 use Rattle.block_model.specs.declared.place.Place.{Place as PagePlace}
 use Rattle.block_model.specs.declared.reply.Refusal.{Refusal}
-use Rattle.block_model.specs.declared.reply.Refusal.TheVariants as refusals
 use Rattle.block_model.specs.declared.reply.Reply.TheVariants as replies
 use Rattle.block_model.specs.declared.request.Entry.{Entry}
 use Rattle.block_model.specs.declared.request.Request.TheVariants as requests
 use Rattle.block_model.specs.declared.request.Tag.{Tag}
 use Rattle.block_model.specs.declared.request.Tag.TheVariants as tags
-use Rattle.block_model.specs.declared.row.Row.{Row}
 use Rattle.block_model.specs.declared.value.Value.{Value}
 use Rattle.block_model.specs.DatabaseState.{DatabaseState, OpenTransaction}
 use Rattle.block_model.specs.RequestEffect.{Answer, after_failure, effect}
-use Rattle.store_layout.specs.DiskLayout.{DiskLayout}
-use Rattle.page_store.specs.PageMap.{block_at, page_at}
+use Rattle.page_store.specs.PageMap.{page_at}
 use Rattle.page_locks.specs.LockChanges.{GivesAll}
 use Rattle.page_locks.specs.LockHolders.{holder}
 use Rattle.page_locks.specs.RightHolders.{right_of}
@@ -27,12 +24,10 @@ use Rattle.snapshot_core.specs.declared.statuses.Status.{Status}
 use Rattle.row_versions.specs.declared.sessions.Open.{Open}
 use Rattle.row_versions.specs.StoredVersions.{transaction_of}
 use Rattle.statements.specs.declared.limits.TheConstants.{MAX_ENTRIES}
-use Rattle.statements.specs.declared.statement.Statement.{Statement}
-use Rattle.statements.specs.declared.statement.Statement.TheVariants as statements
 use Rattle.statements.specs.StatementRequests.{tagged_entry}
 use Rattle.tx_table.specs.Statuses.{status_relation}
 use Rattle.transactions.specs.CountedRows.{counts as counts_of}
-use Rattle.transactions.specs.Laws.{FailsOnly, FailureCounts, FailureIsShown, RefusalIsFailure, SessionsAreShown, ShowAlike}
+use Rattle.transactions.specs.Laws.{FailsOnly}
 use Rattle.transactions.specs.ShowsDatabase.{DoesRequest, ShowsDatabase}
 use Rattle.transactions.specs.TransactionsState.{TransactionsState, with_failed}
 use Rattle.index_contents.specs.IndexContents.{index_page, relation_of as index_relation}
@@ -41,16 +36,14 @@ use Rattle.table_coverage.specs.Refusals as causes
 use Rattle.table_coverage.specs.Table.{TableState}
 use Rattle.line_texts.specs.Place.{Hand as HandAt, Place, database_at}
 use Rattle.line_texts.specs.Requests.{refused_request}
-use Rattle.line_texts.specs.StatementSteps.{Ended, LacksRoom, Outcome, RefusesSo, Steps, StepsTo}
+use Rattle.line_texts.specs.StatementSteps.{Ended, LacksRoom, RefusesSo, Steps, StepsTo}
 use Rattle.store_parts.specs.declared.hand.Hand.{Hand}
 use Rattle.store_parts.specs.Hands.{HandShows}
+use Rattle.store_parts.specs.HandsAsk.{IsNoInsert}
 use Rattle.store_parts.specs.HandsInTables.{table_in}
-use Rattle.store_parts.specs.LeadLaws.{FailureCountsNoMore, FewerCountsFew, RequestLeads}
 use Rattle.store_parts.specs.Leaving.{GivesLocks, LeavesOthers, StepsInTable}
-use Rattle.store_parts.specs.PlaceLaws.{TableStepIsShown}
 use Rattle.store_parts.specs.PlacesAfter.{TurnsIn, place_after, refusal_in}
-use Rattle.store_parts.specs.RefusalLaws.{CountsNoMore, RefusalIsShown, refused_in}
-use Rattle.store_parts.specs.RequestLaws.{PutIsLegal}
+use Rattle.store_parts.specs.RefusalLaws.{CountsNoMore, refused_in}
 use Rattle.store_parts.specs.ShowsPlace.{IsPlaceOf, ShowsTable}
 use Rattle.store_parts.specs.StepLaws.{TurnIsRefused}
 use Rattle.store_parts.specs.StoreStates.{ShownStore, hand_in}
@@ -68,6 +61,8 @@ pub record Refuses (old new : ShownStore) (n table : ℕ) (values : List Value) 
   pub failed : new.transactions ≡ with_failed old.transactions n o
   pub entries : new.entries ≡ old.entries ++ tagged_entry n table (requests.Put values) tag ∷ []
   pub room : length old.entries + 1 ≤ MAX_ENTRIES
+  pub queue : new.queue ≡ old.queue
+  pub dropped : new.dropped ≡ old.dropped
   pub now : hand_in new.hands n ≡ None
   pub below : table < length old.layout.schema.tables
   pub was_in : (other : ℕ) → table_in old.layout (hand_in old.hands n) ≡ Some other → other ≡ table
@@ -147,7 +142,7 @@ module _ (laws : RefusalLaws) (old new : ShownStore) (n table : ℕ) (values : L
   journal_is = r.entries ∙ ap (λ (l : List Entry). l ++ e ∷ []) (sym shown.journal)
 
   -- the refusal of a statement whose turn it is
-  module _ (h : HandAt) (in_hand : p.hands n ≡ Some h) (makes : refused_request n tag h.statement ≡ e ∷ []) (account : Account) (nothing : account.dropped ≡ []) (why : causes.Refusal) (told : Refusal)
+  module _ (h : HandAt) (in_hand : p.hands n ≡ Some h) (makes : refused_request n tag h.statement ≡ e ∷ []) (account : Account) (nothing : account.dropped ≡ (p.accounts n).dropped) (why : causes.Refusal) (told : Refusal)
       (turns : TurnsIn p n h.statement table (refused_in n counts (p.tables table)) account) (because : refusal_in turns ≡ Some why) (so : RefusesSo p table h.statement why tag told) (quiet : IsQuiet ((p.tables table).task n)) where
     abbrev q : Place
     q = place_after p n table None (refused_in n counts (p.tables table)) account counts new.entries
@@ -168,11 +163,12 @@ module _ (laws : RefusalLaws) (old new : ShownStore) (n table : ℕ) (values : L
           (laws.leads old new p n None account e (fails_so (database_at p) n table copy.0 values tag failing (laws.is_failure (database_at p) n table copy.0 copy.1)).0 shown refl
           (laws.legal (database_at p) n table copy.0 values tag copy.1 copy.2) r.entries does
           (record {
-            hand = subst (λ (o : Option Hand). HandShows o None account) (sym r.now) (refl, nothing);
+            hand = subst (λ (o : Option Hand). HandShows o None account) (sym r.now) refl;
             own = λ hand is. absurd (none-some hand (sym r.now ∙ is));
             order = λ index below. same_order old new r.pages index;
           }))
-          (laws.table_shown old new stored n table (p.tables table) shows r.others r.pages r.given r.rights quiet in_none turns.step),
+          (laws.table_shown old new stored n table (p.tables table) shows r.others r.pages r.given r.rights quiet in_none turns.step)
+          (record { queue = r.queue; dropped = r.dropped; told = nothing; hand = subst IsNoInsert (sym r.now) tt }),
       record { hand = h; in_hand = in_hand; steps = steps; fits = fits },
     )
 

@@ -1,5 +1,5 @@
 -- what a refusal, and a step that the pages refuse, leave of the parts of a store
-use Rattle.std.proofs.Common.{◌≡◌, ◌≢◌, ℕ, ◌+◌, ◌<◌, ◌≤◌, Bool, false, List, [], ◌∷◌, ◌++◌, length, Option, None, Some, refl, sym, ap, subst, ◌∙◌, arith, length-append, if◌then◌else◌}
+use Rattle.std.proofs.Common.{◌≡◌, ◌≢◌, ℕ, ◌+◌, ◌≤◌, Bool, false, List, [], ◌∷◌, ◌++◌, length, Option, None, Some, refl, sym, ap, subst, ◌∙◌, arith, length-append, if◌then◌else◌}
 use Rattle.std.proofs.lemmas.Option.{none-some}
 use Rattle.disk_trait.specs.Told.{Told}
 use Rattle.block_model.specs.declared.reply.Reply.{Reply}
@@ -20,13 +20,12 @@ use Rattle.tx_table.specs.TxState.{IsOver, TxState}
 use Rattle.transactions.specs.TransactionsState.{TransactionsState, with_failed}
 use Rattle.store_parts.specs.declared.hand.Hand.{Hand}
 use Rattle.store_parts.specs.declared.hand.Stepped.TheVariants as stepped
-use Rattle.store_parts.specs.declared.limits.TheConstants.{MAX_LOCKS}
 use Rattle.store_parts.specs.declared.parts.Parts.{Parts}
 use Rattle.store_parts.specs.Hands.{statement_of}
-use Rattle.store_parts.specs.HandFits.{FitsHand, locks_held}
+use Rattle.store_parts.specs.HandFits.{FitsHand, right_held}
 use Rattle.store_parts.specs.JournalState.{JournalState}
 use Rattle.store_parts.specs.Shares.{hand_share, open_share, share_of}
-use Rattle.store_parts.specs.StepAnswers.{HasFaultCause, StaysReady, StaysWhereUndone}
+use Rattle.store_parts.specs.StepAnswers.{HasFaultCause, StaysWhereUndone}
 use Rattle.store_parts.specs.Stepping.{LeavesTheOthers, StaysFit}
 use Rattle.store_parts.specs.StoreFaults.{fault_of}
 use Rattle.store_parts.specs.StoreLaws.{HandChanges}
@@ -43,6 +42,7 @@ with_these parts pages transactions locks journal = record parts { pages = pages
 pub record LeftRefused {D : Type 0} (told : D → Told) (parts : Parts D) (pages : View D) (transactions : TransactionsState) (locks : LockState) (journal : JournalState) (n : ℕ) (was : Hand) (o : Open) (e : Entry) : Type 0 where
   pub fits : FitsParts told parts n (Some was)
   pub free : hand_share (Some was) ≡ 0
+  pub no_right : right_held parts.pages.layout (Some was) ≡ None
   pub open_is : transaction_of parts.transactions.opens n ≡ Some o
   pub whole : o.failed ≡ false
   pub leaves : Leaves told parts.pages pages
@@ -92,6 +92,7 @@ module _ {D : Type 0} (told : D → Told) (changes : HandChanges) (of_stores : F
     in_hand = tt;
     limit = left.limit ∙ left.fits.limit;
     own = let none = left.none in omega (arith, none);
+    held = λ table holds. absurd (none-some table (sym left.no_right ∙ left.fits.held table holds));
     rights = left.fits.rights ∙ ap (λ (l : DiskLayout). length l.schema.tables) (sym left.leaves.layout);
     entries = let room = left.room in omega (arith, many, room);
     share = let less = left.promised in let enough = left.fits.share in omega (arith, share_now, share_was, less, enough);
@@ -102,6 +103,8 @@ module _ {D : Type 0} (told : D → Told) (changes : HandChanges) (of_stores : F
     leaves = left.leaves;
     transactions = theirs;
     locks = left.others;
+    dropped = λ m apart. refl;
+    rights = refl;
     promised = let less = left.promised in omega (arith, share_now, share_was, less);
   })
 
@@ -117,15 +120,16 @@ has_cause told old now errors.Disk refused = refused
 has_cause told old now (errors.Reopen faults) refused = refused
 has_cause told old now (errors.Damaged at) refused = refused
 
-enters_none : {D : Type 0} (told : D → Told) (old new : StoreState D) (was hand : Hand) (error : StoreError) → new.journal.entries ≡ old.journal.entries → statement_of hand ≡ statement_of was
-    → StaysWhereUndone told old new was (stepped.Undone (fault_of error) hand)
-enters_none told old now was hand errors.Disk same statement = (same, statement)
-enters_none told old now was hand (errors.Reopen faults) same statement = (same, statement)
-enters_none told old now was hand (errors.Damaged at) same statement = (same, statement)
+enters_none : {D : Type 0} (told : D → Told) (old new : StoreState D) (n : ℕ) (was hand : Hand) (error : StoreError) → new.journal.entries ≡ old.journal.entries → statement_of hand ≡ statement_of was
+    → StaysWhereUndone told old new n was (stepped.Undone (fault_of error) hand)
+enters_none told old now n was hand errors.Disk same statement = (same, statement)
+enters_none told old now n was hand (errors.Reopen faults) same statement = (same, statement)
+enters_none told old now n was hand (errors.Damaged at) same statement = (same, statement)
 
 pub record LeftUndone {D : Type 0} (told : D → Told) (parts : Parts D) (pages : View D) (locks : LockState) (journal : JournalState) (n : ℕ) (was hand : Hand) : Type 0 where
   pub fits : FitsParts told parts n (Some was)
   pub in_hand : FitsHand parts.pages.layout (transaction_of parts.transactions.opens n) (Some hand)
+  pub no_right : right_held parts.pages.layout (Some was) ≡ None
   pub share : share_of (Some hand) (transaction_of parts.transactions.opens n) ≡ share_of (Some was) (transaction_of parts.transactions.opens n)
   pub statement : statement_of hand ≡ statement_of was
   pub leaves : Leaves told parts.pages pages
@@ -148,6 +152,7 @@ module _ {D : Type 0} (told : D → Told) (changes : HandChanges) (of_stores : F
       in_hand = subst (λ (l : DiskLayout). FitsHand l (transaction_of parts.transactions.opens n) (Some hand)) (sym left.leaves.layout) left.in_hand;
       limit = left.limit ∙ left.fits.limit;
       own = let none = left.none in omega (arith, none);
+      held = λ table holds. absurd (none-some table (sym left.no_right ∙ left.fits.held table holds));
       rights = left.fits.rights ∙ ap (λ (l : DiskLayout). length l.schema.tables) (sym left.leaves.layout);
       entries = subst (λ (l : List Entry). length l ≤ MAX_ENTRIES) (sym left.entries) left.fits.entries;
       share = let same = left.share in let enough = left.fits.share in let promised = left.promised in omega (arith, same, enough, promised);
@@ -156,9 +161,11 @@ module _ {D : Type 0} (told : D → Told) (changes : HandChanges) (of_stores : F
       leaves = left.leaves;
       transactions = λ m other. refl;
       locks = left.others;
+      dropped = λ m apart. refl;
+      rights = refl;
       promised = let same = left.share in let promised = left.promised in omega (arith, same, promised);
     });
-    stays = λ names hand_list has. enters_none told _ _ was hand error left.entries left.statement;
+    stays = λ names hand_list has. enters_none told _ _ n was hand error left.entries left.statement;
     cause = has_cause told parts.pages pages error refused;
   }
 

@@ -1,7 +1,7 @@
 -- the first step of an insert, over the parts of a store
-use Rattle.std.proofs.Common.{◌≡◌, ◌≢◌, ℕ, ◌+◌, ◌-◌, ◌*◌, ◌^◌, ◌<◌, ◌≤◌, Bool, true, false, List, [], ◌∷◌, ◌++◌, length, Option, None, Some, refl, sym, ap, subst, ◌∙◌, arith, length-append, if◌then◌else◌}
-use Rattle.std.specs.Prelude.{IsSome, ◌==◌}
-use Rattle.std.proofs.lemmas.Option.{none-some, same_Some}
+use Rattle.std.proofs.Common.{◌≡◌, ◌≢◌, ℕ, ◌+◌, ◌-◌, ◌*◌, ◌<◌, ◌≤◌, false, List, [], ◌∷◌, ◌++◌, length, Option, None, Some, refl, sym, ap, subst, ◌∙◌, arith, length-append}
+use Rattle.std.specs.Prelude.{IsSome}
+use Rattle.std.proofs.lemmas.Option.{none-some}
 use Rattle.disk_trait.specs.Told.{Told}
 use Rattle.block_model.specs.declared.place.Spot.{Spot}
 use Rattle.block_model.specs.declared.reply.Point.{Point}
@@ -17,8 +17,7 @@ use Rattle.block_model.specs.declared.row.RowId.{RowId}
 use Rattle.block_model.specs.declared.value.Value.{Value}
 use Rattle.store_layout.specs.DiskLayout.{DiskLayout}
 use Rattle.page_layout.specs.PageContents.{Slot}
-use Rattle.page_store.specs.declared.faults.MachineFault.TheVariants as faults
-use Rattle.page_store.specs.Keeps.{Keeps, Leaves, Tells}
+use Rattle.page_store.specs.Keeps.{Keeps, Tells}
 use Rattle.page_store.specs.PageMap.{PageMap, View, page_at}
 use Rattle.page_locks.specs.declared.did.Did.{Did}
 use Rattle.page_locks.specs.declared.did.Did.TheVariants as did
@@ -38,28 +37,26 @@ use Rattle.tx_table.specs.TxState.{IsOver, TxState}
 use Rattle.transactions.specs.Sessions.{next_row_of}
 use Rattle.transactions.specs.TransactionsState.{TransactionsState, with_row_counted}
 use Rattle.table_coverage.specs.Refusals.{Heap, IsFull, LacksMemory}
-use Rattle.table_coverage.specs.Table.{Resting, TableState, Task}
+use Rattle.table_coverage.specs.Table.{Resting, TableState}
 use Rattle.table_coverage.specs.TableSteps.{HeapFull, IsHeapFull, RowLacksMemory}
 use Rattle.index_steps.specs.ShownRows.{shown_by}
 use Rattle.line_texts.specs.Names.{table_name}
 use Rattle.line_texts.specs.Place.{Place}
 use Rattle.line_texts.specs.StatementSteps.{Ended, ForMemory, HeapIsFull, LacksRoom, RefusesSo, Steps}
 use Rattle.brin_insert.specs.declared.insert.Insert.{Insert}
-use Rattle.brin_insert.specs.InsertAnswers.{InsertStepped, IsInsertFull, SaysInsertFull, StandsPlaced, relation_at, relation_in}
+use Rattle.brin_insert.specs.InsertAnswers.{InsertStepped, IsInsertFull, StandsPlaced, relation_at, relation_in}
 use Rattle.brin_insert.specs.InsertLocks.{held_by, stage_of}
-use Rattle.brin_insert.specs.Inserts.{HasStepLeft, IsInsertFor, task_at, task_of, work_of}
+use Rattle.brin_insert.specs.Inserts.{HasStepLeft, task_at, task_of, work_of}
 use Rattle.store_parts.specs.declared.hand.Hand.{Hand}
 use Rattle.store_parts.specs.declared.hand.Hand.TheVariants as hands
 use Rattle.store_parts.specs.declared.hand.Stepped.{Stepped}
 use Rattle.store_parts.specs.declared.hand.Stepped.TheVariants as stepped
 use Rattle.store_parts.specs.declared.parts.Parts.{Parts}
-use Rattle.store_parts.specs.Hands.{statement_of}
-use Rattle.store_parts.specs.HandFits.{FitsHand, IsHandFor, IsOwnRow, IsUnderWay, locks_held}
+use Rattle.store_parts.specs.HandFits.{FitsHand, IsOwnRow, IsUnderWay, locks_held}
 use Rattle.store_parts.specs.HandsInTables.{table_in}
 use Rattle.store_parts.specs.JournalState.{JournalState}
-use Rattle.store_parts.specs.Leaving.{LeavesOthers}
 use Rattle.store_parts.specs.ShowsPlace.{IsPlaceOf, ShowsPlace}
-use Rattle.store_parts.specs.Shares.{hand_share, open_share, share_of}
+use Rattle.store_parts.specs.Shares.{hand_share, share_of}
 use Rattle.store_parts.specs.StepAnswers.{StaysReady}
 use Rattle.store_parts.specs.StepIs.{hand_after}
 use Rattle.store_parts.specs.Stepping.{InSomeStore, IsFit, LeavesTheOthers}
@@ -89,7 +86,8 @@ at_no_heap_status layout insert none same =
     omega (arith, e)
 
 -- what the put of the row left beside the pages and the locks
-pub record PutLeft {D : Type 0} (parts : Parts D) (transactions : TransactionsState) (journal : JournalState) (n : ℕ) (before : Insert) (o : Open) : Type 0 where
+pub record PutLeft {D : Type 0} (parts : Parts D) (transactions : TransactionsState) (journal : JournalState) (n : ℕ) (before after : Insert) (o : Open) : Type 0 where
+  pub none : after.dropped.items ≡ []
   pub nowhere : before.place ≡ None
   pub open_is : transaction_of parts.transactions.opens n ≡ Some o
   pub next : next_row_of o ≡ Some before.row.id
@@ -99,7 +97,7 @@ pub record PutLeft {D : Type 0} (parts : Parts D) (transactions : TransactionsSt
   pub room : length parts.journal.entries + 1 ≤ MAX_ENTRIES
 
 module _ {D : Type 0} (told : D → Told) (changes : HandChanges) (of_parts : FitOfParts told) (of_stores : FitOfStores told) (parts : Parts D) (pages : View D) (locks : LockState) (transactions : TransactionsState) (journal : JournalState) (n : ℕ)
-    (before after : Insert) (fit : IsFit told (unpromised parts) n (hands.Puts before.row.table before.row.values)) (left : MachineLeft told parts pages locks n before after) (o : Open) (put : PutLeft parts transactions journal n before o) where
+    (before after : Insert) (fit : IsFit told (unpromised parts) n (hands.Puts before.row.table before.row.values)) (left : MachineLeft told parts pages locks n before after) (o : Open) (put : PutLeft parts transactions journal n before after o) where
   abbrev was : Hand
   was = hands.Puts before.row.table before.row.values
 
@@ -146,6 +144,7 @@ module _ {D : Type 0} (told : D → Told) (changes : HandChanges) (of_parts : Fi
     in_hand = subst (λ (l : DiskLayout). FitsHand l (transaction_of transactions.opens n) h) (sym left.others.leaves.layout) in_hand;
     limit = left.counts.limit ∙ fits.limit;
     own = own;
+    held = λ table holds. absurd (none-some table (fits.held table holds));
     rights = fits.rights ∙ ap (λ (l : DiskLayout). length l.schema.tables) (sym left.others.leaves.layout);
     entries = let room = put.room in omega (arith, many, room);
     share = let promised = put.promised in let enough = fits.share in let two = share_now h free in omega (arith, share_was, two, promised, enough);
@@ -156,6 +155,8 @@ module _ {D : Type 0} (told : D → Told) (changes : HandChanges) (of_parts : Fi
     leaves = left.others.leaves;
     transactions = others_open;
     locks = λ m other. left.counts.adds.others m other;
+    dropped = λ m apart. refl;
+    rights = refl;
     promised = let promised = put.promised in let two = share_now (hand_after answer) free in omega (arith, share_was, two, promised);
   })
 
@@ -193,6 +194,9 @@ module _ {D : Type 0} (told : D → Told) (changes : HandChanges) (of_parts : Fi
       counted = put.counted;
       entries = put.entries;
       room = put.room;
+      queue = refl;
+      dropped = refl;
+      none = put.none;
     }
 
   abbrev SteppedSo : Did → Type 0
@@ -273,6 +277,8 @@ module _ {D : Type 0} (told : D → Told) (changes : HandChanges) (of_stores : F
     failed = left.failed;
     entries = left.entries;
     room = left.room;
+    queue = refl;
+    dropped = refl;
     now = (changes hand_list n refuser None has).own;
     below = left.fits.in_hand.1;
     was_in = λ other is. absurd (none-some other (ap (table_in parts.pages.layout) (sym has) ∙ is));

@@ -1,5 +1,5 @@
 -- an insert that has no row
-use Rattle.std.proofs.Common.{◌≡◌, ℕ, ◌+◌, ◌≤◌, length, List, [], ◌∷◌, Option, None, Some, refl, sym, ap, subst, ◌∙◌}
+use Rattle.std.proofs.Common.{◌≡◌, ℕ, ◌≤◌, length, List, Option, Some, refl, sym, ap, subst, ◌∙◌}
 use Rattle.block_model.specs.declared.reply.Refusal.{Refusal}
 use Rattle.block_model.specs.declared.reply.Refusal.TheVariants as refusals
 use Rattle.block_model.specs.declared.reply.Reply.TheVariants as replies
@@ -11,13 +11,12 @@ use Rattle.row_versions.specs.StoredVersions.{transaction_of}
 use Rattle.statements.specs.declared.limits.TheConstants.{MAX_ENTRIES}
 use Rattle.statements.specs.declared.statement.Statement.TheVariants as statements
 use Rattle.transactions.specs.CountedRows.{counts as counts_of}
-use Rattle.table_coverage.specs.Accounts.{no_account}
+use Rattle.table_coverage.specs.Accounts.{Account, no_account}
 use Rattle.table_coverage.specs.Refusals as causes
 use Rattle.table_coverage.specs.Refusals.{LacksMemory, row_refusal}
 use Rattle.table_coverage.specs.Table.{Resting, TableState, Task}
 use Rattle.table_coverage.specs.TableSteps.{IsRowRefused, RowLacksMemory}
 use Rattle.line_texts.specs.Place.{Place}
-use Rattle.line_texts.specs.Requests.{refused_request}
 use Rattle.line_texts.specs.StatementSteps.{Ended, ForMemory, LacksRoom, RefusesSo, Steps}
 use Rattle.store_parts.specs.declared.hand.Hand.{Hand}
 use Rattle.store_parts.specs.declared.hand.Hand.TheVariants as hands
@@ -29,7 +28,7 @@ use Rattle.store_parts.specs.StepLaws.{TurnIsRefused}
 use Rattle.store_parts.specs.StoreStates.{ShownStore, hand_in}
 use Rattle.store_parts.specs.TableLaws.{IsQuiet}
 use Rattle.store_inserts.proofs.Refused.{IsFailing, Refuses, is_refused, no_more, refusal_lacks_room, without}
-use Rattle.store_inserts.proofs.RowStep.{begun_hand, begun_is}
+use Rattle.store_inserts.proofs.RowStep.{begun_hand, begun_is, begun_tells}
 use Rattle.store_inserts.specs.TakenLaws.{RefusalLaws}
 
 -- before the first step of its insert a session is at nothing, and has this in hand
@@ -43,11 +42,14 @@ module _ (old : ShownStore) (n table : ℕ) (values : List Value) (was : hand_in
   pub begun_here : p.hands n ≡ Some (begun_hand table values)
   begun_here = begun_is table values (p.hands n) (p.accounts n) (subst (λ (h : Option Hand). HandShows h (p.hands n) (p.accounts n)) was (shown.hands n))
 
+  pub begun_told : p.accounts n ≡ no_account
+  begun_told = begun_tells table values (p.hands n) (p.accounts n) (subst (λ (h : Option Hand). HandShows h (p.hands n) (p.accounts n)) was (shown.hands n))
+
   -- where the journal has no room for the put, one that is refused for want of memory would pass it
   pub row_lacks_room : RowIsRefused → TurnIsRefused → MAX_ENTRIES ≤ length p.journal → LacksRoom p n
   row_lacks_room row refused full =
       let fewer = without (p.tables table) 0 in
-      let it = row p n table 0 values (p.tables table) fewer.counts refl shown.queue rests_there RowLacksMemory fewer.no_more in
+      let it = row p n table 0 values (p.tables table) fewer.counts refl rests_there RowLacksMemory fewer.no_more in
       refusal_lacks_room refused p n table values tags.NoMemory (begun_hand table values) begun_here refl no_account fewer.counts LacksMemory refusals.Memory (refused_in n fewer.counts (p.tables table)) it.0 it.1 (ForMemory tt) full
 
 module _ (laws : RefusalLaws) (old new : ShownStore) (n table : ℕ) (values : List Value) (tag : Tag) (o : Open) (r : Refuses old new n table values tag o) (failing : IsFailing tag)
@@ -58,7 +60,7 @@ module _ (laws : RefusalLaws) (old new : ShownStore) (n table : ℕ) (values : L
   pub row_refused : (refused : IsRowRefused (p.tables table)) (why : causes.Refusal) → row_refusal (p.tables table) refused ≡ why → (told : Refusal) → RefusesSo p table (statements.Insert table values) why tag told
       → (q : Place) × IsPlaceOf new q × Steps p n (Ended (replies.Refused told)) q
   row_refused refused why is told so =
-      let it = laws.row p n table o.t values (p.tables table) (counts_of new.transactions shown.database.stored) refl shown.queue (rests_there old n table values was p shown shows) refused
+      let it = laws.row p n table o.t values (p.tables table) (counts_of new.transactions shown.database.stored) refl (rests_there old n table values was p shown shows) refused
       (no_more laws old new n table values tag o r failing p shown) in
-      is_refused laws old new n table values tag o r failing p shown (begun_hand table values) (begun_here old n table values was p shown shows) refl no_account refl why told it.0 (it.1 ∙ ap Some is) so
+      is_refused laws old new n table values tag o r failing p shown (begun_hand table values) (begun_here old n table values was p shown shows) refl no_account (ap (λ (a : Account). a.dropped) (sym (begun_told old n table values was p shown shows))) why told it.0 (it.1 ∙ ap Some is) so
       (subst (λ (t : Task). IsQuiet t) (sym (rests_there old n table values was p shown shows)) tt)

@@ -1,5 +1,5 @@
 -- a row that is put, as a step of the place that the store shows
-use Rattle.std.proofs.Common.{◌≡◌, ◌≢◌, ◌⊎◌, inl, inr, ℕ, ◌+◌, ◌<◌, ◌≤◌, Bool, true, false, List, [], ◌∷◌, ◌++◌, length, Option, None, Some, refl, sym, ap, subst, ◌∙◌, arith, length-append}
+use Rattle.std.proofs.Common.{◌≡◌, ◌≢◌, inl, inr, ℕ, ◌+◌, ◌<◌, ◌≤◌, false, List, [], ◌∷◌, ◌++◌, length, Option, None, Some, refl, sym, ap, subst, ◌∙◌, arith, length-append}
 use Rattle.std.specs.FinMap as finite
 use Rattle.std.proofs.lemmas.Bool.{false≢true}
 use Rattle.std.proofs.lemmas.Option.{none-some, same_Some}
@@ -12,12 +12,9 @@ use Rattle.block_model.specs.declared.request.Entry.{Entry}
 use Rattle.block_model.specs.declared.request.Request.TheVariants as requests
 use Rattle.block_model.specs.declared.request.Tag.TheVariants as tags
 use Rattle.block_model.specs.declared.row.Row.{Row}
-use Rattle.block_model.specs.declared.row.RowId.{RowId}
 use Rattle.block_model.specs.declared.value.Value.{Value}
 use Rattle.block_model.specs.DatabaseState.{DatabaseState, OpenTransaction}
 use Rattle.block_model.specs.RequestEffect.{Answer, Inserted, next_row, reply_to}
-use Rattle.block_model.specs.SerialRun.{serial_run}
-use Rattle.store_layout.specs.DiskLayout.{DiskLayout}
 use Rattle.page_layout.specs.PageContents.{Slot}
 use Rattle.page_store.specs.PageMap.{page_at}
 use Rattle.page_locks.specs.declared.did.Did.{Did}
@@ -32,19 +29,17 @@ use Rattle.row_versions.specs.declared.sessions.Open.{Open}
 use Rattle.row_versions.specs.SessionChanges.{with_next_k}
 use Rattle.row_versions.specs.StoredVersions.{transaction_of}
 use Rattle.statements.specs.declared.limits.TheConstants.{MAX_ENTRIES}
-use Rattle.statements.specs.declared.statement.Statement.{Statement}
 use Rattle.statements.specs.declared.statement.Statement.TheVariants as statements
 use Rattle.statements.specs.StatementRequests.{request_entry}
 use Rattle.transactions.specs.CountedRows.{counts as counts_of}
-use Rattle.transactions.specs.Laws.{PutCounts, PutIsShown, PutIsUnseen, SessionsAreShown}
 use Rattle.transactions.specs.Sessions.{IsCopyOf}
 use Rattle.transactions.specs.ShowsDatabase.{DoesRequest}
 use Rattle.transactions.specs.StoredRows.{PutsRow}
 use Rattle.transactions.specs.TransactionsState.{TransactionsState, with_row_counted}
 use Rattle.index_contents.specs.IndexContents.{index_page}
+use Rattle.reply_texts.specs.declared.dropped.Dropped.{Dropped}
 use Rattle.table_coverage.specs.Accounts.{Account, no_account}
 use Rattle.table_coverage.specs.GoingOn.{IsInserting}
-use Rattle.table_coverage.specs.InOneIndex.{DoesAt}
 use Rattle.table_coverage.specs.Machines.{Unseen, table_state, task_turned}
 use Rattle.table_coverage.specs.Table.{Reaches, Resting, TableState, Task}
 use Rattle.table_coverage.specs.TableCovered.{IsTableKept}
@@ -52,27 +47,25 @@ use Rattle.table_coverage.proofs.Views.{pick_other, pick_same}
 use Rattle.index_steps.specs.ShownRows.{row_in, shown_by}
 use Rattle.index_steps.specs.SwapAnswers.{LeavesLocks}
 use Rattle.line_texts.specs.Beginnings.{Begins}
-use Rattle.line_texts.specs.Place.{Hand as HandAt, Place, database_at}
+use Rattle.line_texts.specs.Names.{dropped_of}
+use Rattle.line_texts.specs.Place.{Hand as HandAt, Place, accounts_at, database_at}
 use Rattle.line_texts.specs.Requests.{Course, Enters, MakesOne, NoneLeft, OneMore, entered}
 use Rattle.line_texts.specs.StatementSteps.{Ended, MakesAt, Moved, Steps, course_of}
+use Rattle.brin_insert.specs.AskedFor.{AreRequestsOf, NoRequests}
 use Rattle.brin_insert.specs.declared.insert.Insert.{Insert}
-use Rattle.brin_insert.specs.InsertAnswers.{InsertDid, InsertGoesTo, InsertStepped, TakesItsSlot, account_of, heap_after, relation_at, relation_in}
+use Rattle.brin_insert.specs.InsertAnswers.{AccountsCome, DoesWith, InsertDid, InsertGoesTo, InsertStepped, TakesItsSlot, heap_after, relation_at, relation_in}
 use Rattle.brin_insert.specs.Inserts.{task_at, task_of, work_of}
 use Rattle.brin_insert.specs.RowSteps.{blocks_with}
 use Rattle.store_parts.specs.declared.hand.Hand.{Hand}
 use Rattle.store_parts.specs.declared.hand.Hand.TheVariants as hands
 use Rattle.store_parts.specs.Hands.{HandShows}
+use Rattle.store_parts.specs.HandsAsk.{HandAsked}
 use Rattle.store_parts.specs.HandsInTables.{IsTaskOf, table_in}
-use Rattle.store_parts.specs.LeadLaws.{PutLeavesSlots, RequestLeads, SameCountsFew}
 use Rattle.store_parts.specs.Leaving.{LeavesOthers, LocksIn, StepsInTable}
-use Rattle.store_parts.specs.PlaceLaws.{TableStepIsShown}
 use Rattle.store_parts.specs.PlacesAfter.{TurnsIn, place_after, point_in}
-use Rattle.store_parts.specs.RequestLaws.{PutIsLegal}
 use Rattle.store_parts.specs.ShowsPlace.{IsOfTransaction, IsPlaceOf, IsRowOf, ShowsTable, is_put}
-use Rattle.store_parts.specs.StepLaws.{MachineTurns, TurnGoesOn, TurnReplies}
-use Rattle.store_parts.specs.StoreStates.{ShownStore, hand_in}
-use Rattle.store_parts.specs.TableLaws.{OwnTableGoesOn}
-use Rattle.store_inserts.proofs.AtIndex.{insert_of, put_of}
+use Rattle.store_parts.specs.StoreStates.{ShownStore, dropped_in, hand_in}
+use Rattle.store_inserts.proofs.AtIndex.{put_of}
 use Rattle.store_inserts.proofs.IndexStep.{is_no_work, not_resting, put_shown}
 use Rattle.store_inserts.proofs.Opens.{open_here}
 use Rattle.store_inserts.proofs.Points.{row_point}
@@ -88,6 +81,9 @@ begun_hand table values = record { statement = statements.Insert table values; a
 
 pub begun_is : (table : ℕ) (values : List Value) (at : Option HandAt) (account : Account) → HandShows (Some (hands.Puts table values)) at account → at ≡ Some (begun_hand table values)
 begun_is table values at account (h, is, statement, answers, tells) = is ∙ ap Some (λ j. record { statement = statement j; answers = answers j })
+
+pub begun_tells : (table : ℕ) (values : List Value) (at : Option HandAt) (account : Account) → HandShows (Some (hands.Puts table values)) at account → account ≡ no_account
+begun_tells table values at account (h, is, statement, answers, tells) = tells
 
 -- what the step that put the row left of the store, which shows a place before it
 pub record PutsHere (old new : ShownStore) (n table : ℕ) (values : List Value) (before after : Insert) (o : Open) (x : Spot) : Type 0 where
@@ -108,6 +104,9 @@ pub record PutsHere (old new : ShownStore) (n table : ℕ) (values : List Value)
   pub counted : new.transactions ≡ with_row_counted old.transactions n o
   pub entries : new.entries ≡ old.entries ++ request_entry n table (requests.Put values) ∷ []
   pub room : length old.entries + 1 ≤ MAX_ENTRIES
+  pub queue : new.queue ≡ old.queue
+  pub dropped : new.dropped ≡ old.dropped
+  pub none : after.dropped.items ≡ []
 
 row_isnt_prune : points.Row ≡ points.Prune → ⊥
 row_isnt_prune is = cc
@@ -159,6 +158,9 @@ module _ (laws : RowLaws) (old new : ShownStore) (n table : ℕ) (values : List 
 
     hand_here : p.hands n ≡ Some (begun_hand table values)
     hand_here = begun_is table values (p.hands n) (p.accounts n) (subst (λ (h : Option Hand). HandShows h (p.hands n) (p.accounts n)) puts.was (shown.hands n))
+
+    told_here : p.accounts n ≡ no_account
+    told_here = begun_tells table values (p.hands n) (p.accounts n) (subst (λ (h : Option Hand). HandShows h (p.hands n) (p.accounts n)) puts.was (shown.hands n))
 
     abbrev Copy : Type 0
     Copy = (y : OpenTransaction) × (finite.get (database_at p).sessions n ≡ Some y) × IsCopyOf o y
@@ -235,7 +237,7 @@ module _ (laws : RowLaws) (old new : ShownStore) (n table : ℕ) (values : List 
         abbrev mid : TableState
         mid = table_state (shown_by old.layout new.pages new.locks table now) (task_turned n between u)
 
-        abbrev did_so : DoesAt n w mid point (account_of Resting)
+        abbrev did_so : DoesWith n w mid point (AccountsCome n (shown_by old.layout old.pages old.locks table shows.blocks) Resting)
         did_so = (goes u task_here kept).1
 
         begun : (mid.task n ≡ Reaches x.block x.slot r 0) × (point ≡ points.Row)
@@ -248,7 +250,8 @@ module _ (laws : RowLaws) (old new : ShownStore) (n table : ℕ) (values : List 
         Turns = (turns : TurnsIn p n (statements.Insert table values) table v no_account) × (point_in turns ≡ Some point) × (turns.step.between ≡ mid)
 
         turns : Turns
-        turns = laws.machine p n table (statements.Insert table values) w mid v point (account_of Resting) shows.shown shown.queue (is_no_work r) refl did_so
+        turns = laws.machine p n table (statements.Insert table values) w mid v point no_account p.queue shows.shown (is_no_work r) refl did_so.does did_so.point_is
+            (λ b has. did_so.adds (accounts_at p table) b has) (omega arith)
             (λ is. row_isnt_prune (sym begun.1 ∙ is)) (goes u task_here kept).2 (inr begins)
 
         task_then : v.task n ≡ task_of old.layout after
@@ -260,8 +263,8 @@ module _ (laws : RowLaws) (old new : ShownStore) (n table : ℕ) (values : List 
         behind : (at : Option HandAt) → HandShows (hand_in new.hands n) at no_account
             → ((hand : Hand) → hand_in new.hands n ≡ Some hand → IsOfTransaction (transaction_of new.transactions.opens n) (finite.get does.0.sessions n) hand)
             → ((other : ℕ) → table_in old.layout (hand_in new.hands n) ≡ Some other → other ≡ table)
-            → IsTaskOf old.layout table now new.transactions.tx stored (transaction_of new.transactions.opens n) (hand_in new.hands n) (then.task n) → Behind at
-        behind at hand_then own_then in_then is_at = laws.shown old new p n table at v no_account shown puts.others (steps_in in_then)
+            → IsTaskOf old.layout table now new.transactions.tx stored (transaction_of new.transactions.opens n) (hand_in new.hands n) (then.task n) → HandAsked old.layout (hand_in new.hands n) [] → Behind at
+        behind at hand_then own_then in_then is_at asked = laws.shown old new p n table at v no_account p.queue shown puts.others (steps_in in_then)
             (laws.few old new stored stored same_counts)
             (laws.leads old new p n at no_account e (Inserted r.id) shown refl (laws.legal (database_at p) n table copy.0 values tags.Ok copy.1 (copy.2.failed ∙ puts.whole)) puts.entries does
             (record {
@@ -274,6 +277,12 @@ module _ (laws : RowLaws) (old new : ShownStore) (n table : ℕ) (values : List 
             (λ t. shows.counts t ∙ sym (same_counts t))
             (λ m other. pick_other m n (task_of old.layout after) (u.task m) other)
             is_at (laws.slots laws.unseen old (database_at p) stored n o (slots_a_page old.layout table) x (new_row r.id values) shows.blocks shown.database puts.open_is refl fills))
+            (record {
+              requests = subst (λ (l : List (ℕ × ℕ)). AreRequestsOf old.layout l p.queue) (sym puts.queue) shown.queue;
+              told = ap (λ (l : List (List Dropped)). dropped_in l n) puts.dropped ∙ shown.told n ∙ ap (λ (a : Account). dropped_of old.layout a.dropped) told_here;
+              others = λ m apart. ap (λ (l : List (List Dropped)). dropped_in l m) puts.dropped;
+              hand = asked;
+            })
 
         after_is : after.row ≡ r
         after_is = puts.row ∙ puts.row_is
@@ -296,6 +305,7 @@ module _ (laws : RowLaws) (old new : ShownStore) (n table : ℕ) (values : List 
               (λ other is. same_Some other table (sym is ∙ ap (table_in old.layout) is_now ∙ ap (λ (q : Row). Some q.table) after_is))
               (subst (λ (h : Option Hand). IsTaskOf old.layout table now new.transactions.tx stored (transaction_of new.transactions.opens n) h (then.task n)) (sym is_now)
               ((λ own. task_then), (λ apart. absurd (apart (ap (λ (q : Row). q.table) after_is)))))
+              (subst (λ (h : Option Hand). HandAsked old.layout h []) (sym is_now) (subst (λ (l : List (ℕ × ℕ)). AreRequestsOf old.layout l []) (sym puts.none) NoRequests))
 
           pub row_goes_on : (q : Place) × IsPlaceOf new q × Steps p n (Moved point) q
           row_goes_on = (
@@ -304,7 +314,7 @@ module _ (laws : RowLaws) (old new : ShownStore) (n table : ℕ) (values : List 
             record {
               hand = begun_hand table values;
               in_hand = hand_here;
-              steps = laws.goes p n table (begun_hand table values) v no_account (counts_of new.transactions stored) point course turns.0 turns.1 (not_resting (v.task n) (subst IsInserting (sym task_then) inserting))
+              steps = laws.goes p n table (begun_hand table values) v no_account p.queue (counts_of new.transactions stored) point course turns.0 turns.1 (not_resting (v.task n) (subst IsInserting (sym task_then) inserting))
                   (subst (λ (q : Point). MakesAt q p n (begun_hand table values) course) (sym begun.1) one_more);
               fits = fits;
             },
@@ -314,10 +324,11 @@ module _ (laws : RowLaws) (old new : ShownStore) (n table : ℕ) (values : List 
         module _ (is_now : hand_in new.hands n ≡ None) (done : task_of old.layout after ≡ Resting) where
           done_shown : Behind None
           done_shown = behind None
-              (subst (λ (h : Option Hand). HandShows h None no_account) (sym is_now) (refl, refl))
+              (subst (λ (h : Option Hand). HandShows h None no_account) (sym is_now) refl)
               (λ h is. absurd (none-some h (sym is_now ∙ is)))
               (λ other is. absurd (none-some other (ap (table_in old.layout) (sym is_now) ∙ is)))
               (subst (λ (h : Option Hand). IsTaskOf old.layout table now new.transactions.tx stored (transaction_of new.transactions.opens n) h (then.task n)) (sym is_now) (task_then ∙ done))
+              (subst (λ (h : Option Hand). HandAsked old.layout h []) (sym is_now) tt)
 
           pub row_is_done : (q : Place) × IsPlaceOf new q × Steps p n (Ended (replies.Inserted r.id)) q
           row_is_done = (

@@ -1,6 +1,5 @@
 -- an insert that waits, or isn't stepped: the store shows the same place
-use Rattle.std.proofs.Common.{◌≡◌, ◌≢◌, ◌⊎◌, inl, inr, ℕ, ◌<◌, ◌≤◌, List, [], ◌∷◌, length, Option, None, Some, refl, sym, ap, subst, ◌∙◌}
-use Rattle.std.specs.Prelude.{slice_get}
+use Rattle.std.proofs.Common.{◌≡◌, inl, ℕ, ◌<◌, ◌≤◌, List, length, Option, Some, refl, sym, ap, subst, ◌∙◌}
 use Rattle.std.specs.FinMap as finite
 use Rattle.std.proofs.lemmas.Option.{same_Some}
 use Rattle.block_model.specs.declared.place.Place.{Place as PagePlace}
@@ -11,30 +10,27 @@ use Rattle.block_model.specs.declared.request.Entry.{Entry}
 use Rattle.block_model.specs.declared.row.Row.{Row}
 use Rattle.store_layout.specs.DiskLayout.{DiskLayout}
 use Rattle.page_layout.specs.PageContents.{Slot}
-use Rattle.page_store.specs.PageMap.{block_at, page_at}
+use Rattle.page_store.specs.PageMap.{page_at}
 use Rattle.page_locks.specs.LockChanges.{page_of}
 use Rattle.page_locks.specs.LockHolders.{holder}
 use Rattle.opened_pages.specs.PageOrder.{IsIndexInOrder}
 use Rattle.heap_rows.specs.Heaps.{relation_of as heap_of}
 use Rattle.snapshot_core.specs.declared.statuses.Status.{Status}
-use Rattle.row_versions.specs.declared.sessions.Open.{Open}
 use Rattle.row_versions.specs.StoredVersions.{transaction_of}
 use Rattle.statements.specs.declared.limits.TheConstants.{MAX_ENTRIES}
 use Rattle.tx_table.specs.Statuses.{status_relation}
-use Rattle.tx_table.specs.TxState.{TxState}
 use Rattle.transactions.specs.Laws.{ShowAlike}
 use Rattle.transactions.specs.TransactionsState.{TransactionsState}
 use Rattle.index_contents.specs.IndexContents.{index_page, relation_of as index_relation}
-use Rattle.table_coverage.specs.Accounts.{Account, no_account}
 use Rattle.table_coverage.specs.Machines.{table_state}
-use Rattle.table_coverage.specs.Table.{Inserts, TableState, Task}
+use Rattle.table_coverage.specs.Table.{TableState, Task}
 use Rattle.table_coverage.specs.TablePoints.{IsHeldBy, PageLock}
-use Rattle.table_coverage.specs.TableSteps.{IsBlocked}
 use Rattle.index_steps.specs.ShownRows.{shown_by}
-use Rattle.index_steps.specs.ShownTable.{indexes_of, shown_at}
+use Rattle.index_steps.specs.ShownTable.{shown_at}
 use Rattle.line_texts.specs.Names.{index_name, name_of}
 use Rattle.line_texts.specs.Place.{Hand as HandAt, Place, database_at}
 use Rattle.line_texts.specs.StatementSteps.{Steps, StepsTo, Waits}
+use Rattle.brin_insert.specs.AskedFor.{AreRequestsOf}
 use Rattle.brin_insert.specs.declared.insert.Insert.{Insert}
 use Rattle.brin_insert.specs.InsertAnswers.{InsertWaitsFor, relation_at}
 use Rattle.brin_insert.specs.InsertHands.{InsertHand}
@@ -42,6 +38,7 @@ use Rattle.brin_insert.specs.Inserts.{task_of}
 use Rattle.store_parts.specs.declared.hand.Hand.{Hand}
 use Rattle.store_parts.specs.declared.hand.Hand.TheVariants as hands
 use Rattle.store_parts.specs.Hands.{HandShows}
+use Rattle.store_parts.specs.HandsAsk.{HandAsked}
 use Rattle.store_parts.specs.HandsInTables.{IsTaskOf}
 use Rattle.store_parts.specs.LeadLaws.{NoRequestLeads}
 use Rattle.store_parts.specs.Leaving.{LeavesOthers}
@@ -49,8 +46,8 @@ use Rattle.store_parts.specs.PlaceLaws.{PlaceStaysShown}
 use Rattle.store_parts.specs.ShowsPlace.{IsOfTransaction, IsPlaceOf, IsRowOf, is_put}
 use Rattle.store_parts.specs.StepLaws.{TurnWaits}
 use Rattle.store_parts.specs.StoreStates.{ShownStore, hand_in}
-use Rattle.store_inserts.proofs.AtIndex.{AtIndex, hand_here, kept_here, number_here, on_there, own_row_here, put_of, relation_here, shows_here, task_before, task_here, told_here}
-use Rattle.store_inserts.proofs.IndexStep.{at_work, put_shown, row_stays}
+use Rattle.store_inserts.proofs.AtIndex.{AtIndex, asked_here, busy_before, hand_here, kept_here, number_here, own_row_here, put_of, relation_here, shows_here, task_here, told_here}
+use Rattle.store_inserts.proofs.IndexStep.{not_resting, put_shown, row_stays}
 
 -- nothing changed, but that the insert is kept anew, at the same task
 pub record StaysHere (old new : ShownStore) (n : ℕ) (before after : Insert) (hand : InsertHand) (x : Spot) : Type 0 where
@@ -67,6 +64,9 @@ pub record StaysHere (old new : ShownStore) (n : ℕ) (before after : Insert) (h
   pub transactions : new.transactions ≡ old.transactions
   pub rights : new.rights ≡ old.rights
   pub entries : new.entries ≡ old.entries
+  pub queue : new.queue ≡ old.queue
+  pub dropped : new.dropped ≡ old.dropped
+  pub same_dropped : after.dropped.items ≡ before.dropped.items
 
 module _ (old new : ShownStore) (n : ℕ) (before after : Insert) (hand : InsertHand) (x : Spot) (stays : StaysHere old new n before after hand x) (p : Place) (shown : IsPlaceOf old p) where
   hand_then : HandShows (hand_in new.hands n) (p.hands n) (p.accounts n)
@@ -99,6 +99,10 @@ module _ (old new : ShownStore) (n : ℕ) (before after : Insert) (hand : Insert
     locks = stays.locks;
     rights = stays.rights;
     entries = stays.entries;
+    queue = stays.queue;
+    dropped = stays.dropped;
+    asked = subst (λ (h : Option Hand). HandAsked old.layout h (p.accounts n).dropped) (sym stays.now)
+        (subst (λ (l : List (ℕ × ℕ)). AreRequestsOf old.layout l (p.accounts n).dropped) (sym stays.same_dropped) (asked_here old n before hand x stays.at p shown));
     hand = leads alike old new p n (p.hands n) (p.accounts n) shown stays.entries stays.transactions
         (λ block. stays.pages (record { relation = status_relation; block = block })) (λ other block below. stays.pages (record { relation = heap_of other; block = block }))
         (record { hand = hand_then; own = own_then; order = stays.order });
@@ -131,6 +135,6 @@ module _ (law : TurnWaits) (old : ShownStore) (n : ℕ) (before : Insert) (hand 
         in_hand = hand_here old n before hand x at p shown;
         steps = subst (λ (l : DiskLayout). StepsTo p n (put_of before.row) (Waits (refusals.Blocked (whats.Page (index_name l table before.at) held.block) (name_of p by))) p) shown.layout
             (law p n table (put_of before.row) w (task_of old.layout before) (PageLock before.at held.block) by (shows_here old n before hand x at p shown).shown refl (task_here old n before hand x at p shown)
-            (inl (λ rests. at_work x.block x.slot before.row before.at (on_there old n before hand x at) (sym (task_before old n before hand x at) ∙ rests))) blocked.0 blocked.1 is_held);
+            (inl (not_resting (task_of old.layout before) (busy_before old n before hand x at))) blocked.0 blocked.1 is_held);
         fits = subst (λ (l : List Entry). length l ≤ MAX_ENTRIES) (sym shown.journal) few;
       }

@@ -1,19 +1,19 @@
 -- what the steps of an insert take of the laws of the parts
 use Rattle.transactions.specs.Laws.{FailureCounts, FailureIsShown, PutCounts, PutIsShown, PutIsUnseen, RefusalIsFailure, SessionsAreShown, ShowAlike}
 use Rattle.store_parts.specs.LeadLaws.{FailureCountsNoMore, FewerCountsFew, NoRequestLeads, NothingLeavesSlots, PutLeavesSlots, RequestLeads, SameCountsFew}
-use Rattle.store_parts.specs.PlaceLaws.{PlaceStaysShown, TableStepIsShown}
+use Rattle.store_parts.specs.PlaceLaws.{AskingStepIsShown, PlaceStaysShown, TableStepIsShown}
 use Rattle.store_parts.specs.RefusalLaws.{InsertIsRefused, RefusalIsShown, RowIsRefused}
 use Rattle.store_parts.specs.RequestLaws.{PutIsLegal}
-use Rattle.store_parts.specs.StepLaws.{MachineTurns, TurnGoesOn, TurnIsRefused, TurnReplies, TurnWaits}
+use Rattle.store_parts.specs.StepLaws.{MachineAsks, TurnAsks, TurnIsRefused, TurnReplies, TurnWaits}
 use Rattle.store_parts.specs.TableLaws.{OwnTableGoesOn}
 
 -- a step in an index, and one that waits
 pub record IndexLaws : Type 0 where
-  pub machine : MachineTurns
-  pub goes : TurnGoesOn
+  pub machine : MachineAsks
+  pub goes : TurnAsks
   pub replies : TurnReplies
   pub waits : TurnWaits
-  pub shown : TableStepIsShown
+  pub shown : AskingStepIsShown
   pub stays : PlaceStaysShown
   pub own : OwnTableGoesOn
   pub alike : ShowAlike
@@ -23,10 +23,10 @@ pub record IndexLaws : Type 0 where
 
 -- the put of a row
 pub record RowLaws : Type 0 where
-  pub machine : MachineTurns
-  pub goes : TurnGoesOn
+  pub machine : MachineAsks
+  pub goes : TurnAsks
   pub replies : TurnReplies
-  pub shown : TableStepIsShown
+  pub shown : AskingStepIsShown
   pub own : OwnTableGoesOn
   pub leads : RequestLeads
   pub legal : PutIsLegal

@@ -29,7 +29,8 @@ use store_parts::{
     one_hand_changes, page_waited_for, spent,
 };
 
-/// A later step of an insert: in an index of its table. With the last one the insert is done, and its machine is spare. It waits where
+/// A later step of an insert: in an index of its table. Where it has to ask for a summary first, the request joins the queue, or is kept among
+/// those that the session asked for in vain. With the last step the insert is done, and its machine is spare. It waits where
 /// another session locks a page that the step changes. Where no page of the index is left for the tuple with the row, the put is entered
 /// anew so, and the session's transaction fails; `Spent` comes where the journal has no room for that.
 pub fn insert_on<D: Disk + Drop>(
@@ -59,11 +60,21 @@ pub fn insert_on<D: Disk + Drop>(
         Err(error) => return undone(insert, fault_of(error)),
     }
     let index = insert.index();
-    match insert.step(&mut parts.pages, &mut parts.locks, session) {
-        Ok(Did::Moved(point)) => Stepped::Moved {
-            point,
-            hand: Hand::Inserts(insert),
-        },
+    match insert.step(
+        &mut parts.pages,
+        &mut parts.locks,
+        &mut parts.queue,
+        session,
+    ) {
+        Ok(Did::Moved(point)) => {
+            parts
+                .dropped
+                .set(session, parts.pages.layout(), insert.dropped());
+            Stepped::Moved {
+                point,
+                hand: Hand::Inserts(insert),
+            }
+        }
         Ok(Did::Finished(_)) => Stepped::Done(answered(insert, spare)),
         Ok(Did::Blocked(held)) => Stepped::Blocked {
             what: page_waited_for(parts.pages.layout(), index, &held),

@@ -3,7 +3,7 @@
 ghost use Rattle.store_inserts.specs.TakenLaws.{IndexLaws, RefusalLaws, RowLaws};
 
 use store_parts::{
-    a_machine_turns, a_refusal_is_shown, a_refusal_turns, a_request_leads, a_step_is_shown,
+    a_machine_asks, a_refusal_is_shown, a_refusal_turns, a_request_leads, a_step_is_shown,
     a_turn_is_a_step, few_rows_come_to_count, others_see_on, requests_are_legal,
     the_own_table_goes_on,
 };
@@ -18,7 +18,7 @@ pub(crate) fn steps_of_an_insert()
     ensures row { RowLaws }
     ensures refusal { RefusalLaws }
 {
-    a_machine_turns();
+    a_machine_asks();
     a_turn_is_a_step();
     a_step_is_shown();
     the_own_table_goes_on();

@@ -4,7 +4,7 @@ ghost use Rattle.std.specs.Prelude.{◌≡◌, ◌+◌, ◌^◌, ◌<◌, None, 
 ghost use Rattle.heap_rows.specs.Heaps.{kinds_at};
 ghost use Rattle.page_layout.specs.RowBytes.{HaveKinds};
 ghost use Rattle.row_versions.specs.StoredVersions.{transaction_of};
-ghost use Rattle.brin_insert.specs.Inserts.{AsksNothing, IsInsertFor};
+ghost use Rattle.brin_insert.specs.Inserts.{IsInsertFor};
 ghost use Rattle.transactions.specs.Sessions.{next_row_of};
 ghost use Rattle.transactions.specs.TransactionsState.{OfOpen};
 
@@ -27,7 +27,6 @@ pub(crate) fn machine_for<D: Disk + Drop>(
     requires open { IsSome (transaction_of parts.old.transactions.opens session) }
     requires table { table < length parts.old.pages.layout.schema.tables }
     requires kinds { HaveKinds (kinds_at parts.old.pages.layout table) values }
-    requires asks { AsksNothing parts.old.pages.layout table }
     requires spare { IfSome spare.old (IsInsertFor parts.old.pages.layout) }
     ensures made { IfOk result (IsInsertFor parts.old.pages.layout) }
     ensures nowhere { IfOk result (λ insert. insert.place ≡ None) }
@@ -65,7 +64,6 @@ fn begun(
 ) -> Result<Insert, NoMemory>
     requires table { row.table < length layout.now.schema.tables }
     requires kinds { HaveKinds (kinds_at layout.now row.table) row.values }
-    requires asks { AsksNothing layout.now row.table }
     requires spare { IfSome spare.old (IsInsertFor layout.now) }
     ensures made { IfOk result (IsInsertFor layout.now) }
     ensures begins { IfOk result (λ insert. (insert.row ≡ row) × (insert.place ≡ None)) }

@@ -117,7 +117,12 @@ fn first_step<D: Disk + Drop>(
     steps_of_an_insert();
     one_hand_changes();
     an_undone_step_changes_nothing(parts);
-    match insert.step(&mut parts.pages, &mut parts.locks, session) {
+    match insert.step(
+        &mut parts.pages,
+        &mut parts.locks,
+        &mut parts.queue,
+        session,
+    ) {
         Ok(Did::Moved(point)) => {
             enter_row(parts, session, insert.row());
             Stepped::Moved {

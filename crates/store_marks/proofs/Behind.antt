@@ -1,5 +1,6 @@
 -- A mark behind the call that tells whether its row is in conflict, which changes no page.
 use Rattle.std.proofs.Common.{◌≡◌, ℕ, Bool, length, None, Some, refl, sym, ap, ◌∙◌, subst}
+use Rattle.std.proofs.lemmas.Option.{none-some}
 use Rattle.std.specs.List.{slice_get}
 use Rattle.disk_trait.specs.Told.{Told}
 use Rattle.store_layout.specs.DiskLayout.{DiskLayout}
@@ -45,6 +46,7 @@ module _ {D : Type 0} (told : D → Told) (old : Parts D) (pages : View D) (n : 
           in_hand = subst (λ (l : DiskLayout). FitsHand l (transaction_of old.transactions.opens n) (Some (hands.Marks marking))) (sym keeps.leaves.layout) was.in_hand;
           limit = was.limit;
           own = was.own;
+          held = λ table holds. absurd (none-some table (was.held table holds));
           rights = was.rights ∙ ap (λ (l : DiskLayout). length l.schema.tables) (sym keeps.leaves.layout);
           entries = was.entries;
           share = was.share;
@@ -64,7 +66,7 @@ module _ {D : Type 0} (told : D → Told) (old : Parts D) (pages : View D) (n : 
   still_in_use table hit used tells = subst (λ (l : DiskLayout). IsInUse l pages.pages table hit.spot) (sym keeps.leaves.layout) (subst (λ (map : PageMap). IsInUse old.pages.layout map table hit.spot) (sym (keeps.pages tells)) used)
 
   pub behind : (new : Parts D) (answer : Stepped) → old.pages.failed ≡ None → pages.failed ≡ None → StepsSo told mid new n (hands.Marks marking) answer → StepsSo told old new n (hands.Marks marking) answer
-  behind new answer ready still steps = steps_behind told old mid new n (hands.Marks marking) answer keeps ready still (record { transactions = refl; locks = refl; rights = refl; journal = refl }) steps
+  behind new answer ready still steps = steps_behind told old mid new n (hands.Marks marking) answer keeps ready still (record { transactions = refl; locks = refl; rights = refl; journal = refl; queue = refl; dropped = refl }) steps
 
 -- the row of the next hit stands on the pages
 pub in_use : {D : Type 0} (told : D → Told) (sessions : SessionsAreShown) (copies : CopyStands) (parts : Parts D) (n : ℕ) (marking : Marking) (hit : Hit) → IsFit told parts n (hands.Marks marking)

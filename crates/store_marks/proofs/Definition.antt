@@ -37,7 +37,6 @@ pub record StandsAtMark (p : Place) (n : ℕ) (query : Query) (answers : List An
   pub row : Row
   pub more : List Row
   pub left : drop k rows ≡ row ∷ more
-  pub queue : p.queue ≡ []
   pub scan : TableScan
   pub at : (p.tables query.table).task n ≡ Marks scan (row.id ∷ map (λ (r : Row). r.id) more)
 
@@ -112,7 +111,7 @@ module _ (p : Place) (n : ℕ) (query : Query) (answers : List Answer) (first : 
     v = at_task n (p.tables query.table) (left_at stands.scan (map (λ (r : Row). r.id) stands.more))
 
     turn : IsMarkTurn p n query v
-    turn = mark_turns p n query (p.tables query.table) stands.scan stands.row.id (map (λ (r : Row). r.id) stands.more) stands.queue stands.at same_table (λ m. refl)
+    turn = mark_turns p n query (p.tables query.table) stands.scan stands.row.id (map (λ (r : Row). r.id) stands.more) stands.at same_table (λ m. refl)
 
     lacks_for_mark : (after : DatabaseState) → effect (database_at p) (mark_entry n query.table stands.row) ≡ (after, Marked) → (more : List Row) → stands.more ≡ more → LacksRoom p n
     lacks_for_mark after does [] is = record {
@@ -137,7 +136,7 @@ module _ (p : Place) (n : ℕ) (query : Query) (answers : List Answer) (first : 
 
     lacks_for_conflict : (after : DatabaseState) → effect (database_at p) (mark_entry n query.table stands.row) ≡ (after, Conflict stands.row.id) → LacksRoom p n
     lacks_for_conflict after does =
-        let refused = mark_is_refused p n query.table 0 (statements.Delete query) (p.tables query.table) stands.scan stands.row.id (map (λ (r : Row). r.id) stands.more) (λ t. false) refl stands.queue
+        let refused = mark_is_refused p n query.table 0 (statements.Delete query) (p.tables query.table) stands.scan stands.row.id (map (λ (r : Row). r.id) stands.more) (λ t. false) refl
         delete_only refl stands.at (record { failed = refl; fewer = λ u none. absurd (true≢false (sym none)) }) in
         record {
           hand = at;

@@ -82,6 +82,7 @@ module _ {D : Type 0} (told : D → Told) (old : Parts D) (n : ℕ) (marking : M
       held = refl;
       locks = refl;
       rights = refl;
+      dropped = refl;
       entries = room;
       promised = (λ i. j.promised + share_of (Some (hands.Marks marking)) (own.1 i))
           ∙ conflict_promised marking own.0 j.promised entered.promised looked.promised old.journal.promised unneeded own.2 left released mark_promised_ look_promised
@@ -136,6 +137,7 @@ module _ {D : Type 0} (told : D → Told) (old : Parts D) (n : ℕ) (marking : M
           held = refl;
           locks = refl;
           rights = refl;
+          dropped = refl;
           entries = room;
           promised = (λ i. j.promised + share_of (Some (hands.Marks marking)) (own.1 i))
               ∙ mark_promised marking own.0 (length (drop (marking.next + 1) marking.hits.items)) j.promised looked.promised old.journal.promised own.2 one_less mark_promised_ look_promised
@@ -157,6 +159,7 @@ module _ {D : Type 0} (told : D → Told) (old : Parts D) (n : ℕ) (marking : M
           held = refl;
           locks = refl;
           rights = refl;
+          dropped = refl;
           entries = room;
           promised = (λ i. j.promised + share_of (Some (hands.Marks marking)) (own.1 i))
               ∙ mark_promised marking own.0 0 j.promised looked.promised old.journal.promised own.2 last mark_promised_ look_promised

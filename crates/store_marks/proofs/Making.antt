@@ -43,7 +43,6 @@ use Rattle.transactions.specs.CountedRows.{counts as counts_of}
 use Rattle.transactions.specs.Laws.{CopyStands, IsMarking, MarkIsShown, MarkIsUnseen, SessionsAreShown}
 use Rattle.transactions.specs.StoredRows.{conflicts_with}
 use Rattle.transactions.specs.ShowsDatabase.{DoesRequest, ShowsDatabase}
-use Rattle.table_coverage.specs.Accounts.{Account}
 use Rattle.table_coverage.specs.Machines.{ShownTable, table_state, task_turned}
 use Rattle.table_coverage.specs.TableSteps.{OnlyTurns}
 use Rattle.table_coverage.specs.Table.{Marks, Resting, TableScan, TableState, Task, pick}
@@ -60,6 +59,7 @@ use Rattle.store_parts.specs.declared.hand.Stepped.TheVariants as stepped
 use Rattle.store_parts.specs.declared.parts.Parts.{Parts}
 use Rattle.store_parts.specs.HandFits.{IsMarkingFor}
 use Rattle.store_parts.specs.Hands.{HandShows, hits_left, ids_of}
+use Rattle.store_parts.specs.HandsAsk.{IsNoInsert}
 use Rattle.store_parts.specs.HandsInTables.{IsMarkingAt, IsTaskOf, table_in}
 use Rattle.store_parts.specs.JournalState.{JournalState}
 use Rattle.store_parts.specs.Leaving.{CountsFew, LeadsTo, LeavesOthers, RowsStay, SameLocks, SlotsStay, StepsInTable}
@@ -242,7 +242,7 @@ module _ {D : Type 0} (told : D → Told) (laws : MarkLaws) (old : Parts D) (pag
     only = subst (λ (w : TableState). OnlyTurns w plain) (sym at.table.shown) only_there
 
     pub turn : IsMarkTurn p n marking.query v
-    turn = mark_turns p n marking.query plain at.stands.scan at.stands.row.id more_ids shown.queue at.stands.at only (λ m. ap (λ (w : TableState). w.task m) (sym at.table.shown))
+    turn = mark_turns p n marking.query plain at.stands.scan at.stands.row.id more_ids at.stands.at only (λ m. ap (λ (w : TableState). w.task m) (sym at.table.shown))
 
     leaves : LeavesOthers n s after_store
     leaves = record { layout = others.leaves.layout; names = refl; first = refl; hands = has_hand.others; opens = λ m apart. refl }
@@ -306,9 +306,10 @@ module _ {D : Type 0} (told : D → Told) (laws : MarkLaws) (old : Parts D) (pag
     abbrev pub place_then : Option HandAt → Place
     place_then at_then = place_after p n table at_then v (p.accounts n) counts j.entries
 
-    pub shown_then : (at_then : Option HandAt) → HandShows hand_then at_then (p.accounts n) → IsInTable → IsTaskThen → IsOwnThen → IsPlaceOf after_store (place_then at_then)
-    shown_then at_then shows_then is_there is_task own_then =
+    pub shown_then : (at_then : Option HandAt) → HandShows hand_then at_then (p.accounts n) → IsInTable → IsTaskThen → IsOwnThen → IsNoInsert hand_then → IsPlaceOf after_store (place_then at_then)
+    shown_then at_then shows_then is_there is_task own_then no_insert =
         table_step_is_shown s after_store p n table at_then v (p.accounts n) shown leaves (in_table is_there) few (leads at_then shows_then own_then) (own_table is_task)
+        (record { queue = refl; dropped = refl; told = refl; hand = subst IsNoInsert (sym has_hand.own) no_insert })
 
   -- ---- one more is left
 
@@ -383,7 +384,7 @@ module _ {D : Type 0} (told : D → Told) (laws : MarkLaws) (old : Parts D) (pag
           (there.found_then ∙ ap ids_of (sym left_later))
 
       pub shown_moved : IsPlaceOf (shown_of (store_of new names (with_hand hands_ n hand_then))) (place_then hand_then names hands_ is tells p shown (Some at_then))
-      shown_moved = shown_then hand_then names hands_ is tells p shown (Some at_then) shows_then in_its_table ((λ same. marks_then), (λ apart. absurd (apart refl))) own_then
+      shown_moved = shown_then hand_then names hands_ is tells p shown (Some at_then) shows_then in_its_table ((λ same. marks_then), (λ apart. absurd (apart refl))) own_then tt
 
       next_row : (rows : List Row) → map (λ (r : Row). r.id) rows ≡ ids_of (drop (suc marking.next) marking.hits.items) → (row : Row) × (rest : List Row) × (rows ≡ row ∷ rest)
       next_row rows same = let found = first_of rows h.id (ids_of hs) (same ∙ ap ids_of one_more) in (found.row, found.more, found.is)
@@ -425,7 +426,7 @@ module _ {D : Type 0} (told : D → Told) (laws : MarkLaws) (old : Parts D) (pag
       rests_then = ap (λ (rows : List Row). left_at there_last.stands.scan (map (λ (r : Row). r.id) rows)) none_more
 
       pub shown_ended : IsPlaceOf (shown_of (store_of new names (with_hand hands_ n None))) (place_then None names hands_ is tells p shown None)
-      shown_ended = shown_then None names hands_ is tells p shown None (refl, ap (λ (a : Account). a.dropped) there_last.account) (λ other there. absurd (none-some other there)) rests_then (λ hand there. absurd (none-some hand there))
+      shown_ended = shown_then None names hands_ is tells p shown None refl (λ other there. absurd (none-some other there)) rests_then (λ hand there. absurd (none-some hand there)) tt
 
       pub steps_ended : Steps p n (Ended (replies.Deleted (marking.next + 1))) (place_then None names hands_ is tells p shown None)
       steps_ended = record {

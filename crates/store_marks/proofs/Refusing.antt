@@ -26,7 +26,6 @@ use Rattle.transactions.specs.CountedRows.{counts as counts_of}
 use Rattle.transactions.specs.Laws.{ConflictIsShown, CopyStands, FailureCounts, IsMarking, SessionsAreShown}
 use Rattle.transactions.specs.ShowsDatabase.{DoesRequest, ShowsDatabase}
 use Rattle.transactions.specs.TransactionsState.{with_failed}
-use Rattle.table_coverage.specs.Accounts.{Account}
 use Rattle.table_coverage.specs.Machines.{Unseen, task_turned}
 use Rattle.table_coverage.specs.Refusals.{HasConflict}
 use Rattle.table_coverage.specs.Table.{Resting, TableState}
@@ -42,6 +41,7 @@ use Rattle.store_parts.specs.declared.hand.Stepped.TheVariants as stepped
 use Rattle.store_parts.specs.declared.parts.Parts.{Parts}
 use Rattle.store_parts.specs.HandFits.{IsMarkingFor}
 use Rattle.store_parts.specs.Hands.{HandShows}
+use Rattle.store_parts.specs.HandsAsk.{IsNoInsert}
 use Rattle.store_parts.specs.HandsInTables.{IsTaskOf, table_in}
 use Rattle.store_parts.specs.JournalState.{JournalState}
 use Rattle.store_parts.specs.Leaving.{CountsFew, LeadsTo, LeavesOthers, SameLocks, StepsInTable}
@@ -144,7 +144,7 @@ module _ {D : Type 0} (told : D → Told) (laws : ConflictLaws) (old : Parts D) 
     v = refused_in n counts (p.tables table)
 
     turns : (turns : TurnsIn p n (statements.Delete marking.query) table v (p.accounts n)) × (refusal_in turns ≡ Some (HasConflict at.stands.row.id))
-    turns = mark_is_refused p n table o.t (statements.Delete marking.query) (p.tables table) at.stands.scan at.stands.row.id (map (λ (r : Row). r.id) at.stands.more) counts refl shown.queue delete_only refl at.stands.at no_more
+    turns = mark_is_refused p n table o.t (statements.Delete marking.query) (p.tables table) at.stands.scan at.stands.row.id (map (λ (r : Row). r.id) at.stands.more) counts refl delete_only refl at.stands.at no_more
 
     leaves : LeavesOthers n s then
     leaves = record {
@@ -187,7 +187,7 @@ module _ {D : Type 0} (told : D → Told) (laws : ConflictLaws) (old : Parts D) 
           (subst (λ (id : RowId). finite.contains_key at.stands.copy.view id ≡ true) (sym at.its_id) at.in_copy));
       copies = λ m apart. ap (λ (d : DatabaseState). finite.get d.sessions m) (run ∙ sym (ap (λ (r : DatabaseState × Answer). r.0) made.1))
           ∙ copies_stay (database_at p) (request_entry n table (requests.Mark at.row.id)) m apart;
-      hand = subst (λ (h : Option Hand). HandShows h None (p.accounts n)) (sym has_none.own) (refl, ap (λ (a : Account). a.dropped) at.account);
+      hand = subst (λ (h : Option Hand). HandShows h None (p.accounts n)) (sym has_none.own) refl;
       own = λ now there. absurd (none-some now (sym has_none.own ∙ there));
       order = λ index below order. order;
     }
@@ -197,6 +197,7 @@ module _ {D : Type 0} (told : D → Told) (laws : ConflictLaws) (old : Parts D) 
 
     pub shown_then : IsPlaceOf then q
     shown_then = table_step_is_shown s then p n table None v (p.accounts n) shown leaves in_table few leads own_table
+        (record { queue = refl; dropped = refl; told = refl; hand = subst IsNoInsert (sym has_none.own) tt })
 
     pub steps_then : Steps p n (Ended (replies.Refused (refusals.Conflict hit.id))) q
     steps_then = record {

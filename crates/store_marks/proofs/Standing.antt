@@ -125,7 +125,6 @@ module _ (sessions : SessionsAreShown) (copies : CopyStands) (s : ShownStore) (p
     row = here.row;
     more = here.more;
     left = here.is;
-    queue = shown.queue;
     scan = marking_at.scan;
     at = ap (λ (w : TableState). w.task n) table.shown ∙ marking_at.task_is ∙ ap (Marks marking_at.scan) (left_is ∙ (λ i. sym here.its_id i ∷ sym here.others i));
   }

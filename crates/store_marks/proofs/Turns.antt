@@ -81,11 +81,11 @@ marks_at n w v scan id rest was only same = record {
 abbrev pub IsMarkTurn : (p : Place) (n : ℕ) (query : Query) → TableState → Type 0
 IsMarkTurn p n query v = (turns : TurnsIn p n (statements.Delete query) query.table v (p.accounts n)) × (point_in turns ≡ Some points.Mark)
 
-pub mark_turns : (p : Place) (n : ℕ) (query : Query) (v : TableState) (scan : TableScan) (id : RowId) (rest : List RowId) → p.queue ≡ [] → (p.tables query.table).task n ≡ Marks scan (id ∷ rest)
+pub mark_turns : (p : Place) (n : ℕ) (query : Query) (v : TableState) (scan : TableScan) (id : RowId) (rest : List RowId) → (p.tables query.table).task n ≡ Marks scan (id ∷ rest)
     → OnlyTurns (p.tables query.table) v → ((m : ℕ) → v.task m ≡ (p.tables query.table).task m) → IsMarkTurn p n query (at_task n v (left_at scan rest))
-mark_turns p n query v scan id rest queue was only same =
+mark_turns p n query v scan id rest was only same =
     let made = machine_turns p n query.table (statements.Delete query) (p.tables query.table) (at_task n v (Marks scan rest)) (at_task n v (left_at scan rest)) points.Mark (λ account. account)
-    refl queue delete_only refl (marks_at n (p.tables query.table) v scan id rest was only same) not_prune (settles n v scan rest) (inl (λ resting. not_resting (sym was ∙ resting))) in
+    refl delete_only refl (marks_at n (p.tables query.table) v scan id rest was only same) not_prune (settles n v scan rest) (inl (λ resting. not_resting (sym was ∙ resting))) in
     (made.0, made.1)
   where
     delete_only : statements.Delete query ≢ statements.Work

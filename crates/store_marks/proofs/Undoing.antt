@@ -30,7 +30,7 @@ pub not_ready : {D : Type 0} (told : D → Told) (parts : Parts D) (n : ℕ) (ha
     → Refused told (Untold told parts.pages) parts.pages parts.pages error → fault ≡ fault_of error → StepsSo told parts parts n hand (stepped.Undone fault hand)
 not_ready told parts n hand error fault fits refused is =
     refused_by told parts parts n hand error fault fits (fit_of_parts told parts n hand fits).over (record { layout = refl; tells = refl; faults = omega arith })
-    (record { transactions = refl; locks = refl; rights = refl; journal = refl }) refused is
+    (record { transactions = refl; locks = refl; rights = refl; journal = refl; queue = refl; dropped = refl }) refused is
 
 -- the journal has no room
 pub no_room_for : {D : Type 0} (told : D → Told) (parts : Parts D) (n : ℕ) (hand : Hand) (fault : StoreFault) → IsFit told parts n hand → parts.pages.failed ≡ None

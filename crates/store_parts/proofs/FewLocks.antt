@@ -1,5 +1,8 @@
 -- how many page locks a statement in hand holds
 use Rattle.std.proofs.Common.{◌≤◌, Option, None, Some, arith}
+use Rattle.brin_desummarise.specs.declared.stage.Stage.{Stage as DesummariseStage}
+use Rattle.brin_desummarise.specs.declared.stage.Stage.TheVariants as desummarises
+use Rattle.brin_desummarise.specs.Desummarises.{held_at as held_by_desummarise}
 use Rattle.brin_insert.specs.declared.stage.Stage.{Stage as InsertStage}
 use Rattle.brin_insert.specs.declared.stage.Stage.TheVariants as inserts
 use Rattle.brin_insert.specs.InsertLocks.{held_by as held_by_insert, stage_of}
@@ -39,8 +42,13 @@ summarise_few a standings.Begins = omega arith
 summarise_few a standings.AtRange = range_few a.hand.growth.stage a.hand.stage
 summarise_few a standings.Done = omega arith
 
+desummarise_few : (stage : DesummariseStage) → held_by_desummarise stage ≤ 3
+desummarise_few (desummarises.Drop x) = omega arith
+desummarise_few stage = omega arith
+
 pub few_locks_each : FewLocksEach
 few_locks_each None = omega arith
 few_locks_each (Some (hands.Inserts insert)) = insert_few (stage_of insert)
 few_locks_each (Some (hands.Summarises a)) = summarise_few a a.standing
+few_locks_each (Some (hands.Desummarises a)) = desummarise_few a.stage
 few_locks_each (Some hand) = omega arith

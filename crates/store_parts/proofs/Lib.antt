@@ -6,6 +6,7 @@ pub mod Seeing
 pub mod Locks
 pub mod Tables
 pub mod Steps
+pub mod Asks
 pub mod Places
 pub mod Refusals
 pub mod Undone
@@ -14,3 +15,4 @@ pub mod Opening
 pub mod Maintenance
 pub mod Submits
 pub mod FewLocks
+pub mod HeldLocks

@@ -1,24 +1,28 @@
 -- the place that an opened store shows
-use Rattle.std.proofs.Common.{Option, None, refl, sym, subst, ◌∙◌}
+use Rattle.std.proofs.Common.{ℕ, List, [], Option, None, refl, sym, subst, ◌∙◌}
 use Rattle.std.proofs.lemmas.Option.{none-some}
 use Rattle.row_versions.specs.StoredVersions.{transaction_of}
 use Rattle.table_coverage.specs.Accounts.{no_account}
 use Rattle.table_coverage.specs.Table.{Resting}
 use Rattle.transactions.specs.CountedRows.{counts as counts_of}
+use Rattle.brin_insert.specs.AskedFor.{AreRequestsOf, NoRequests}
 use Rattle.store_parts.specs.declared.hand.Hand.{Hand}
 use Rattle.store_parts.specs.Hands.{HandShows}
+use Rattle.store_parts.specs.HandsAsk.{HandAsked}
 use Rattle.store_parts.specs.HandsInTables.{IsTaskOf}
 use Rattle.store_parts.specs.OpeningLaws.{OpenedIsShown, unseen_at_rest}
 
 pub opened_is_shown : OpenedIsShown
-opened_is_shown s opening tables empty none database opened order = record {
+opened_is_shown s opening tables empty unasked undropped none database opened order = record {
   layout = refl;
   names = refl;
-  queue = refl;
+  queue = subst (λ (l : List (ℕ × ℕ)). AreRequestsOf s.layout l []) (sym unasked) NoRequests;
+  told = undropped;
+  asked = λ n. subst (λ (h : Option Hand). HandAsked s.layout h []) (sym (none n)) tt;
   journal = sym empty;
   legal = refl;
   database = database;
-  hands = λ n. subst (λ (h : Option Hand). HandShows h None no_account) (sym (none n)) (refl, refl);
+  hands = λ n. subst (λ (h : Option Hand). HandShows h None no_account) (sym (none n)) refl;
   own = λ n hand is. absurd (none-some hand (sym (none n) ∙ is));
   tables = λ table below. record {
     blocks = (opened table below).blocks;

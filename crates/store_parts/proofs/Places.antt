@@ -27,22 +27,27 @@ use Rattle.transactions.specs.CountedRows.{counts as counts_of}
 use Rattle.transactions.specs.TransactionsState.{TransactionsState}
 use Rattle.transactions.specs.ShowsDatabase.{ShowsDatabase}
 use Rattle.index_contents.specs.IndexContents.{relation_of}
-use Rattle.table_coverage.specs.Accounts.{Account}
+use Rattle.reply_texts.specs.declared.dropped.Dropped.{Dropped}
+use Rattle.table_coverage.specs.Accounts.{Account, Asked}
 use Rattle.table_coverage.specs.Machines.{ShownTable, table_state}
 use Rattle.table_coverage.specs.Table.{Resting, TableState}
 use Rattle.index_steps.specs.IndexTuples.{index_at}
 use Rattle.index_steps.specs.ShownIndex.{lock_in}
 use Rattle.index_steps.specs.ShownRows.{row_in}
+use Rattle.brin_insert.specs.AskedFor.{AreRequestsOf}
+use Rattle.line_texts.specs.Names.{dropped_of}
 use Rattle.line_texts.specs.Place.{Hand as HandAt, Place, database_at}
 use Rattle.store_parts.specs.declared.hand.Hand.{Hand}
 use Rattle.store_parts.specs.Hands.{HandShows}
+use Rattle.store_parts.specs.HandsAsk.{HandAsked}
 use Rattle.store_parts.specs.HandsInTables.{IsTaskOf, table_in}
-use Rattle.store_parts.specs.Leaving.{ChangesLocks, CountsFew, GivesLocks, HasNoRows, IsRelationOf, LeadsTo, LeavesOthers, LeavesTable, LocksIn, SameLocks, SeeAlike, StepsAtOnce, StepsInTable}
-use Rattle.store_parts.specs.PlaceLaws.{PlaceStaysShown, StaysShown, StepAtOnceIsShown, TableStepIsShown}
-use Rattle.store_parts.specs.PlacesAfter.{place_after, place_at_once}
+use Rattle.store_parts.specs.Leaving.{AsksForNone, ChangesLocks, CountsFew, GivesLocks, HasAsked, HasNoRows, IsRelationOf, LeadsTo, LeavesOthers, LeavesTable, LocksIn, SameLocks, SeeAlike, StepsAtOnce, StepsInTable}
+use Rattle.store_parts.specs.PlaceLaws.{AskingStepIsShown, PlaceStaysShown, StaysShown, StepAtOnceIsShown, TableStepIsShown}
+use Rattle.store_parts.specs.PlacesAfter.{place_asking, place_at_once}
 use Rattle.store_parts.specs.ShowsPlace.{IsOfTransaction, IsPlaceOf, ShowsTable}
-use Rattle.store_parts.specs.StoreStates.{ShownStore, hand_in}
+use Rattle.store_parts.specs.StoreStates.{ShownStore, dropped_in, hand_in}
 use Rattle.store_parts.specs.TableLaws.{CountsFewIn, IsQuiet}
+use Rattle.store_parts.proofs.Asks.{asked_then, asks_none, told_then}
 use Rattle.store_parts.proofs.Locks.{gives_none}
 use Rattle.store_parts.proofs.Steps.{other_after, table_after, updated_apart, updated_here}
 use Rattle.store_parts.proofs.Tables.{all_rows_stay, at_layout, locks_none, own_rests, same_blocks, same_contents, sees_same, shown_alike, table_stays}
@@ -151,12 +156,13 @@ module _ (old new : ShownStore) (p : Place) (n table : ℕ) (shown : IsPlaceOf o
       is_in = λ is. apart (steps.is_in i is);
     }
 
-  module _ (few : CountsFew old new stored stored) (at : Option HandAt) (account : Account) (leads : LeadsTo old new p n at account) (v : TableState) (own : ShowsTable new stored table v) where
+  module _ (few : CountsFew old new stored stored) (at : Option HandAt) (account : Account) (queue : List Asked) (leads : LeadsTo old new p n at account) (v : TableState) (own : ShowsTable new stored table v)
+      (asked : HasAsked n old new account queue) where
     abbrev counts : ℕ → Bool
     counts = counts_of new.transactions stored
 
     abbrev led : Place
-    led = place_after p n table at v account counts new.entries
+    led = place_asking p n table at v account counts new.entries queue
 
     -- the statuses that the pages show then are those that they showed
     same_stored : leads.database.stored ≡ stored
@@ -186,7 +192,9 @@ module _ (old new : ShownStore) (p : Place) (n table : ℕ) (shown : IsPlaceOf o
     place_then = record {
       layout = shown.layout;
       names = shown.names ∙ sym leaves.names;
-      queue = shown.queue;
+      queue = asked.requests;
+      told = told_then old new p n account queue shown leaves asked;
+      asked = asked_then old new p n account queue shown leaves asked;
       journal = refl;
       legal = leads.legal;
       database = leads.database;
@@ -196,16 +204,20 @@ module _ (old new : ShownStore) (p : Place) (n table : ℕ) (shown : IsPlaceOf o
       order = λ index below. leads.order index below (shown.order index below);
     }
 
+pub asking_step_is_shown : AskingStepIsShown
+asking_step_is_shown old new p n table at v account queue shown leaves steps few leads own asked =
+    subst (λ (l : DiskLayout). IsPlaceOf (at_layout new l) (place_asking p n table at v account (counts_of new.transactions shown.database.stored) new.entries queue)) (sym leaves.layout)
+    (place_then old new p n table shown leaves steps few at account queue leads v own asked)
+
 pub table_step_is_shown : TableStepIsShown
-table_step_is_shown old new p n table at v account shown leaves steps few leads own =
-    subst (λ (l : DiskLayout). IsPlaceOf (at_layout new l) (place_after p n table at v account (counts_of new.transactions shown.database.stored) new.entries)) (sym leaves.layout)
-    (place_then old new p n table shown leaves steps few at account leads v own)
+table_step_is_shown old new p n table at v account shown leaves steps few leads own none =
+    asking_step_is_shown old new p n table at v account p.queue shown leaves steps few leads own (asks_none old new p n account shown none)
 
 -- ---- a step in no table
 
 module _ (old new : ShownStore) (p : Place) (n : ℕ) (later : List Status) (shown : IsPlaceOf old p) (leaves : LeavesOthers n old new) (steps : StepsAtOnce n old new)
     (has : HasStatuses old.layout new.pages later) (alike : SeeAlike n old new shown.database.stored later) (few : CountsFew old new shown.database.stored later)
-    (done : hand_in new.hands n ≡ None) (leads : LeadsTo old new p n None (p.accounts n)) where
+    (done : hand_in new.hands n ≡ None) (leads : LeadsTo old new p n None (p.accounts n)) (none : AsksForNone n old new p (p.accounts n)) where
   abbrev counts_then : ℕ → Bool
   counts_then = counts_of new.transactions later
 
@@ -239,11 +251,25 @@ module _ (old new : ShownStore) (p : Place) (n : ℕ) (later : List Status) (sho
         (subst (λ (h : Option HandAt). HandShows (hand_in old.hands m) h (p.accounts m)) (sym (updated_apart p.hands n None m apart)) (shown.hands m))
   ]
 
+  abbrev asked : HasAsked n old new (p.accounts n) p.queue
+  asked = asks_none old new p n (p.accounts n) shown none
+
+  told_at_once : (m : ℕ) → dropped_in new.dropped m ≡ dropped_of old.layout (p.accounts m).dropped
+  told_at_once m = ap (λ (l : List (List Dropped)). dropped_in l m) none.dropped ∙ shown.told m
+
+  asked_at_once : (m : ℕ) → HandAsked old.layout (hand_in new.hands m) (p.accounts m).dropped
+  asked_at_once m = elim (cases_eq m n) [
+    | inl is ↦ subst (λ (k : ℕ). HandAsked old.layout (hand_in new.hands k) (p.accounts k).dropped) (sym is) asked.hand
+    | inr apart ↦ subst (λ (h : Option Hand). HandAsked old.layout h (p.accounts m).dropped) (sym (leaves.hands m apart)) (shown.asked m)
+  ]
+
   place_at_once_then : IsPlaceOf (at_layout new old.layout) at_once
   place_at_once_then = record {
     layout = shown.layout;
     names = shown.names ∙ sym leaves.names;
-    queue = shown.queue;
+    queue = asked.requests;
+    told = told_at_once;
+    asked = asked_at_once;
     journal = refl;
     legal = leads.legal;
     database = leads.database;
@@ -254,9 +280,9 @@ module _ (old new : ShownStore) (p : Place) (n : ℕ) (later : List Status) (sho
   }
 
 pub step_at_once_is_shown : StepAtOnceIsShown
-step_at_once_is_shown old new p n later shown leaves steps has alike few done leads =
+step_at_once_is_shown old new p n later shown leaves steps has alike few done leads none =
     subst (λ (l : DiskLayout). IsPlaceOf (at_layout new l) (place_at_once p n (counts_of new.transactions later) new.entries)) (sym leaves.layout)
-    (place_at_once_then old new p n later shown leaves steps has alike few done leads)
+    (place_at_once_then old new p n later shown leaves steps has alike few done leads none)
 
 -- ---- where nothing is done
 
@@ -305,11 +331,19 @@ module _ (old new : ShownStore) (p : Place) (n : ℕ) (shown : IsPlaceOf old p) 
     | inr apart ↦ subst (λ (h : Option Hand). HandShows h (p.hands m) (p.accounts m)) (sym (others.hands m apart)) (shown.hands m)
   ]
 
+  asked_same : (m : ℕ) → HandAsked old.layout (hand_in new.hands m) (p.accounts m).dropped
+  asked_same m = elim (cases_eq m n) [
+    | inl is ↦ subst (λ (k : ℕ). HandAsked old.layout (hand_in new.hands k) (p.accounts k).dropped) (sym is) stays.asked
+    | inr apart ↦ subst (λ (h : Option Hand). HandAsked old.layout h (p.accounts m).dropped) (sym (others.hands m apart)) (shown.asked m)
+  ]
+
   place_same : IsPlaceOf (at_layout new old.layout) p
   place_same = record {
     layout = shown.layout;
     names = shown.names ∙ sym others.names;
-    queue = shown.queue;
+    queue = subst (λ (l : List (ℕ × ℕ)). AreRequestsOf old.layout l p.queue) (sym stays.queue) shown.queue;
+    told = λ m. ap (λ (l : List (List Dropped)). dropped_in l m) stays.dropped ∙ shown.told m;
+    asked = asked_same;
     journal = same_entries;
     legal = shown.legal;
     database = database_same;

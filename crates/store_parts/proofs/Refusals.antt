@@ -1,5 +1,5 @@
 -- refusals in their tables
-use Rattle.std.proofs.Common.{◌≡◌, ◌≢◌, inl, inr, ℕ, Bool, false, List, [], ◌∷◌, Option, None, Some, refl, sym, ap, subst, ◌∙◌}
+use Rattle.std.proofs.Common.{◌≡◌, ◌≢◌, inl, inr, ℕ, Bool, false, List, ◌∷◌, Option, None, Some, refl, sym, ap, subst, ◌∙◌, arith}
 use Rattle.block_model.specs.declared.place.Place.{Place as PagePlace}
 use Rattle.block_model.specs.declared.row.Row.{Row}
 use Rattle.block_model.specs.declared.row.RowId.{RowId}
@@ -74,7 +74,7 @@ IsTurnRefused p n table statement v account why = (turns : TurnsIn p n statement
 not_resting : (w : TableState) (n : ℕ) (task : Task) → w.task n ≡ task → task ≢ Resting → w.task n ≢ Resting
 not_resting w n task at busy rests = busy (sym at ∙ rests)
 
-module _ (p : Place) (n table : ℕ) (statement : Statement) (queue : p.queue ≡ []) (other : statement ≢ statements.Work) (on : IsIn p n statement table) where
+module _ (p : Place) (n table : ℕ) (statement : Statement) (other : statement ≢ statements.Work) (on : IsIn p n statement table) where
   abbrev here : TableState
   here = p.tables table
 
@@ -93,7 +93,7 @@ module _ (p : Place) (n table : ℕ) (statement : Statement) (queue : p.queue �
         own = inl (not_resting here n (Scans scan) at (λ (is : Scans scan ≡ Resting). cc));
         dead = tt;
         adds = λ b has. has;
-        takes = takes_none statement (here.task n) p.queue queue other;
+        takes = takes_none statement (here.task n) p.queue p.queue (omega arith) other;
       },
       refl,
     )
@@ -106,7 +106,7 @@ module _ (p : Place) (n table : ℕ) (statement : Statement) (queue : p.queue �
         own = inl (not_resting here n (Marks scan (id ∷ rest)) at (λ (is : Marks scan (id ∷ rest) ≡ Resting). cc));
         dead = tt;
         adds = λ b has. has;
-        takes = takes_none statement (here.task n) p.queue queue other;
+        takes = takes_none statement (here.task n) p.queue p.queue (omega arith) other;
       },
       refl,
     )
@@ -120,7 +120,7 @@ module _ (p : Place) (n table : ℕ) (statement : Statement) (queue : p.queue �
         own = inl (not_resting here n task at (busy task refused));
         dead = tt;
         adds = λ b has. has;
-        takes = takes_none statement (here.task n) p.queue queue other;
+        takes = takes_none statement (here.task n) p.queue p.queue (omega arith) other;
       },
       refl,
     )
@@ -138,14 +138,14 @@ module _ (p : Place) (n table : ℕ) (statement : Statement) (queue : p.queue �
       own = inl (not_resting here n (Maintains job at range phase) is (λ (e : Maintains job at range phase ≡ Resting). cc));
       dead = tt;
       adds = λ b has. has;
-      takes = takes_none statement (here.task n) p.queue queue other;
+      takes = takes_none statement (here.task n) p.queue p.queue (omega arith) other;
     },
     refl,
   )
 
-row_here : (p : Place) (n table t : ℕ) (values : List Value) (counts : ℕ → Bool) → p.queue ≡ [] → (p.tables table).task n ≡ Resting → (refused : IsRowRefused (p.tables table)) → CountsNoMore (p.tables table) counts t
+row_here : (p : Place) (n table t : ℕ) (values : List Value) (counts : ℕ → Bool) → (p.tables table).task n ≡ Resting → (refused : IsRowRefused (p.tables table)) → CountsNoMore (p.tables table) counts t
     → IsTurnRefused p n table (statements.Insert table values) (refused_in n counts (p.tables table)) no_account (row_refusal (p.tables table) refused)
-row_here p n table t values counts queue rests refused no_more = (
+row_here p n table t values counts rests refused no_more = (
   record {
     on = refl;
     step = record {
@@ -156,7 +156,7 @@ row_here p n table t values counts queue rests refused no_more = (
     own = inr (inl (pick_same n Resting ((p.tables table).task n)));
     dead = tt;
     adds = λ b has. has;
-    takes = takes_none (statements.Insert table values) ((p.tables table).task n) p.queue queue insert_other;
+    takes = takes_none (statements.Insert table values) ((p.tables table).task n) p.queue p.queue (omega arith) insert_other;
   },
   refl,
 )
@@ -165,36 +165,36 @@ row_here p n table t values counts queue rests refused no_more = (
     insert_other is = cc
 
 pub row_is_refused : RowIsRefused
-row_is_refused p n table t values w counts is queue =
+row_is_refused p n table t values w counts is =
     subst (λ (x : TableState). x.task n ≡ Resting → (refused : IsRowRefused x) → CountsNoMore x counts t
     → IsTurnRefused p n table (statements.Insert table values) (refused_in n counts x) no_account (row_refusal x refused)) is
-    (row_here p n table t values counts queue)
+    (row_here p n table t values counts)
 
 pub insert_is_refused : InsertIsRefused
-insert_is_refused p n table b k r values w task counts is queue =
+insert_is_refused p n table b k r values w task counts is =
     subst (λ (x : TableState). x.task n ≡ task → (refused : IsInsertRefused x n b k r task) → CountsNoMore x counts r.id.t
     → IsTurnRefused p n table (statements.Insert table values) (refused_in n counts x) (p.accounts n) (insert_refusal refused)) is
-    (insert_here p n table (statements.Insert table values) queue insert_other refl counts b k r task)
+    (insert_here p n table (statements.Insert table values) insert_other refl counts b k r task)
   where
     insert_other : statements.Insert table values ≢ statements.Work
     insert_other is = cc
 
 pub scan_is_refused : ScanIsRefused
-scan_is_refused p n table t statement w scan counts is queue other on =
+scan_is_refused p n table t statement w scan counts is other on =
     subst (λ (x : TableState). x.task n ≡ Scans scan → scan.explains ≡ false → CountsNoMore x counts t → IsTurnRefused p n table statement (refused_in n counts x) (p.accounts n) LacksMemory) is
-    (scan_here p n table statement queue other on counts t scan)
+    (scan_here p n table statement other on counts t scan)
 
 pub mark_is_refused : MarkIsRefused
-mark_is_refused p n table t statement w scan id rest counts is queue other on =
+mark_is_refused p n table t statement w scan id rest counts is other on =
     subst (λ (x : TableState). x.task n ≡ Marks scan (id ∷ rest) → CountsNoMore x counts t → IsTurnRefused p n table statement (refused_in n counts x) (p.accounts n) (HasConflict id)) is
-    (mark_here p n table statement queue other on counts t scan id rest)
+    (mark_here p n table statement other on counts t scan id rest)
 
 pub maintenance_is_refused : MaintenanceIsRefused
-maintenance_is_refused p n table at range statement w v job phase is queue other on =
+maintenance_is_refused p n table at range statement w v job phase is other on =
     subst (λ (x : TableState). x.task n ≡ Maintains job at range phase → (refused : IsMaintainRefused (index_view_at at x) n range phase)
     → TaskTurns n x v (Maintains job at range phase) Resting → StepsIn at x v → SummariseLockPasses n (index_view_at at x) (index_view_at at v) (Some n) None
     → IsTurnRefused p n table statement v (p.accounts n) (maintain_refusal at refused)) is
-    (maintenance_here p n table statement queue other on at range v job phase)
+    (maintenance_here p n table statement other on at range v job phase)
 
 -- ---- the table of a refused statement
 

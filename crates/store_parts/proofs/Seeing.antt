@@ -151,6 +151,7 @@ module _ (layout : DiskLayout) (table : ℕ) (blocks now : List (List Slot)) (tx
   task_goes_on transaction (Some (hands.Marks marking)) on at = in_its_table marking.query.table table (IsMarkingAt blocks marking task) (IsMarkingAt now marking task) task (marks_go_on blocks now marking task rows) at
   task_goes_on transaction (Some (hands.Explains explain)) on at = at
   task_goes_on transaction (Some (hands.Summarises a)) on at = at
+  task_goes_on transaction (Some (hands.Desummarises a)) on at = at
 
 -- ---- in another table
 
@@ -176,6 +177,7 @@ module _ (layout : DiskLayout) (table : ℕ) (blocks : List (List Slot)) (tx : T
   rests_elsewhere (Some (hands.Marks marking)) apart = rests_there marking.query.table table _ apart
   rests_elsewhere (Some (hands.Explains explain)) apart = rests_there explain.judging.query.table table _ apart
   rests_elsewhere (Some (hands.Summarises a)) apart = rests_there (index_at layout a.index).table table _ apart
+  rests_elsewhere (Some (hands.Desummarises a)) apart = rests_there (index_at layout a.index).table table _ apart
 
   pub task_elsewhere : (hand : Option Hand) (task : Task) → table_in layout hand ≢ Some table → IsTaskOf layout table blocks tx stored transaction hand task → task ≡ Resting
   task_elsewhere None task apart at = at
@@ -191,3 +193,4 @@ module _ (layout : DiskLayout) (table : ℕ) (blocks : List (List Slot)) (tx : T
   task_elsewhere (Some (hands.Marks marking)) task apart at = at.1 (other_table marking.query.table table apart)
   task_elsewhere (Some (hands.Explains explain)) task apart at = at.1 (other_table explain.judging.query.table table apart)
   task_elsewhere (Some (hands.Summarises a)) task apart at = at.1 (other_table (index_at layout a.index).table table apart)
+  task_elsewhere (Some (hands.Desummarises a)) task apart at = at.1 (other_table (index_at layout a.index).table table apart)

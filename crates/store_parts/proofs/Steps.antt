@@ -1,5 +1,5 @@
 -- which step of the definition of texts a step is
-use Rattle.std.proofs.Common.{◌≡◌, ◌≢◌, ◌⊎◌, inl, inr, ℕ, Bool, if◌then◌else◌, List, [], ◌∷◌, Option, None, Some, refl, sym, ap, subst, ◌∙◌}
+use Rattle.std.proofs.Common.{◌≡◌, ◌≢◌, ◌⊎◌, inl, inr, ℕ, suc, ◌≤◌, Bool, if◌then◌else◌, List, ◌∷◌, length, Option, None, Some, refl, sym, ap, subst, ◌∙◌, arith}
 use Rattle.std.specs.Prelude.{IsTrue}
 use Rattle.std.proofs.lemmas.Bool.{cases_eq, eq-eqb, ne_eqb}
 use Rattle.std.proofs.lemmas.Option.{same_Some}
@@ -10,7 +10,7 @@ use Rattle.block_model.specs.declared.reply.Refusal.TheVariants as refusals
 use Rattle.block_model.specs.declared.request.Entry.{Entry}
 use Rattle.statements.specs.declared.statement.Statement.{Statement}
 use Rattle.statements.specs.declared.statement.Statement.TheVariants as statements
-use Rattle.table_coverage.specs.Accounts.{Account, Asked}
+use Rattle.table_coverage.specs.Accounts.{Account, AccountIs, Accounts, Adds, Asked}
 use Rattle.table_coverage.specs.InOneIndex.{DoesAt}
 use Rattle.table_coverage.specs.Table.{Resting, TableState, Task}
 use Rattle.table_coverage.specs.TablePoints.{IsHeldBy, WaitedFor, does_point, waits_for}
@@ -19,10 +19,10 @@ use Rattle.line_texts.specs.Beginnings.{Begins, TakesUp, takes_lock}
 use Rattle.line_texts.specs.Names.{name_of}
 use Rattle.line_texts.specs.Place.{Hand as HandAt, Place, accounts_at, updated}
 use Rattle.line_texts.specs.StatementSteps.{AtOnce, GoesOn, IsRefused, IsWaiting, LacksMemoryAtOnce, MeetsConflict, NoNumber, Replies, WaitsFor, reply_after, what_of}
-use Rattle.line_texts.specs.Turns.{PrunesTheDead, Turn}
+use Rattle.line_texts.specs.Turns.{Leads, PrunesTheDead, Turn}
 use Rattle.store_parts.specs.PlaceLaws.{AfterLeads, AtOnceLeads, TableAfter}
-use Rattle.store_parts.specs.PlacesAfter.{TurnsIn, place_after, place_at_once, recounted}
-use Rattle.store_parts.specs.StepLaws.{IsOneRequest, LacksMemoryThere, LacksNumber, MachineTurns, TurnConflicts, TurnGoesOn, TurnIsRefused, TurnReplies, TurnWaits}
+use Rattle.store_parts.specs.PlacesAfter.{TurnsAsking, place_after, place_asking, place_at_once, recounted}
+use Rattle.store_parts.specs.StepLaws.{IsOneRequest, LacksMemoryThere, LacksNumber, MachineAsks, MachineTurns, TurnAsks, TurnConflicts, TurnGoesOn, TurnIsRefused, TurnReplies, TurnWaits}
 
 -- ---- what is updated
 
@@ -45,8 +45,9 @@ pub other_after : (p : Place) (n table : ℕ) (at : Option HandAt) (v : TableSta
     → (place_after p n table at v account counts entries).tables i ≡ recounted (p.tables i) counts
 other_after p n table at v account counts entries i apart = ap (λ (b : Bool). if b then v else recounted (p.tables i) counts) (ne_eqb i table apart)
 
-pub after_leads : AfterLeads
-after_leads p n table at v account counts entries = record {
+pub asking_leads : (p : Place) (n table : ℕ) (at : Option HandAt) (v : TableState) (account : Account) (counts : ℕ → Bool) (entries : List Entry) (queue : List Asked)
+    → Leads p n at entries (place_asking p n table at v account counts entries queue)
+asking_leads p n table at v account counts entries queue = record {
   layout = refl;
   opening = refl;
   names = refl;
@@ -54,6 +55,9 @@ after_leads p n table at v account counts entries = record {
   others = updated_or p.hands n at;
   journal = refl;
 }
+
+pub after_leads : AfterLeads
+after_leads p n table at v account counts entries = asking_leads p n table at v account counts entries p.queue
 
 pub at_once_leads : AtOnceLeads
 at_once_leads p n counts entries = record {
@@ -70,23 +74,23 @@ at_once_leads p n counts entries = record {
 
 -- ---- a machine's step
 
-not_asked : (queue : List Asked) → queue ≡ [] → (asked : Asked) → queue ≡ asked ∷ queue → ⊥
-not_asked queue empty asked is =
-    let impossible : [] ≡ asked ∷ queue = sym empty ∙ is in
-    cc
+none_goes : (before after : List Asked) → length before ≤ length after → (asked : Asked) → before ≡ asked ∷ after → ⊥
+none_goes before after more asked is =
+    let longer : length before ≡ suc (length after) = ap length is in
+    absurd (omega (arith, longer, more))
 
-pub takes_none : (statement : Statement) (task : Task) (queue : List Asked) → queue ≡ [] → statement ≢ statements.Work → TakesUp statement task queue queue
-takes_none statements.Begin task queue empty other = not_asked queue empty
-takes_none statements.Commit task queue empty other = not_asked queue empty
-takes_none statements.Rollback task queue empty other = not_asked queue empty
-takes_none (statements.Insert table values) task queue empty other = not_asked queue empty
-takes_none (statements.Select q) task queue empty other = not_asked queue empty
-takes_none (statements.Delete q) task queue empty other = not_asked queue empty
-takes_none (statements.Explain q) task queue empty other = not_asked queue empty
-takes_none (statements.Summarize index block) task queue empty other = not_asked queue empty
-takes_none (statements.Desummarize index block) task queue empty other = not_asked queue empty
-takes_none (statements.Vacuum table) task queue empty other = not_asked queue empty
-takes_none statements.Work task queue empty other = absurd (other refl)
+pub takes_none : (statement : Statement) (task : Task) (before after : List Asked) → length before ≤ length after → statement ≢ statements.Work → TakesUp statement task before after
+takes_none statements.Begin task before after more other = none_goes before after more
+takes_none statements.Commit task before after more other = none_goes before after more
+takes_none statements.Rollback task before after more other = none_goes before after more
+takes_none (statements.Insert table values) task before after more other = none_goes before after more
+takes_none (statements.Select q) task before after more other = none_goes before after more
+takes_none (statements.Delete q) task before after more other = none_goes before after more
+takes_none (statements.Explain q) task before after more other = none_goes before after more
+takes_none (statements.Summarize index block) task before after more other = none_goes before after more
+takes_none (statements.Desummarize index block) task before after more other = none_goes before after more
+takes_none (statements.Vacuum table) task before after more other = none_goes before after more
+takes_none statements.Work task before after more other = absurd (other refl)
 
 -- a step of another name prunes nothing
 not_pruned : (p : Place) (n : ℕ) (w v : TableState) (does : Does n w v) (point : Point) → does_point n w v does ≡ Some point → point ≢ points.Prune → PrunesTheDead p does
@@ -94,7 +98,7 @@ not_pruned p n w v (PrunesBlock extent next dropped inside spared turns drops) p
 not_pruned p n w v does point is other = tt
 
 pub machine_turns : MachineTurns
-machine_turns p n table statement w between v point account is queue other on does no_prune settles own =
+machine_turns p n table statement w between v point account is other on does no_prune settles own =
     let there : DoesAt n (p.tables table) between point account = subst (λ (x : TableState). DoesAt n x between point account) (sym is) does in (
       record {
         on = on;
@@ -102,7 +106,29 @@ machine_turns p n table statement w between v point account is queue other on do
         own = subst (λ (x : TableState). (x.task n ≢ Resting) ⊎ Begins p n x statement (between.task n)) (sym is) own;
         dead = not_pruned p n (p.tables table) between there.does point there.point_is no_prune;
         adds = λ b has. there.adds (accounts_at p table) b has;
-        takes = takes_none statement ((p.tables table).task n) p.queue queue other;
+        takes = takes_none statement ((p.tables table).task n) p.queue p.queue (omega arith) other;
+      },
+      there.point_is,
+      refl,
+    )
+
+-- what a machine does in the table that it finds, with what that makes of the accounts
+record DoesAsking (p : Place) (n table : ℕ) (x between : TableState) (point : Point) (account : Account) (queue : List Asked) : Type 0 where
+  does : Does n x between
+  point_is : does_point n x between does ≡ Some point
+  adds : (b : Accounts) → AccountIs n (record (accounts_at p table) { queue = queue }) b account → Adds n x between does (accounts_at p table) b
+
+pub machine_asks : MachineAsks
+machine_asks p n table statement w between v point account queue is other on does named adds more no_prune settles own =
+    let there : DoesAsking p n table (p.tables table) between point account queue =
+    subst (λ (x : TableState). DoesAsking p n table x between point account queue) (sym is) (record { does = does; point_is = named; adds = adds }) in (
+      record {
+        on = on;
+        step = record { between = between; does = there.does; settles = settles };
+        own = subst (λ (x : TableState). (x.task n ≢ Resting) ⊎ Begins p n x statement (between.task n)) (sym is) own;
+        dead = not_pruned p n (p.tables table) between there.does point there.point_is no_prune;
+        adds = there.adds;
+        takes = takes_none statement ((p.tables table).task n) p.queue queue more other;
       },
       there.point_is,
       refl,
@@ -110,10 +136,10 @@ machine_turns p n table statement w between v point account is queue other on do
 
 -- ---- a turn
 
-module _ (p : Place) (n table : ℕ) (statement : Statement) (at : Option HandAt) (v : TableState) (account : Account) (counts : ℕ → Bool) (entries : List Entry)
-    (turns : TurnsIn p n statement table v account) where
+module _ (p : Place) (n table : ℕ) (statement : Statement) (at : Option HandAt) (v : TableState) (account : Account) (queue : List Asked) (counts : ℕ → Bool) (entries : List Entry)
+    (turns : TurnsAsking p n statement table v account queue) where
   abbrev pub led : Place
-  led = place_after p n table at v account counts entries
+  led = place_asking p n table at v account counts entries queue
 
   abbrev pub turned : Turn p n statement led
   turned = record {
@@ -138,28 +164,31 @@ module _ (p : Place) (n table : ℕ) (statement : Statement) (at : Option HandAt
     ];
   }
 
-pub turn_goes_on : TurnGoesOn
-turn_goes_on p n table hand v account counts point c turns named busy makes =
+pub turn_asks : TurnAsks
+turn_asks p n table hand v account queue counts point c turns named busy makes =
     let at : Option HandAt = Some (record hand { answers = c.answers }) in
-    GoesOn point c (led p n table hand.statement at v account counts c.journal turns) (turned p n table hand.statement at v account counts c.journal turns) named
+    GoesOn point c (led p n table hand.statement at v account queue counts c.journal turns) (turned p n table hand.statement at v account queue counts c.journal turns) named
     (λ rests. busy (sym (ap (λ (w : TableState). w.task n) (table_after p n table at v account counts c.journal)) ∙ rests))
-    makes (after_leads p n table at v account counts c.journal)
+    makes (asking_leads p n table at v account counts c.journal queue)
+
+pub turn_goes_on : TurnGoesOn
+turn_goes_on p n table hand v account counts point c turns named busy makes = turn_asks p n table hand v account p.queue counts point c turns named busy makes
 
 pub turn_replies : TurnReplies
 turn_replies p n table hand v account counts point c reply turns named rests makes said =
-    Replies point c reply (led p n table hand.statement None v account counts c.journal turns) (turned p n table hand.statement None v account counts c.journal turns) named
+    Replies point c reply (led p n table hand.statement None v account p.queue counts c.journal turns) (turned p n table hand.statement None v account p.queue counts c.journal turns) named
     (ap (λ (w : TableState). w.task n) (table_after p n table None v account counts c.journal) ∙ rests) makes
     (said ∙ ap (λ (a : Account). reply_after p.layout table (turns.step.between.task n) a c.answers hand.statement) (sym (updated_here p.accounts n account)))
     (after_leads p n table None v account counts c.journal)
 
 pub turn_conflicts : TurnConflicts
 turn_conflicts p n table hand v account counts id c turns refused makes said =
-    MeetsConflict id c (led p n table hand.statement None v account counts c.journal turns) (turned p n table hand.statement None v account counts c.journal turns) refused makes said
+    MeetsConflict id c (led p n table hand.statement None v account p.queue counts c.journal turns) (turned p n table hand.statement None v account p.queue counts c.journal turns) refused makes said
     (after_leads p n table None v account counts c.journal)
 
 pub turn_is_refused : TurnIsRefused
 turn_is_refused p n table hand v account counts why tag told turns refused so =
-    IsRefused why tag told (led p n table hand.statement None v account counts _ turns) (turned p n table hand.statement None v account counts _ turns) refused so
+    IsRefused why tag told (led p n table hand.statement None v account p.queue counts _ turns) (turned p n table hand.statement None v account p.queue counts _ turns) refused so
     (after_leads p n table None v account counts _)
 
 pub one_request : IsOneRequest

@@ -1,5 +1,5 @@
 -- stores with the same parts
-use Rattle.std.proofs.Common.{◌≡◌, ℕ, zero, suc, ◌<◌, ◌≤◌, List, [], ◌∷◌, length, get_or-set_same, get_or-set_other, Option, None, Some, sym, subst, ◌∙◌, arith}
+use Rattle.std.proofs.Common.{◌≡◌, ℕ, zero, suc, ◌<◌, ◌≤◌, List, [], ◌∷◌, length, get_or-set_same, get_or-set_other, Option, None, Some, sym, ap, subst, ◌∙◌, arith}
 use Rattle.std.proofs.lemmas.Option.{none-some}
 use Rattle.disk_trait.specs.Told.{Told}
 use Rattle.page_locks.specs.LockCounts.{locks_of}
@@ -7,7 +7,7 @@ use Rattle.row_versions.specs.StoredVersions.{transaction_of}
 use Rattle.store_layout.specs.DiskLayout.{DiskLayout}
 use Rattle.row_versions.specs.declared.sessions.Open.{Open}
 use Rattle.store_parts.specs.declared.hand.Hand.{Hand}
-use Rattle.store_parts.specs.HandFits.{FitsHand, locks_held}
+use Rattle.store_parts.specs.HandFits.{FitsHand, locks_held, right_held}
 use Rattle.store_parts.specs.Shares.{share_of}
 use Rattle.store_parts.specs.StoreLaws.{FitEverywhere, HandChanges, OthersStayFit}
 use Rattle.store_parts.specs.StoreStates.{hand_at, hand_in}
@@ -22,6 +22,7 @@ fits_everywhere told parts n hand names hands fit is =
       hand = subst (λ (h : Option Hand). FitsHand parts.pages.layout (transaction_of parts.transactions.opens n) h) same s.hand;
       limit = s.limit;
       own = subst (λ (h : Option Hand). locks_of parts.locks n ≤ locks_held h) same s.own;
+      held = λ table holds. ap (right_held parts.pages.layout) (sym same) ∙ s.held table holds;
       rights = s.rights;
       entries = s.entries;
       share = subst (λ (h : Option Hand). share_of h (transaction_of parts.transactions.opens n) ≤ parts.journal.promised) same s.share;
@@ -48,6 +49,7 @@ others_stay_fit told old new n m other was now leaves same share = record {
       (subst (λ (h : Option Hand). FitsHand old.pages.layout (transaction_of old.transactions.opens m) h) (sym same) was.hand));
   limit = now.limit;
   own = subst (λ (h : Option Hand). locks_of new.locks m ≤ locks_held h) (sym same) (subst (λ (k : ℕ). k ≤ locks_held (hand_at old m)) (sym (leaves.locks m other)) was.own);
+  held = λ table holds. ap (λ (l : DiskLayout). right_held l (hand_at new m)) leaves.leaves.layout ∙ ap (right_held old.pages.layout) same ∙ was.held table (leaves.rights m table other holds);
   rights = now.rights;
   entries = now.entries;
   share = share;

@@ -10,9 +10,13 @@ use Rattle.snapshot_core.specs.declared.statuses.Status.{Status}
 use Rattle.row_versions.specs.declared.sessions.Open.{Open}
 use Rattle.row_versions.specs.StoredVersions.{transaction_of}
 use Rattle.tx_table.specs.TxState.{TxState}
+use Rattle.reply_texts.specs.declared.dropped.Dropped.{Dropped}
 use Rattle.table_coverage.specs.Accounts.{Account, no_account}
 use Rattle.table_coverage.specs.Table.{Resting, Task}
 use Rattle.index_steps.specs.IndexTuples.{index_at}
+use Rattle.brin_desummarise.specs.declared.stage.Stage.{Stage as DesummariseStage}
+use Rattle.brin_desummarise.specs.Desummarises.{count_at as desummarised_at, range_of}
+use Rattle.brin_desummarise.specs.TableSteps as desummarises
 use Rattle.brin_scan.specs.declared.stage.Stage.{Stage}
 use Rattle.brin_scan.specs.Explains.{explaining}
 use Rattle.brin_scan.specs.TableScans as scans
@@ -22,15 +26,18 @@ use Rattle.brin_summarise.specs.declared.wish.Wish.{Wish}
 use Rattle.brin_summarise.specs.declared.wish.Wish.TheVariants as wishes
 use Rattle.brin_summarise.specs.TableSteps as summarises
 use Rattle.line_texts.specs.LineTexts.{with_statement}
+use Rattle.line_texts.specs.Names.{dropped_of}
 use Rattle.line_texts.specs.Place.{Hand as HandAt, Place, database_at, new_hand}
 use Rattle.store_parts.specs.declared.hand.Hand.{Hand}
 use Rattle.store_parts.specs.declared.hand.Hand.TheVariants as hands
 use Rattle.store_parts.specs.Hands.{HandShows, TellsSo, AnswersAre, statement_of}
-use Rattle.store_parts.specs.HandsInTables.{IsExplainAt, IsSummariseAt, IsTaskOf}
+use Rattle.store_parts.specs.HandsAsk.{HandAsked, IsNoInsert}
+use Rattle.store_parts.specs.HandsInTables.{IsDesummariseAt, IsExplainAt, IsSummariseAt, IsTaskOf}
 use Rattle.store_parts.specs.ShowsPlace.{IsOfTransaction, IsPlaceOf, ShowsTable}
 use Rattle.store_parts.specs.StoreLaws.{HasHand}
-use Rattle.store_parts.specs.StoreStates.{ShownStore, hand_in}
-use Rattle.store_parts.specs.SubmitLaws.{HasNotBegun, NamedIsShown, NothingIsDropped, SubmittedIsShown}
+use Rattle.store_parts.specs.StoreStates.{ShownStore, dropped_in, hand_in}
+use Rattle.store_parts.specs.SubmitLaws.{ForgetsDropped, HasNotBegun, NamedIsShown, SubmittedIsShown}
+use Rattle.store_parts.proofs.Asks.{none_asked}
 use Rattle.store_parts.proofs.Steps.{updated_apart, updated_here}
 use Rattle.store_parts.proofs.Tables.{unlisted}
 
@@ -63,6 +70,12 @@ rests layout table blocks tx stored transaction (hands.Summarises a) fresh = (λ
     here =
         let listed = unlisted layout (index_at layout a.index).table a.index fresh.1 refl in
         (listed.0, listed.1, sym (ap (λ (s : Standing). summarises.task_at layout listed.0 a s) fresh.0 ∙ first_rests a.wish listed.0 fresh.2))
+rests layout table blocks tx stored transaction (hands.Desummarises a) fresh = (λ own. here, λ away. refl)
+  where
+    here : IsDesummariseAt layout a Resting
+    here =
+        let listed = unlisted layout (index_at layout a.index).table a.index fresh.1 refl in
+        (listed.0, listed.1, sym (ap (λ (s : DesummariseStage). desummarises.task_at listed.0 (range_of layout a) s) fresh.0))
 
 -- and it was answered nothing, and has nothing to tell
 answers_none : (layout : DiskLayout) (hand : Hand) → HasNotBegun layout hand → AnswersAre hand []
@@ -78,6 +91,7 @@ answers_none layout (hands.Deletes scan) fresh = absurd fresh
 answers_none layout (hands.Marks marking) fresh = absurd fresh
 answers_none layout (hands.Explains explain) fresh = refl
 answers_none layout (hands.Summarises a) fresh = refl
+answers_none layout (hands.Desummarises a) fresh = refl
 
 tells_none : (layout : DiskLayout) (hand : Hand) → HasNotBegun layout hand → TellsSo hand no_account
 tells_none layout (hands.Begins numbers) fresh = refl
@@ -92,6 +106,7 @@ tells_none layout (hands.Deletes scan) fresh = absurd fresh
 tells_none layout (hands.Marks marking) fresh = absurd fresh
 tells_none layout (hands.Explains explain) fresh = refl
 tells_none layout (hands.Summarises a) fresh = λ i. record no_account { ranges = sym (ap (count_at a) fresh.0) i }
+tells_none layout (hands.Desummarises a) fresh = λ i. record no_account { ranges = sym (ap desummarised_at fresh.0) i }
 
 -- how it stands to its session's transaction
 is_of_any : (layout : DiskLayout) (transaction : Option Open) (copy : Option OpenTransaction) (hand : Hand) → HasNotBegun layout hand → IsOfTransaction transaction copy hand
@@ -107,6 +122,7 @@ is_of_any layout transaction None (hands.Deletes scan) fresh = absurd fresh
 is_of_any layout transaction None (hands.Marks marking) fresh = absurd fresh
 is_of_any layout transaction None (hands.Explains explain) fresh = tt
 is_of_any layout transaction None (hands.Summarises a) fresh = tt
+is_of_any layout transaction None (hands.Desummarises a) fresh = tt
 is_of_any layout transaction (Some x) (hands.Begins numbers) fresh = tt
 is_of_any layout transaction (Some x) hands.Commits fresh = tt
 is_of_any layout transaction (Some x) hands.RollsBack fresh = tt
@@ -119,9 +135,15 @@ is_of_any layout transaction (Some x) (hands.Deletes scan) fresh = absurd fresh
 is_of_any layout transaction (Some x) (hands.Marks marking) fresh = absurd fresh
 is_of_any layout transaction (Some x) (hands.Explains explain) fresh = tt
 is_of_any layout transaction (Some x) (hands.Summarises a) fresh = tt
+is_of_any layout transaction (Some x) (hands.Desummarises a) fresh = tt
 
-module _ (s : ShownStore) (p : Place) (n : ℕ) (new : List (Option Hand)) (hand : Hand) (shown : IsPlaceOf s p) (none : hand_in s.hands n ≡ None) (changes : HasHand s.hands new n (Some hand))
-    (fresh : HasNotBegun s.layout hand) where
+-- a statement that has made no step is no insert that has asked
+asks_nothing : (layout : DiskLayout) (hand : Hand) → HasNotBegun layout hand → IsNoInsert (Some hand)
+asks_nothing layout (hands.Inserts insert) fresh = absurd fresh
+asks_nothing layout hand fresh = tt
+
+module _ (s : ShownStore) (p : Place) (n : ℕ) (new : List (Option Hand)) (dropped : List (List Dropped)) (hand : Hand) (shown : IsPlaceOf s p) (none : hand_in s.hands n ≡ None) (changes : HasHand s.hands new n (Some hand))
+    (forgets : ForgetsDropped s.dropped dropped n) (fresh : HasNotBegun s.layout hand) where
   abbrev stored : List Status
   stored = shown.database.stored
 
@@ -147,6 +169,20 @@ module _ (s : ShownStore) (p : Place) (n : ℕ) (new : List (Option Hand)) (hand
     | inr apart ↦ shown.own m h (sym (changes.others m apart) ∙ is)
   ]
 
+  told_taken : (m : ℕ) → dropped_in dropped m ≡ dropped_of s.layout (taken.accounts m).dropped
+  told_taken m = elim (cases_eq m n) [
+    | inl is ↦ ap (dropped_in dropped) is ∙ forgets.own ∙ ap (λ (a : Account). dropped_of s.layout a.dropped) (sym (ap taken.accounts is ∙ updated_here p.accounts n no_account))
+    | inr apart ↦ forgets.others m apart ∙ shown.told m ∙ ap (λ (a : Account). dropped_of s.layout a.dropped) (sym (updated_apart p.accounts n no_account m apart))
+  ]
+
+  asked_taken : (m : ℕ) → HandAsked s.layout (hand_in new m) (taken.accounts m).dropped
+  asked_taken m = elim (cases_eq m n) [
+    | inl is ↦ subst (λ (h : Option Hand). HandAsked s.layout h (taken.accounts m).dropped) (sym (ap (hand_in new) is ∙ changes.own))
+        (none_asked s.layout (Some hand) (taken.accounts m).dropped (asks_nothing s.layout hand fresh))
+    | inr apart ↦ subst (λ (h : Option Hand). HandAsked s.layout h (taken.accounts m).dropped) (sym (changes.others m apart))
+        (subst (λ (a : Account). HandAsked s.layout (hand_in s.hands m) a.dropped) (sym (updated_apart p.accounts n no_account m apart)) (shown.asked m))
+  ]
+
   module _ (i : ℕ) (below : i < length s.layout.schema.tables) where
     abbrev there : ShowsTable s stored i (p.tables i)
     there = shown.tables i below
@@ -163,7 +199,7 @@ module _ (s : ShownStore) (p : Place) (n : ℕ) (new : List (Option Hand)) (hand
       | inr apart ↦ subst (λ (h : Option Hand). IsTaskOf s.layout i there.blocks s.transactions.tx stored (transaction_of s.transactions.opens m) h (there.unseen.task m)) (sym (changes.others m apart)) (there.tasks m)
     ]
 
-    table_taken : ShowsTable (record s { hands = new }) stored i (p.tables i)
+    table_taken : ShowsTable (record s { hands = new; dropped = dropped }) stored i (p.tables i)
     table_taken = record {
       blocks = there.blocks;
       has = there.has;
@@ -176,16 +212,18 @@ module _ (s : ShownStore) (p : Place) (n : ℕ) (new : List (Option Hand)) (hand
     }
 
 pub submitted_is_shown : SubmittedIsShown
-submitted_is_shown s p n new hand shown none changes fresh = record {
+submitted_is_shown s p n new dropped hand shown none changes forgets fresh = record {
   layout = shown.layout;
   names = shown.names;
   queue = shown.queue;
+  told = told_taken s p n new dropped hand shown none changes forgets fresh;
+  asked = asked_taken s p n new dropped hand shown none changes forgets fresh;
   journal = shown.journal;
   legal = shown.legal;
   database = shown.database;
-  hands = hand_taken s p n new hand shown none changes fresh;
-  own = own_taken s p n new hand shown none changes fresh;
-  tables = table_taken s p n new hand shown none changes fresh;
+  hands = hand_taken s p n new dropped hand shown none changes forgets fresh;
+  own = own_taken s p n new dropped hand shown none changes forgets fresh;
+  tables = table_taken s p n new dropped hand shown none changes forgets fresh;
   order = shown.order;
 }
 
@@ -194,6 +232,8 @@ named_is_shown s p names new shown same = record {
   layout = shown.layout;
   names = refl;
   queue = shown.queue;
+  told = shown.told;
+  asked = λ m. subst (λ (h : Option Hand). HandAsked s.layout h (p.accounts m).dropped) (sym (same m)) (shown.asked m);
   journal = shown.journal;
   legal = shown.legal;
   database = shown.database;
@@ -211,21 +251,3 @@ named_is_shown s p names new shown same = record {
   };
   order = shown.order;
 }
-
-tells_no_drop : (hand : Hand) (account : Account) → TellsSo hand account → account.dropped ≡ []
-tells_no_drop (hands.Begins numbers) account is = ap (λ (a : Account). a.dropped) is
-tells_no_drop hands.Commits account is = ap (λ (a : Account). a.dropped) is
-tells_no_drop hands.RollsBack account is = ap (λ (a : Account). a.dropped) is
-tells_no_drop (hands.Puts number values) account is = ap (λ (a : Account). a.dropped) is
-tells_no_drop (hands.Inserts insert) account is = ap (λ (a : Account). a.dropped) is
-tells_no_drop (hands.Selecting query) account is = ap (λ (a : Account). a.dropped) is
-tells_no_drop (hands.Selects scan) account is = ap (λ (a : Account). a.dropped) is
-tells_no_drop (hands.Deleting query) account is = ap (λ (a : Account). a.dropped) is
-tells_no_drop (hands.Deletes scan) account is = ap (λ (a : Account). a.dropped) is
-tells_no_drop (hands.Marks marking) account is = ap (λ (a : Account). a.dropped) is
-tells_no_drop (hands.Explains explain) account is = ap (λ (a : Account). a.dropped) is
-tells_no_drop (hands.Summarises a) account is = ap (λ (x : Account). x.dropped) is
-
-pub nothing_is_dropped : NothingIsDropped
-nothing_is_dropped None shown account shows = shows.1
-nothing_is_dropped (Some hand) shown account shows = tells_no_drop hand account shows.4

@@ -1,16 +1,18 @@
 -- Steps that aren't done, and steps behind a call that changes no page.
-use Rattle.std.proofs.Common.{◌≡◌, ℕ, ◌+◌, ◌≤◌, List, length, Option, None, Some, refl, sym, ap, ◌∙◌, subst, arith}
+use Rattle.std.proofs.Common.{◌≡◌, ◌⊎◌, ℕ, ◌+◌, ◌≤◌, List, length, Option, None, Some, refl, sym, ap, ◌∙◌, subst, arith}
 use Rattle.std.proofs.lemmas.List.{set-get_or}
 use Rattle.std.proofs.lemmas.Option.{none-some}
 use Rattle.block_model.specs.Causes.{rose_earlier}
 use Rattle.disk_trait.specs.Told.{Told}
 use Rattle.page_locks.specs.LockCounts.{locks_of}
 use Rattle.page_locks.specs.LockHolders.{LockState}
+use Rattle.page_locks.specs.RightHolders.{right_of}
 use Rattle.page_store.specs.declared.faults.StoreError.{StoreError}
 use Rattle.page_store.specs.declared.faults.StoreError.TheVariants as errors
 use Rattle.page_store.specs.Keeps.{Keeps, Leaves, Tells, Untold, keeps_then, keeps_on}
 use Rattle.page_store.specs.Outcome.{Refused}
 use Rattle.page_store.specs.PageMap.{View}
+use Rattle.reply_texts.specs.declared.dropped.Dropped.{Dropped}
 use Rattle.statements.specs.declared.limits.TheConstants.{MAX_ENTRIES}
 use Rattle.store_layout.specs.DiskLayout.{DiskLayout}
 use Rattle.row_versions.specs.declared.sessions.Open.{Open}
@@ -23,15 +25,15 @@ use Rattle.store_parts.specs.declared.hand.Hand.{Hand}
 use Rattle.store_parts.specs.declared.hand.Stepped.{Stepped}
 use Rattle.store_parts.specs.declared.hand.Stepped.TheVariants as stepped
 use Rattle.store_parts.specs.declared.parts.Parts.{Parts}
-use Rattle.store_parts.specs.HandFits.{FitsHand, FitsStore, locks_held}
+use Rattle.store_parts.specs.HandFits.{FitsHand, FitsStore, locks_held, right_held}
 use Rattle.store_parts.specs.JournalState.{JournalState}
 use Rattle.store_parts.specs.Shares.{share_of}
 use Rattle.store_parts.specs.ShowsPlace.{IsPlaceOf, ShowsPlace}
-use Rattle.store_parts.specs.StepAnswers.{HasCause, LeavesSessions, StaysAsItWas, StaysWhereUndone}
+use Rattle.store_parts.specs.StepAnswers.{HasCause, IsHolderOf, LeavesSessions, StaysAsItWas, StaysWhereUndone}
 use Rattle.store_parts.specs.StepIs.{hand_after}
 use Rattle.store_parts.specs.Stepping.{IsFit, LeavesTheOthers}
 use Rattle.store_parts.specs.StoreFaults.{fault_of}
-use Rattle.store_parts.specs.StoreStates.{ShownStore, StoreState, hand_in, shown_of, store_of, with_hand}
+use Rattle.store_parts.specs.StoreStates.{ShownStore, StoreState, dropped_in, hand_in, shown_of, store_of, with_hand}
 use Rattle.store_parts.specs.UndoneLaws.{FitOfParts, FitOfStores, FitsParts, RefusedIsUndone, SameBesidePages, SpentIsUndone, StepsBehind}
 
 -- ---- what is fit
@@ -44,6 +46,7 @@ module _ {D : Type 0} (told : D → Told) where
     in_hand = fit.hand;
     limit = fit.limit;
     own = fit.own;
+    held = fit.held;
     rights = fit.rights;
     entries = fit.entries;
     share = fit.share;
@@ -56,6 +59,7 @@ module _ {D : Type 0} (told : D → Told) where
     hand = fit.in_hand;
     limit = fit.limit;
     own = fit.own;
+    held = fit.held;
     rights = fit.rights;
     entries = fit.entries;
     share = fit.share;
@@ -88,10 +92,10 @@ module _ {D : Type 0} (told : D → Told) where
   cause_of (errors.Reopen faults) hand old new refused = refused
   cause_of (errors.Damaged at) hand old new refused = refused
 
-  undone_by : (error : StoreError) (old new : StoreState D) (hand : Hand) → new.journal.entries ≡ old.journal.entries → StaysWhereUndone told old new hand (stepped.Undone (fault_of error) hand)
-  undone_by errors.Disk old new hand same = (same, refl)
-  undone_by (errors.Reopen faults) old new hand same = (same, refl)
-  undone_by (errors.Damaged at) old new hand same = (same, refl)
+  undone_by : (error : StoreError) (old new : StoreState D) (n : ℕ) (hand : Hand) → new.journal.entries ≡ old.journal.entries → StaysWhereUndone told old new n hand (stepped.Undone (fault_of error) hand)
+  undone_by errors.Disk old new n hand same = (same, refl)
+  undone_by (errors.Reopen faults) old new n hand same = (same, refl)
+  undone_by (errors.Damaged at) old new n hand same = (same, refl)
 
   module _ (old new : Parts D) (n : ℕ) (hand : Hand) (fits : IsFit told old n hand) (over : IsOver told new.transactions.tx new.pages) (leaves : Leaves told old.pages new.pages) (same : SameBesidePages old new) where
     was : FitsParts told old n (Some hand)
@@ -108,6 +112,7 @@ module _ {D : Type 0} (told : D → Told) where
           (subst (λ (o : Option Open). FitsHand old.pages.layout o (Some hand)) (sym (opens_same n)) was.in_hand);
       limit = ap (λ (l : LockState). l.limit) same.locks ∙ was.limit;
       own = subst (λ (l : LockState). locks_of l n ≤ locks_held (Some hand)) (sym same.locks) was.own;
+      held = λ table holds. ap (λ (layout : DiskLayout). right_held layout (Some hand)) leaves.layout ∙ was.held table (ap (λ (r : List (Option ℕ)). right_of r table) (sym same.rights) ∙ holds);
       rights = ap length same.rights ∙ was.rights ∙ ap (λ (layout : DiskLayout). length layout.schema.tables) (sym leaves.layout);
       entries = subst (λ (j : JournalState). length j.entries ≤ MAX_ENTRIES) (sym same.journal) was.entries;
       share = subst (λ (j : JournalState). share_of (Some hand) (transaction_of new.transactions.opens n) ≤ j.promised) (sym same.journal)
@@ -120,6 +125,8 @@ module _ {D : Type 0} (told : D → Told) where
       leaves = leaves;
       transactions = λ m apart. opens_same m;
       locks = λ m apart. ap (λ (l : LockState). locks_of l m) same.locks;
+      dropped = λ m apart. ap (λ (l : List (List Dropped)). dropped_in l m) same.dropped;
+      rights = λ m table apart holds. ap (λ (r : List (Option ℕ)). right_of r table) (sym same.rights) ∙ holds;
       promised = λ i. (same.journal i).promised + share_of ((is ∙ sym (kept_hand hands n hand is)) i) (sym (opens_same n) i);
     }
 
@@ -128,7 +135,7 @@ module _ {D : Type 0} (told : D → Told) where
     steps = λ names hands is tells before after p shown. absurd (not_refused error old.pages new.pages refused tells before after);
     fit = λ names hands is. fit_of_stores told new n (Some hand) names (with_hand hands n (Some hand)) (still old new n hand fits over leaves same) (kept_hand hands n hand is);
     others = refused_others old new n hand fits over leaves same (fault_of error);
-    stays = λ names hands is. undone_by error (store_of old names hands) (store_of new names (with_hand hands n (Some hand))) hand (ap (λ (j : JournalState). j.entries) same.journal);
+    stays = λ names hands is. undone_by error (store_of old names hands) (store_of new names (with_hand hands n (Some hand))) n hand (ap (λ (j : JournalState). j.entries) same.journal);
     cause = cause_of error hand old.pages new.pages refused;
   }
 
@@ -139,7 +146,7 @@ module _ {D : Type 0} (told : D → Told) where
 
   pub spent_is_undone : SpentIsUndone told
   spent_is_undone parts n hand entries fits ready is_length lacks =
-      let unchanged : SameBesidePages parts parts = record { transactions = refl; locks = refl; rights = refl; journal = refl } in
+      let unchanged : SameBesidePages parts parts = record { transactions = refl; locks = refl; rights = refl; journal = refl; queue = refl; dropped = refl } in
       let was : FitsParts told parts n (Some hand) = fit_of_parts told parts n hand fits in
       record {
         steps = λ names hands is tells before after p shown. (
@@ -149,7 +156,7 @@ module _ {D : Type 0} (told : D → Told) where
         );
         fit = λ names hands is. fit_of_stores told parts n (Some hand) names (with_hand hands n (Some hand)) was (kept_hand hands n hand is);
         others = refused_others parts parts n hand fits was.over (no_leaves parts.pages) unchanged (stops.Spent entries);
-        stays = λ names hands is. (record { pages = record { leaves = no_leaves parts.pages; pages = λ tells. refl }; transactions = refl; locks = refl; rights = refl; journal = refl }, refl);
+        stays = λ names hands is. (record { pages = record { leaves = no_leaves parts.pages; pages = λ tells. refl }; transactions = refl; locks = refl; rights = refl; journal = refl; queue = refl; dropped = refl }, refl);
         cause = (ready, ready);
       }
 
@@ -165,6 +172,8 @@ module _ {D : Type 0} (told : D → Told) where
       locks = same.locks i;
       rights = same.rights i;
       entries = (same.journal i).entries;
+      queue = same.queue i;
+      dropped = same.dropped i;
       names = names;
       hands = hands;
     }
@@ -179,11 +188,18 @@ module _ {D : Type 0} (told : D → Told) where
     cause_behind new (stepped.Undone (stops.Damaged at) hand) cause = (ready, cause.1, omega (arith, keeps.leaves.faults, cause.2), λ tells. cause.3 (keeps.leaves.tells ∙ tells))
 
     stays_behind : (names : List (List ℕ)) (hands : List (Option Hand)) (new : StoreState D) (hand : Hand) (answer : Stepped)
-        → StaysWhereUndone told (store_of mid names hands) new hand answer → StaysWhereUndone told (store_of old names hands) new hand answer
+        → StaysWhereUndone told (store_of mid names hands) new n hand answer → StaysWhereUndone told (store_of old names hands) new n hand answer
     stays_behind names hands new hand (stepped.Moved point next) stays = stays
     stays_behind names hands new hand (stepped.Done reply) stays = stays
-    stays_behind names hands new hand (stepped.Blocked what holder next) stays = (as_it_was stays.0, stays.1)
+    stays_behind names hands new hand (stepped.Blocked what holder next) stays = (as_it_was stays.0, stays.1, holds_too stays.2)
       where
+        holds_too : IsHolderOf (store_of mid names hands) n holder → IsHolderOf (store_of old names hands) n holder
+        holds_too it = (
+          it.0,
+          subst (λ (r : List (Option ℕ)). (1 ≤ locks_of old.locks holder) ⊎ ((table : ℕ) × (right_of r table ≡ Some holder))) same.rights
+              (subst (λ (l : LockState). (1 ≤ locks_of l holder) ⊎ ((table : ℕ) × (right_of mid.rights table ≡ Some holder))) same.locks it.1),
+        )
+
         as_it_was : StaysAsItWas told (store_of mid names hands) new → StaysAsItWas told (store_of old names hands) new
         as_it_was w = record {
           pages = keeps_on told old.pages mid.pages new.pages keeps w.pages;
@@ -191,6 +207,8 @@ module _ {D : Type 0} (told : D → Told) where
           locks = w.locks ∙ same.locks;
           rights = w.rights ∙ same.rights;
           journal = w.journal ∙ ap (λ (j : JournalState). j.entries) same.journal;
+          queue = w.queue ∙ same.queue;
+          dropped = w.dropped ∙ same.dropped;
         }
     stays_behind names hands new hand (stepped.Undone (stops.Spent entries) next) stays = (as_it_was stays.0, stays.1)
       where
@@ -201,6 +219,8 @@ module _ {D : Type 0} (told : D → Told) where
           locks = w.locks ∙ same.locks;
           rights = w.rights ∙ same.rights;
           journal = w.journal ∙ ap (λ (j : JournalState). j.entries) same.journal;
+          queue = w.queue ∙ same.queue;
+          dropped = w.dropped ∙ same.dropped;
         }
     stays_behind names hands new hand (stepped.Undone stops.Disk next) stays = (stays.0 ∙ ap (λ (j : JournalState). j.entries) same.journal, stays.1)
     stays_behind names hands new hand (stepped.Undone (stops.Reopen faults) next) stays = (stays.0 ∙ ap (λ (j : JournalState). j.entries) same.journal, stays.1)
@@ -215,6 +235,8 @@ module _ {D : Type 0} (told : D → Told) where
       leaves = keeps_then told old.pages mid.pages new.pages keeps others.leaves;
       transactions = λ m apart. others.transactions m apart ∙ ap (λ (t : TransactionsState). transaction_of t.opens m) same.transactions;
       locks = λ m apart. others.locks m apart ∙ ap (λ (l : LockState). locks_of l m) same.locks;
+      dropped = λ m apart. others.dropped m apart ∙ ap (λ (l : List (List Dropped)). dropped_in l m) same.dropped;
+      rights = λ m table apart holds. ap (λ (r : List (Option ℕ)). right_of r table) (sym same.rights) ∙ others.rights m table apart holds;
       promised = ap (λ share. new.journal.promised + share) (sym (shares_mid hands)) ∙ others.promised ∙ ap (λ (j : JournalState). j.promised + share_of (hand_in new.hands n) (transaction_of new.transactions.opens n)) same.journal;
     }
 

@@ -6,19 +6,25 @@ use Rattle.block_model.specs.declared.row.Query.{Query}
 use Rattle.statements.specs.declared.limits.TheConstants.{MAX_ENTRIES, MAX_SESSIONS}
 use Rattle.page_layout.specs.RowBytes.{HaveKinds}
 use Rattle.page_locks.specs.LockCounts.{locks_of}
+use Rattle.page_locks.specs.RightHolders.{right_of}
 use Rattle.heap_rows.specs.Heaps.{kinds_at}
 use Rattle.row_versions.specs.declared.sessions.Open.{Open}
 use Rattle.row_versions.specs.StoredVersions.{transaction_of}
 use Rattle.tx_table.specs.TxState.{IsOver}
-use Rattle.brin_insert.specs.Inserts.{AsksNothing, HasStepLeft, IsInsertFor}
+use Rattle.brin_desummarise.specs.declared.stage.Stage.{Stage as DesummariseStage}
+use Rattle.brin_desummarise.specs.declared.stage.Stage.TheVariants as desummarise_stages
+use Rattle.brin_desummarise.specs.Desummarises.{IsDesummariseOf, IsLeft, held_at}
+use Rattle.brin_insert.specs.Inserts.{HasStepLeft, IsInsertFor}
 use Rattle.brin_insert.specs.InsertLocks as inserts
 use Rattle.brin_scan.specs.Finds.{IsFindOf, IsScanning}
 use Rattle.brin_scan.specs.ScanHands.{IsJudging, IsScanOf}
 use Rattle.brin_scan.specs.declared.stage.Stage.TheVariants as scan_stages
 use Rattle.brin_summarise.specs.Summarises as summarises
 use Rattle.brin_summarise.specs.Summarises.{IsSummariseOf}
+use Rattle.brin_summarise.specs.declared.course.Standing.{Standing}
 use Rattle.brin_summarise.specs.declared.course.Standing.TheVariants as standings
 use Rattle.brin_summarise.specs.declared.wish.Wish.TheVariants as wishes
+use Rattle.index_steps.specs.IndexTuples.{index_at}
 use Rattle.store_parts.specs.declared.hand.Hand.{Hand}
 use Rattle.store_parts.specs.declared.hand.Hand.TheVariants as hands
 use Rattle.store_parts.specs.declared.hand.Hit.{Hit}
@@ -49,7 +55,7 @@ abbrev pub IsHandFor : DiskLayout → Option Open → Hand → Type 0
 IsHandFor layout own (hands.Begins numbers) = (own ≡ None) × (numbers.items ≡ []) × (MAX_SESSIONS ≤ vec_capacity numbers)
 IsHandFor layout own hands.Commits = IsSome own
 IsHandFor layout own hands.RollsBack = IsSome own
-IsHandFor layout own (hands.Puts table values) = IsUnderWay own × (table < length layout.schema.tables) × HaveKinds (kinds_at layout table) values × AsksNothing layout table
+IsHandFor layout own (hands.Puts table values) = IsUnderWay own × (table < length layout.schema.tables) × HaveKinds (kinds_at layout table) values
 IsHandFor layout own (hands.Inserts insert) = IsUnderWay own × IsInsertFor layout insert × HasStepLeft insert × IsSome insert.place × IsOwnRow own insert.row.id.t
 IsHandFor layout own (hands.Selecting query) = IsUnderWay own × (query.table < length layout.schema.tables)
 IsHandFor layout own (hands.Selects scan) = IsUnderWay own × IsFindOf layout scan × IsScanning scan.judging.stage scan.next × (scan.judging.stage ≢ scan_stages.Extent)
@@ -58,6 +64,7 @@ IsHandFor layout own (hands.Deletes scan) = IsUnderWay own × IsFindOf layout sc
 IsHandFor layout own (hands.Marks marking) = IsUnderWay own × IsMarkingFor layout marking
 IsHandFor layout own (hands.Explains explain) = IsScanOf layout explain.judging × IsJudging explain.judging.stage
 IsHandFor layout own (hands.Summarises a) = IsSummariseOf layout a × (a.standing ≢ standings.Done) × (a.wish ≢ wishes.Complete)
+IsHandFor layout own (hands.Desummarises a) = IsDesummariseOf layout a × IsLeft a.stage
 
 abbrev pub FitsHand : DiskLayout → Option Open → Option Hand → Type 0
 FitsHand layout own None = Unit {0}
@@ -67,16 +74,34 @@ FitsHand layout own (Some hand) = IsHandFor layout own hand
 abbrev pub locks_held : Option Hand → ℕ
 locks_held (Some (hands.Inserts insert)) = inserts.held_by (inserts.stage_of insert)
 locks_held (Some (hands.Summarises a)) = summarises.held_by a
+locks_held (Some (hands.Desummarises a)) = held_at a.stage
 locks_held hand = 0
 
+-- the table whose summarise lock is a statement's own between its steps: that of a summarise at its ranges, and of a desummarise at its range
+abbrev pub right_at : (table : ℕ) → Standing → Option ℕ
+right_at table standings.AtRange = Some table
+right_at table standing = None
+
+abbrev pub right_in : (table : ℕ) → DesummariseStage → Option ℕ
+right_in table desummarise_stages.Map = Some table
+right_in table (desummarise_stages.Clear x) = Some table
+right_in table (desummarise_stages.Drop x) = Some table
+right_in table stage = None
+
+abbrev pub right_held : DiskLayout → Option Hand → Option ℕ
+right_held layout (Some (hands.Summarises a)) = right_at (index_at layout a.index).table a.standing
+right_held layout (Some (hands.Desummarises a)) = right_in (index_at layout a.index).table a.stage
+right_held layout hand = None
+
 -- What holds of a session on any disk: its transactions are those of the pages; what it has in hand is fit for its next step; it holds no more page locks than
--- that; and the journal has what it is promised, and no more entries than it may have.
+-- that, and no other summarise lock; and the journal has what it is promised, and no more entries than it may have.
 pub record FitsStore {D : Type 0} (told : D → Told) (s : StoreState D) (n : ℕ) : Type 0 where
   pub session : n < MAX_SESSIONS
   pub over : IsOver told s.transactions.tx s.pages
   pub hand : FitsHand s.pages.layout (transaction_of s.transactions.opens n) (hand_at s n)
   pub limit : s.locks.limit ≡ MAX_LOCKS
   pub own : locks_of s.locks n ≤ locks_held (hand_at s n)
+  pub held : (table : ℕ) → right_of s.rights table ≡ Some n → right_held s.pages.layout (hand_at s n) ≡ Some table
   pub rights : length s.rights ≡ length s.pages.layout.schema.tables
   pub entries : length s.journal.entries ≤ MAX_ENTRIES
   pub share : share_of (hand_at s n) (transaction_of s.transactions.opens n) ≤ s.journal.promised

@@ -8,6 +8,7 @@ use Rattle.block_model.specs.RequestEffect.{Answer, Inserted, Found, Marked}
 use Rattle.statements.specs.declared.statement.Statement.{Statement}
 use Rattle.statements.specs.declared.statement.Statement.TheVariants as statements
 use Rattle.table_coverage.specs.Accounts.{Account, no_account}
+use Rattle.brin_desummarise.specs.Desummarises.{count_at}
 use Rattle.brin_summarise.specs.declared.wish.Wish.{Wish}
 use Rattle.brin_summarise.specs.declared.wish.Wish.TheVariants as wishes
 use Rattle.brin_summarise.specs.Summarises.{count_of}
@@ -37,6 +38,7 @@ statement_of (hands.Deletes scan) = statements.Delete scan.judging.query
 statement_of (hands.Marks marking) = statements.Delete marking.query
 statement_of (hands.Explains explain) = statements.Explain explain.judging.query
 statement_of (hands.Summarises a) = statements.Summarize a.index (block_of a.wish)
+statement_of (hands.Desummarises a) = statements.Desummarize a.index a.block
 
 -- the rows that a delete has still to mark
 abbrev pub hits_left : Marking → List Hit
@@ -64,9 +66,11 @@ AnswersAre hand answers = answers ≡ []
 -- what it has to tell so far
 abbrev pub TellsSo : Hand → Account → Type 0
 TellsSo (hands.Summarises a) account = account ≡ record no_account { ranges = count_of a }
+TellsSo (hands.Desummarises a) account = account ≡ record no_account { ranges = count_at a.stage }
+TellsSo (hands.Inserts insert) account = account ≡ record no_account { dropped = account.dropped }
 TellsSo hand account = account ≡ no_account
 
--- so it stands in a place of the definition; nothing in hand is nothing there, and behind a reply no summary was asked for in vain
+-- so it stands in a place of the definition; nothing in hand is nothing there
 abbrev pub HandShows : Option Hand → Option HandAt → Account → Type 0
-HandShows None shown account = (shown ≡ None) × (account.dropped ≡ [])
+HandShows None shown account = shown ≡ None
 HandShows (Some hand) shown account = (at : HandAt) × (shown ≡ Some at) × (at.statement ≡ statement_of hand) × AnswersAre hand at.answers × TellsSo hand account

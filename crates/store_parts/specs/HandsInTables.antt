@@ -12,6 +12,8 @@ use Rattle.tx_table.specs.TxState.{TxState}
 use Rattle.table_coverage.specs.Table.{Task, Resting, Marks, TableScan}
 use Rattle.index_steps.specs.IndexTuples.{index_at}
 use Rattle.index_steps.specs.ShownRows.{row_in}
+use Rattle.brin_desummarise.specs.Desummarises.{DesummariseState}
+use Rattle.brin_desummarise.specs.TableSteps as desummarises
 use Rattle.brin_insert.specs.Inserts as inserts
 use Rattle.brin_scan.specs.declared.stage.Stage.TheVariants as stages
 use Rattle.brin_scan.specs.Explains.{explaining}
@@ -62,12 +64,16 @@ IsExplainAt layout hand task = (judged : ℕ → ℕ → Option Bool) × (task �
 abbrev pub IsSummariseAt : DiskLayout → SummariseState → Task → Type 0
 IsSummariseAt layout a task = (at : ℕ) × StandsAt layout a.index at × (task ≡ summarises.task_of layout at a)
 
+-- and a desummarise, at its index's
+abbrev pub IsDesummariseAt : DiskLayout → DesummariseState → Task → Type 0
+IsDesummariseAt layout a task = (at : ℕ) × StandsAt layout a.index at × (task ≡ desummarises.task_of layout at a)
+
 -- in its own table a statement is at this, and in each other one at nothing
 abbrev pub InItsTable : (own table : ℕ) → (Here : Type 0) → Task → Type 0
 InItsTable own table Here task = (own ≡ table → Here) × (own ≢ table → task ≡ Resting)
 
 -- what a session's statement is at in the table, whose heap has these blocks; one that has made no step is at nothing,
--- but an explain and a summarise are in theirs from the start
+-- but an explain, a summarise and a desummarise are in theirs from the start
 abbrev pub IsTaskOf : DiskLayout → (table : ℕ) → List (List Slot) → TxState → List Status → Option Open → Option Hand → Task → Type 0
 IsTaskOf layout table blocks tx stored transaction (Some (hands.Inserts insert)) task = InItsTable insert.row.table table (task ≡ inserts.task_of layout insert) task
 IsTaskOf layout table blocks tx stored transaction (Some (hands.Selects scan)) task =
@@ -77,10 +83,11 @@ IsTaskOf layout table blocks tx stored transaction (Some (hands.Deletes scan)) t
 IsTaskOf layout table blocks tx stored transaction (Some (hands.Marks marking)) task = InItsTable marking.query.table table (IsMarkingAt blocks marking task) task
 IsTaskOf layout table blocks tx stored transaction (Some (hands.Explains explain)) task = InItsTable explain.judging.query.table table (IsExplainAt layout explain.judging task) task
 IsTaskOf layout table blocks tx stored transaction (Some (hands.Summarises a)) task = InItsTable (index_at layout a.index).table table (IsSummariseAt layout a task) task
+IsTaskOf layout table blocks tx stored transaction (Some (hands.Desummarises a)) task = InItsTable (index_at layout a.index).table table (IsDesummariseAt layout a task) task
 IsTaskOf layout table blocks tx stored transaction hand task = task ≡ Resting
 
 -- the table in which the statement makes its steps, if there is one; one that has made no step is in none,
--- but an explain and a summarise are in theirs from the start
+-- but an explain, a summarise and a desummarise are in theirs from the start
 abbrev pub table_in : DiskLayout → Option Hand → Option ℕ
 table_in layout (Some (hands.Inserts insert)) = Some insert.row.table
 table_in layout (Some (hands.Selects scan)) = Some scan.judging.query.table
@@ -88,4 +95,5 @@ table_in layout (Some (hands.Deletes scan)) = Some scan.judging.query.table
 table_in layout (Some (hands.Marks marking)) = Some marking.query.table
 table_in layout (Some (hands.Explains explain)) = Some explain.judging.query.table
 table_in layout (Some (hands.Summarises a)) = Some (index_at layout a.index).table
+table_in layout (Some (hands.Desummarises a)) = Some (index_at layout a.index).table
 table_in layout hand = None

@@ -22,20 +22,23 @@ use Rattle.transactions.specs.CountedRows.{counts as counts_of}
 use Rattle.transactions.specs.ShowsDatabase.{ShowsDatabase}
 use Rattle.transactions.specs.StoredRows.{StandsAt}
 use Rattle.index_contents.specs.IndexContents.{contents, index_page, relation_of as index_relation}
-use Rattle.table_coverage.specs.Accounts.{Account}
+use Rattle.table_coverage.specs.Accounts.{Account, Asked}
 use Rattle.table_coverage.specs.Table.{Task}
 use Rattle.table_coverage.specs.TableSteps.{SeesPlace}
 use Rattle.index_steps.specs.IndexTuples.{index_at}
 use Rattle.index_steps.specs.ShownIndex.{lock_in}
 use Rattle.index_steps.specs.SwapAnswers.{LeavesLocks}
+use Rattle.brin_insert.specs.AskedFor.{AreRequestsOf}
 use Rattle.brin_scan.specs.Finds.{Sight, sees_stored}
 use Rattle.brin_scan.specs.SeenRows.{SeesLater}
+use Rattle.line_texts.specs.Names.{dropped_of}
 use Rattle.line_texts.specs.Place.{Hand as HandAt, Place, database_at}
 use Rattle.store_parts.specs.declared.hand.Hand.{Hand}
 use Rattle.store_parts.specs.Hands.{HandShows}
+use Rattle.store_parts.specs.HandsAsk.{HandAsked, IsNoInsert}
 use Rattle.store_parts.specs.HandsInTables.{sight_of, table_in}
 use Rattle.store_parts.specs.ShowsPlace.{IsOfTransaction}
-use Rattle.store_parts.specs.StoreStates.{ShownStore, hand_in}
+use Rattle.store_parts.specs.StoreStates.{ShownStore, dropped_in, hand_in}
 
 -- A step of session n leaves the layout, the names, the first number of this opening, and what the other sessions have in hand and as transactions.
 pub record LeavesOthers (n : ℕ) (old new : ShownStore) : Type 0 where
@@ -123,6 +126,20 @@ pub record LeadsTo (old new : ShownStore) (p : Place) (n : ℕ) (at : Option Han
       → IsOfTransaction (transaction_of new.transactions.opens n) (finite.get (serial_run p.opening new.entries).sessions n) hand
   pub order : (index : ℕ) → index < length old.layout.schema.indexes → IsIndexInOrder old.layout.sizes.index_blocks (index_page old.layout old.pages index)
       → IsIndexInOrder old.layout.sizes.index_blocks (index_page old.layout new.pages index)
+
+-- A step of session n asks for no summary: the requests stay, and so does what each session's latest insert asked for in vain; and no insert is in hand then.
+pub record AsksForNone (n : ℕ) (old new : ShownStore) (p : Place) (account : Account) : Type 0 where
+  pub queue : new.queue ≡ old.queue
+  pub dropped : new.dropped ≡ old.dropped
+  pub told : account.dropped ≡ (p.accounts n).dropped
+  pub hand : IsNoInsert (hand_in new.hands n)
+
+-- Behind a step of session n these are the summaries that are asked for, and what it asked for in vain is what it has to tell; that of the others stays.
+pub record HasAsked (n : ℕ) (old new : ShownStore) (account : Account) (queue : List Asked) : Type 0 where
+  pub requests : AreRequestsOf old.layout new.queue queue
+  pub told : dropped_in new.dropped n ≡ dropped_of old.layout account.dropped
+  pub others : (m : ℕ) → m ≢ n → dropped_in new.dropped m ≡ dropped_in old.dropped m
+  pub hand : HandAsked old.layout (hand_in new.hands n) account.dropped
 
 -- A step of session n leaves a table: the pages of its heap, what its indexes have and who locks their pages, and who holds its summarise lock; and the session is
 -- at nothing there, before it and after it.

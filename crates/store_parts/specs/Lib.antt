@@ -3,6 +3,7 @@ pub mod StoreFaults
 pub mod StoreStates
 pub mod Hands
 pub mod Shares
+pub mod HandsAsk
 pub mod HandsInTables
 pub mod ShowsPlace
 pub mod StepIs

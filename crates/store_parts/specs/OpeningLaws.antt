@@ -17,7 +17,7 @@ use Rattle.table_coverage.specs.TableCovered.{IsTableKept}
 use Rattle.index_steps.specs.ShownRows.{shown_by}
 use Rattle.line_texts.specs.Place.{Place}
 use Rattle.store_parts.specs.ShowsPlace.{IsPlaceOf}
-use Rattle.store_parts.specs.StoreStates.{ShownStore, hand_in}
+use Rattle.store_parts.specs.StoreStates.{ShownStore, dropped_in, hand_in}
 
 -- Nobody is at anything: who holds no summarise lock, with these rows that count, and these tuples that were unnamed.
 abbrev pub unseen_at_rest : (counts : ℕ → Bool) → (unnamed : ℕ → Spot → Bool) → Unseen
@@ -46,7 +46,7 @@ place_opened s opening tables = record {
 }
 
 abbrev pub OpenedIsShown : Type 0
-OpenedIsShown = (s : ShownStore) (opening : DatabaseState) (tables : ℕ → TableState) → s.entries ≡ [] → ((n : ℕ) → hand_in s.hands n ≡ None)
+OpenedIsShown = (s : ShownStore) (opening : DatabaseState) (tables : ℕ → TableState) → s.entries ≡ [] → s.queue ≡ [] → ((n : ℕ) → dropped_in s.dropped n ≡ []) → ((n : ℕ) → hand_in s.hands n ≡ None)
     → (database : ShowsDatabase s.layout s.pages s.transactions opening)
     → ((table : ℕ) → table < length s.layout.schema.tables → IsTableOpened s database.stored table (tables table))
     → ((index : ℕ) → index < length s.layout.schema.indexes → IsIndexInOrder s.layout.sizes.index_blocks (index_page s.layout s.pages index))

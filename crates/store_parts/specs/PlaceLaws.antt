@@ -8,13 +8,14 @@ use Rattle.snapshot_core.specs.declared.statuses.Status.{Status}
 use Rattle.row_versions.specs.StoredVersions.{transaction_of}
 use Rattle.tx_table.specs.Statuses.{HasStatuses}
 use Rattle.transactions.specs.CountedRows.{counts as counts_of}
-use Rattle.table_coverage.specs.Accounts.{Account}
+use Rattle.table_coverage.specs.Accounts.{Account, Asked}
 use Rattle.table_coverage.specs.Table.{TableState, Task}
 use Rattle.line_texts.specs.Place.{Hand as HandAt, Place}
 use Rattle.line_texts.specs.Turns.{Leads, TablesStay}
+use Rattle.store_parts.specs.HandsAsk.{HandAsked}
 use Rattle.store_parts.specs.HandsInTables.{IsTaskOf}
-use Rattle.store_parts.specs.Leaving.{CountsFew, LeadsTo, LeavesOthers, SeeAlike, StepsAtOnce, StepsInTable}
-use Rattle.store_parts.specs.PlacesAfter.{place_after, place_at_once}
+use Rattle.store_parts.specs.Leaving.{AsksForNone, CountsFew, HasAsked, LeadsTo, LeavesOthers, SeeAlike, StepsAtOnce, StepsInTable}
+use Rattle.store_parts.specs.PlacesAfter.{place_after, place_asking, place_at_once}
 use Rattle.store_parts.specs.ShowsPlace.{IsPlaceOf, ShowsTable}
 use Rattle.store_parts.specs.StoreStates.{ShownStore, hand_in}
 
@@ -22,14 +23,21 @@ use Rattle.store_parts.specs.StoreStates.{ShownStore, hand_in}
 abbrev pub TableStepIsShown : Type 0
 TableStepIsShown = (old new : ShownStore) (p : Place) (n table : ℕ) (at : Option HandAt) (v : TableState) (account : Account) → (shown : IsPlaceOf old p)
     → LeavesOthers n old new → StepsInTable n table old new → CountsFew old new shown.database.stored shown.database.stored
-    → LeadsTo old new p n at account → ShowsTable new shown.database.stored table v
+    → LeadsTo old new p n at account → ShowsTable new shown.database.stored table v → AsksForNone n old new p account
     → IsPlaceOf new (place_after p n table at v account (counts_of new.transactions shown.database.stored) new.entries)
+
+-- behind one of an insert in its table, with these summaries that are asked for
+abbrev pub AskingStepIsShown : Type 0
+AskingStepIsShown = (old new : ShownStore) (p : Place) (n table : ℕ) (at : Option HandAt) (v : TableState) (account : Account) (queue : List Asked) → (shown : IsPlaceOf old p)
+    → LeavesOthers n old new → StepsInTable n table old new → CountsFew old new shown.database.stored shown.database.stored
+    → LeadsTo old new p n at account → ShowsTable new shown.database.stored table v → HasAsked n old new account queue
+    → IsPlaceOf new (place_asking p n table at v account (counts_of new.transactions shown.database.stored) new.entries queue)
 
 -- behind one in no table, with these statuses on the pages
 abbrev pub StepAtOnceIsShown : Type 0
 StepAtOnceIsShown = (old new : ShownStore) (p : Place) (n : ℕ) (later : List Status) → (shown : IsPlaceOf old p) → LeavesOthers n old new → StepsAtOnce n old new
     → HasStatuses old.layout new.pages later → SeeAlike n old new shown.database.stored later → CountsFew old new shown.database.stored later
-    → hand_in new.hands n ≡ None → LeadsTo old new p n None (p.accounts n)
+    → hand_in new.hands n ≡ None → LeadsTo old new p n None (p.accounts n) → AsksForNone n old new p (p.accounts n)
     → IsPlaceOf new (place_at_once p n (counts_of new.transactions later) new.entries)
 
 -- What a store has for its place is the same, but for how the session's statement is kept.
@@ -40,6 +48,9 @@ pub record StaysShown (n : ℕ) (old new : ShownStore) (p : Place) : Type 0 wher
   pub locks : new.locks ≡ old.locks
   pub rights : new.rights ≡ old.rights
   pub entries : new.entries ≡ old.entries
+  pub queue : new.queue ≡ old.queue
+  pub dropped : new.dropped ≡ old.dropped
+  pub asked : HandAsked old.layout (hand_in new.hands n) (p.accounts n).dropped
   pub hand : LeadsTo old new p n (p.hands n) (p.accounts n)
   pub tasks : (table : ℕ) (stored : List Status) (blocks : List (List Slot)) (task : Task)
       → IsTaskOf old.layout table blocks old.transactions.tx stored (transaction_of old.transactions.opens n) (hand_in old.hands n) task

@@ -1,5 +1,5 @@
 -- refusals of statements in their tables
-use Rattle.std.specs.Prelude.{◌≡◌, ◌≢◌, ℕ, Bool, false, IsTrue, List, [], ◌∷◌, None, Some}
+use Rattle.std.specs.Prelude.{◌≡◌, ◌≢◌, ℕ, Bool, false, IsTrue, List, ◌∷◌, None, Some}
 use Rattle.block_model.specs.declared.place.Place.{Place as PagePlace}
 use Rattle.block_model.specs.declared.row.Row.{Row}
 use Rattle.block_model.specs.declared.row.RowId.{RowId}
@@ -38,31 +38,31 @@ pub record CountsNoMore (w : TableState) (counts : ℕ → Bool) (t : ℕ) : Typ
 
 -- an insert has no row
 abbrev pub RowIsRefused : Type 0
-RowIsRefused = (p : Place) (n table t : ℕ) (values : List Value) (w : TableState) (counts : ℕ → Bool) → p.tables table ≡ w → p.queue ≡ [] → w.task n ≡ Resting
+RowIsRefused = (p : Place) (n table t : ℕ) (values : List Value) (w : TableState) (counts : ℕ → Bool) → p.tables table ≡ w → w.task n ≡ Resting
     → (refused : IsRowRefused w) → CountsNoMore w counts t
     → (turns : TurnsIn p n (statements.Insert table values) table (refused_in n counts w) no_account) × (refusal_in turns ≡ Some (row_refusal w refused))
 
 -- an index is full for an insert
 abbrev pub InsertIsRefused : Type 0
-InsertIsRefused = (p : Place) (n table b k : ℕ) (r : Row) (values : List Value) (w : TableState) (task : Task) (counts : ℕ → Bool) → p.tables table ≡ w → p.queue ≡ []
+InsertIsRefused = (p : Place) (n table b k : ℕ) (r : Row) (values : List Value) (w : TableState) (task : Task) (counts : ℕ → Bool) → p.tables table ≡ w
     → w.task n ≡ task → (refused : IsInsertRefused w n b k r task) → CountsNoMore w counts r.id.t
     → (turns : TurnsIn p n (statements.Insert table values) table (refused_in n counts w) (p.accounts n)) × (refusal_in turns ≡ Some (insert_refusal refused))
 
 -- memory is short for a scan of a select or a delete
 abbrev pub ScanIsRefused : Type 0
-ScanIsRefused = (p : Place) (n table t : ℕ) (statement : Statement) (w : TableState) (scan : TableScan) (counts : ℕ → Bool) → p.tables table ≡ w → p.queue ≡ []
+ScanIsRefused = (p : Place) (n table t : ℕ) (statement : Statement) (w : TableState) (scan : TableScan) (counts : ℕ → Bool) → p.tables table ≡ w
     → statement ≢ statements.Work → IsIn p n statement table → w.task n ≡ Scans scan → scan.explains ≡ false → CountsNoMore w counts t
     → (turns : TurnsIn p n statement table (refused_in n counts w) (p.accounts n)) × (refusal_in turns ≡ Some LacksMemory)
 
 -- a delete meets a conflict
 abbrev pub MarkIsRefused : Type 0
-MarkIsRefused = (p : Place) (n table t : ℕ) (statement : Statement) (w : TableState) (scan : TableScan) (id : RowId) (rest : List RowId) (counts : ℕ → Bool) → p.tables table ≡ w → p.queue ≡ []
+MarkIsRefused = (p : Place) (n table t : ℕ) (statement : Statement) (w : TableState) (scan : TableScan) (id : RowId) (rest : List RowId) (counts : ℕ → Bool) → p.tables table ≡ w
     → statement ≢ statements.Work → IsIn p n statement table → w.task n ≡ Marks scan (id ∷ rest) → CountsNoMore w counts t
     → (turns : TurnsIn p n statement table (refused_in n counts w) (p.accounts n)) × (refusal_in turns ≡ Some (HasConflict id))
 
 -- an index is full for a maintenance statement, which gives its page locks and its summarise lock
 abbrev pub MaintenanceIsRefused : Type 0
-MaintenanceIsRefused = (p : Place) (n table at range : ℕ) (statement : Statement) (w v : TableState) (job : Job) (phase : Phase) → p.tables table ≡ w → p.queue ≡ []
+MaintenanceIsRefused = (p : Place) (n table at range : ℕ) (statement : Statement) (w v : TableState) (job : Job) (phase : Phase) → p.tables table ≡ w
     → statement ≢ statements.Work → IsIn p n statement table → w.task n ≡ Maintains job at range phase → (refused : IsMaintainRefused (index_view_at at w) n range phase)
     → TaskTurns n w v (Maintains job at range phase) Resting → StepsIn at w v → SummariseLockPasses n (index_view_at at w) (index_view_at at v) (Some n) None
     → (turns : TurnsIn p n statement table v (p.accounts n)) × (refusal_in turns ≡ Some (maintain_refusal at refused))
@@ -86,6 +86,6 @@ abbrev pub MaintenanceRefusalIsShown : Type 0
 MaintenanceRefusalIsShown = (old new : ShownStore) (stored : List Status) (p : Place) (n table at range : ℕ) (statement : Statement) (w : TableState) (job : Job) (phase : Phase) → ShowsTable old stored table w
     → LeavesOthers n old new → ((place : PagePlace) → page_at new.pages place ≡ page_at old.pages place) → GivesAll (holder old.locks) (holder new.locks) n
     → right_of new.rights table ≡ None → ((t : ℕ) → counts_of new.transactions stored t ≡ counts_of old.transactions stored t)
-    → table_in old.layout (hand_in new.hands n) ≢ Some table → p.tables table ≡ w → p.queue ≡ [] → statement ≢ statements.Work → IsIn p n statement table
+    → table_in old.layout (hand_in new.hands n) ≢ Some table → p.tables table ≡ w → statement ≢ statements.Work → IsIn p n statement table
     → w.task n ≡ Maintains job at range phase → (refused : IsMaintainRefused (index_view_at at w) n range phase)
     → IsMaintenanceShown new stored p n table statement (maintain_refusal at refused)

@@ -1,5 +1,8 @@
 -- what is promised to all sessions, and how many locks they hold
-use Rattle.std.specs.Prelude.{◌≡◌, ◌≢◌, ℕ, zero, suc, ◌+◌, ◌<◌, ◌≤◌, List, Option}
+use Rattle.std.specs.Prelude.{◌≡◌, ◌≢◌, ℕ, zero, suc, ◌+◌, ◌<◌, ◌≤◌, List, Option, Some}
+use Rattle.block_model.specs.declared.place.Place.{Place}
+use Rattle.page_locks.specs.LockCounts.{locks_of}
+use Rattle.page_locks.specs.LockHolders.{LockState, holder}
 use Rattle.row_versions.specs.declared.sessions.Open.{Open}
 use Rattle.row_versions.specs.StoredVersions.{transaction_of}
 use Rattle.store_parts.specs.declared.hand.Hand.{Hand}
@@ -33,3 +36,7 @@ PromisesStay = (count n promised after : ℕ) (hands now : List (Option Hand)) (
 -- a statement in hand holds no more page locks than a session may
 abbrev pub FewLocksEach : Type 0
 FewLocksEach = (hand : Option Hand) → locks_held hand ≤ LOCKS_A_SESSION
+
+-- one that locks a page holds a lock
+abbrev pub HolderHasLock : Type 0
+HolderHasLock = (locks : LockState) (page : Place) (actor : ℕ) → holder locks page ≡ Some actor → 1 ≤ locks_of locks actor

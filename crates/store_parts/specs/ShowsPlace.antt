@@ -1,5 +1,5 @@
 -- the place of the definition of texts that a store shows
-use Rattle.std.specs.Prelude.{◌≡◌, ℕ, ◌<◌, Bool, true, false, List, [], length, map, Option, None, Some}
+use Rattle.std.specs.Prelude.{◌≡◌, ℕ, ◌<◌, Bool, true, false, List, length, map, Option, None, Some}
 use Rattle.std.specs.FinMap as finite
 use Rattle.block_model.specs.declared.row.Row.{Row}
 use Rattle.block_model.specs.DatabaseState.{OpenTransaction}
@@ -19,12 +19,15 @@ use Rattle.table_coverage.specs.Machines.{Unseen, table_state}
 use Rattle.table_coverage.specs.Table.{TableState}
 use Rattle.table_coverage.specs.TableCovered.{IsTableKept}
 use Rattle.index_steps.specs.ShownRows.{shown_by}
+use Rattle.brin_insert.specs.AskedFor.{AreRequestsOf}
+use Rattle.line_texts.specs.Names.{dropped_of}
 use Rattle.line_texts.specs.Place.{Place, database_at}
 use Rattle.store_parts.specs.declared.hand.Hand.{Hand}
 use Rattle.store_parts.specs.declared.hand.Hand.TheVariants as hands
 use Rattle.store_parts.specs.Hands.{HandShows, hits_left, ids_of}
+use Rattle.store_parts.specs.HandsAsk.{HandAsked}
 use Rattle.store_parts.specs.HandsInTables.{IsTaskOf}
-use Rattle.store_parts.specs.StoreStates.{ShownStore, StoreState, hand_in, shown_of}
+use Rattle.store_parts.specs.StoreStates.{ShownStore, StoreState, dropped_in, hand_in, shown_of}
 
 -- The table that pages, locks and summarise locks show, with each session's statement at its task, and kept. The rows of committed transactions count, and
 -- of open ones that haven't failed.
@@ -65,7 +68,10 @@ IsOfTransaction transaction copy hand = IsLeftToMark copy hand
 pub record IsPlaceOf (s : ShownStore) (p : Place) : Type 0 where
   pub layout : p.layout ≡ s.layout
   pub names : p.names ≡ s.names
-  pub queue : p.queue ≡ []
+  -- the requests for summaries, and what the sessions' inserts asked for in vain
+  pub queue : AreRequestsOf s.layout s.queue p.queue
+  pub told : (n : ℕ) → dropped_in s.dropped n ≡ dropped_of s.layout (p.accounts n).dropped
+  pub asked : (n : ℕ) → HandAsked s.layout (hand_in s.hands n) (p.accounts n).dropped
   pub journal : p.journal ≡ s.entries
   pub legal : IsLegal p.opening p.journal
   -- the rows on the pages, their statuses and the open transactions show the database of the journal

@@ -1,9 +1,10 @@
 -- what every step of a statement leaves on any disk, and when each fault comes
-use Rattle.std.specs.Prelude.{◌≡◌, ◌≢◌, ℕ, ◌+◌, None}
+use Rattle.std.specs.Prelude.{◌≡◌, ◌≢◌, ◌⊎◌, ℕ, ◌+◌, ◌≤◌, None, Some}
 use Rattle.disk_trait.specs.Told.{Told}
 use Rattle.store_layout.specs.DiskLayout.{DiskLayout, IsPlace, page_offset}
 use Rattle.block_model.specs.declared.place.Place.{Place}
 use Rattle.page_locks.specs.LockCounts.{locks_of}
+use Rattle.page_locks.specs.RightHolders.{right_of}
 use Rattle.page_store.specs.declared.faults.StoreError.TheVariants as errors
 use Rattle.page_store.specs.Keeps.{Keeps, Leaves, Untold}
 use Rattle.page_store.specs.Outcome.{Refused}
@@ -16,13 +17,16 @@ use Rattle.store_parts.specs.declared.hand.Stepped.{Stepped}
 use Rattle.store_parts.specs.declared.hand.Stepped.TheVariants as stepped
 use Rattle.store_parts.specs.Hands.{statement_of}
 use Rattle.store_parts.specs.Shares.{share_of}
-use Rattle.store_parts.specs.StoreStates.{StoreState, hand_at}
+use Rattle.store_parts.specs.StoreStates.{StoreState, dropped_in, hand_at}
 
--- what a step of session n leaves to the others: their transactions, how many locks each holds, and what of the journal is promised beside its own
+-- what a step of session n leaves to the others: their transactions, how many locks each holds, no summarise lock that they hadn't, what each asked for
+-- in vain, and what of the journal is promised beside its own
 pub record LeavesSessions {D : Type 0} (told : D → Told) (old new : StoreState D) (n : ℕ) : Type 0 where
   pub leaves : Leaves told old.pages new.pages
   pub transactions : (m : ℕ) → m ≢ n → transaction_of new.transactions.opens m ≡ transaction_of old.transactions.opens m
   pub locks : (m : ℕ) → m ≢ n → locks_of new.locks m ≡ locks_of old.locks m
+  pub dropped : (m : ℕ) → m ≢ n → dropped_in new.dropped m ≡ dropped_in old.dropped m
+  pub rights : (m table : ℕ) → m ≢ n → right_of new.rights table ≡ Some m → right_of old.rights table ≡ Some m
   pub promised : new.journal.promised + share_of (hand_at old n) (transaction_of old.transactions.opens n)
       ≡ old.journal.promised + share_of (hand_at new n) (transaction_of new.transactions.opens n)
 
@@ -53,11 +57,17 @@ pub record StaysAsItWas {D : Type 0} (told : D → Told) (old new : StoreState D
   pub locks : new.locks ≡ old.locks
   pub rights : new.rights ≡ old.rights
   pub journal : new.journal.entries ≡ old.journal.entries
+  pub queue : new.queue ≡ old.queue
+  pub dropped : new.dropped ≡ old.dropped
 
--- where it waits, and where the journal lacks room, nothing changes; and where the step isn't done it enters nothing
-abbrev pub StaysWhereUndone : {D : Type 0} → (D → Told) → (old new : StoreState D) → Hand → Stepped → Type 0
-StaysWhereUndone told old new was (stepped.Moved point hand) = statement_of hand ≡ statement_of was
-StaysWhereUndone told old new was (stepped.Done reply) = Unit {0}
-StaysWhereUndone told old new was (stepped.Blocked what holder hand) = StaysAsItWas told old new × (statement_of hand ≡ statement_of was)
-StaysWhereUndone told old new was (stepped.Undone (stops.Spent entries) hand) = StaysAsItWas told old new × (statement_of hand ≡ statement_of was)
-StaysWhereUndone told old new was (stepped.Undone fault hand) = (new.journal.entries ≡ old.journal.entries) × (statement_of hand ≡ statement_of was)
+-- session m is another one than n, and holds a page lock, or a table's summarise lock
+abbrev pub IsHolderOf : {D : Type 0} → StoreState D → (n m : ℕ) → Type 0
+IsHolderOf s n m = (m ≢ n) × ((1 ≤ locks_of s.locks m) ⊎ ((table : ℕ) × (right_of s.rights table ≡ Some m)))
+
+-- where it waits for what another session holds, and where the journal lacks room, nothing changes; and where the step isn't done it enters nothing
+abbrev pub StaysWhereUndone : {D : Type 0} → (D → Told) → (old new : StoreState D) → (n : ℕ) → Hand → Stepped → Type 0
+StaysWhereUndone told old new n was (stepped.Moved point hand) = statement_of hand ≡ statement_of was
+StaysWhereUndone told old new n was (stepped.Done reply) = Unit {0}
+StaysWhereUndone told old new n was (stepped.Blocked what holder hand) = StaysAsItWas told old new × (statement_of hand ≡ statement_of was) × IsHolderOf old n holder
+StaysWhereUndone told old new n was (stepped.Undone (stops.Spent entries) hand) = StaysAsItWas told old new × (statement_of hand ≡ statement_of was)
+StaysWhereUndone told old new n was (stepped.Undone fault hand) = (new.journal.entries ≡ old.journal.entries) × (statement_of hand ≡ statement_of was)

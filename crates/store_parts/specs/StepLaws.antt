@@ -1,5 +1,5 @@
 -- which step of the definition of texts a step of a store is
-use Rattle.std.specs.Prelude.{◌≡◌, ◌≢◌, ◌⊎◌, ℕ, Bool, IsTrue, [], ◌++◌, codes, None, Some}
+use Rattle.std.specs.Prelude.{◌≡◌, ◌≢◌, ◌⊎◌, ℕ, Bool, ◌≤◌, List, length, IsTrue, ◌++◌, codes, None, Some}
 use Rattle.block_model.specs.declared.reply.Point.{Point}
 use Rattle.block_model.specs.declared.reply.Point.TheVariants as points
 use Rattle.block_model.specs.declared.reply.Refusal.{Refusal}
@@ -13,32 +13,46 @@ use Rattle.statements.specs.declared.statement.Statement.{Statement}
 use Rattle.statements.specs.declared.statement.Statement.TheVariants as statements
 use Rattle.statements.specs.HeapRoom.{full_table}
 use Rattle.statements.specs.StatementRequests.{reply_to_statement}
-use Rattle.table_coverage.specs.Accounts.{Account}
+use Rattle.table_coverage.specs.Accounts.{Account, AccountIs, Accounts, Adds, Asked}
 use Rattle.table_coverage.specs.InOneIndex.{DoesAt}
 use Rattle.table_coverage.specs.Refusals as causes
 use Rattle.table_coverage.specs.Refusals.{HasConflict}
 use Rattle.table_coverage.specs.Table.{Resting, TableState, Task}
-use Rattle.table_coverage.specs.TablePoints.{IsHeldBy, WaitedFor, waits_for}
-use Rattle.table_coverage.specs.TableSteps.{IsBlocked, Settles}
+use Rattle.table_coverage.specs.TablePoints.{IsHeldBy, WaitedFor, does_point, waits_for}
+use Rattle.table_coverage.specs.TableSteps.{Does, IsBlocked, Settles}
 use Rattle.line_texts.specs.Beginnings.{Begins, IsAtRest, IsIn, takes_lock}
 use Rattle.line_texts.specs.Names.{name_of}
-use Rattle.line_texts.specs.Place.{Hand as HandAt, Place, database_at}
+use Rattle.line_texts.specs.Place.{Hand as HandAt, Place, accounts_at, database_at}
 use Rattle.line_texts.specs.Requests.{Course, MakesAll, refused_request}
 use Rattle.line_texts.specs.StatementSteps.{Ended, IsAtOnce, IsLooking, MakesAt, Moved, RefusesSo, StepsTo, Waits, course_of, numbers_of, reply_after, what_of}
-use Rattle.store_parts.specs.PlacesAfter.{TurnsIn, place_after, place_at_once, point_in, refusal_in}
+use Rattle.store_parts.specs.PlacesAfter.{TurnsAsking, TurnsIn, place_after, place_asking, place_at_once, point_in, refusal_in}
 
 -- A step of the table that a machine makes is one of the statement's: under the machine's point, and with what that makes of the account. It doesn't prune.
 abbrev pub MachineTurns : Type 0
 MachineTurns = (p : Place) (n table : ℕ) (statement : Statement) (w between v : TableState) (point : Point) (account : Account → Account)
-    → p.tables table ≡ w → p.queue ≡ [] → statement ≢ statements.Work → IsIn p n statement table → DoesAt n w between point account → point ≢ points.Prune → Settles n between v
+    → p.tables table ≡ w → statement ≢ statements.Work → IsIn p n statement table → DoesAt n w between point account → point ≢ points.Prune → Settles n between v
     → (w.task n ≢ Resting) ⊎ Begins p n w statement (between.task n)
     → (turns : TurnsIn p n statement table v (account (p.accounts n))) × (point_in turns ≡ Some point) × (turns.step.between ≡ between)
+
+-- A step of a machine that may ask for a summary is one of its statement's, with what that makes of the account and of the summaries that are asked for.
+abbrev pub MachineAsks : Type 0
+MachineAsks = (p : Place) (n table : ℕ) (statement : Statement) (w between v : TableState) (point : Point) (account : Account) (queue : List Asked)
+    → p.tables table ≡ w → statement ≢ statements.Work → IsIn p n statement table → (does : Does n w between) → does_point n w between does ≡ Some point
+    → ((b : Accounts) → AccountIs n (record (accounts_at p table) { queue = queue }) b account → Adds n w between does (accounts_at p table) b) → length p.queue ≤ length queue
+    → point ≢ points.Prune → Settles n between v → (w.task n ≢ Resting) ⊎ Begins p n w statement (between.task n)
+    → (turns : TurnsAsking p n statement table v account queue) × (point_in turns ≡ Some point) × (turns.step.between ≡ between)
 
 -- it goes on
 abbrev pub TurnGoesOn : Type 0
 TurnGoesOn = (p : Place) (n table : ℕ) (hand : HandAt) (v : TableState) (account : Account) (counts : ℕ → Bool) (point : Point) (c : Course)
     → (turns : TurnsIn p n hand.statement table v account) → point_in turns ≡ Some point → v.task n ≢ Resting → MakesAt point p n hand c
     → StepsTo p n hand (Moved point) (place_after p n table (Some (record hand { answers = c.answers })) v account counts c.journal)
+
+-- it goes on, and may have asked for a summary
+abbrev pub TurnAsks : Type 0
+TurnAsks = (p : Place) (n table : ℕ) (hand : HandAt) (v : TableState) (account : Account) (queue : List Asked) (counts : ℕ → Bool) (point : Point) (c : Course)
+    → (turns : TurnsAsking p n hand.statement table v account queue) → point_in turns ≡ Some point → v.task n ≢ Resting → MakesAt point p n hand c
+    → StepsTo p n hand (Moved point) (place_asking p n table (Some (record hand { answers = c.answers })) v account counts c.journal queue)
 
 -- it replies
 abbrev pub TurnReplies : Type 0

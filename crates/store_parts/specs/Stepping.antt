@@ -41,6 +41,6 @@ StaysFit told old new n hand answer = OfEachStore old new n hand answer (λ befo
 abbrev pub LeavesTheOthers : {D : Type 0} → (D → Told) → (old new : Parts D) → (n : ℕ) → Hand → Stepped → Type 0
 LeavesTheOthers told old new n hand answer = OfEachStore old new n hand answer (λ before after. LeavesSessions told before after n)
 
--- where nothing is done nothing changes
+-- where nothing is done nothing changes, and it waits for another session
 abbrev pub StaysUndone : {D : Type 0} → (D → Told) → (old new : Parts D) → (n : ℕ) → Hand → Stepped → Type 0
-StaysUndone told old new n hand answer = OfEachStore old new n hand answer (λ before after. StaysWhereUndone told before after hand answer)
+StaysUndone told old new n hand answer = OfEachStore old new n hand answer (λ before after. StaysWhereUndone told before after n hand answer)

@@ -1,22 +1,26 @@
 -- what a store of sessions is seen as
-use Rattle.std.specs.Prelude.{ℕ, List, slice_index_or, slice_set, Option, None}
+use Rattle.std.specs.Prelude.{ℕ, List, [], slice_index_or, slice_set, Option, None}
 use Rattle.page_locks.specs.LockHolders.{LockState}
 use Rattle.store_layout.specs.DiskLayout.{DiskLayout}
 use Rattle.block_model.specs.declared.request.Entry.{Entry}
 use Rattle.page_store.specs.PageMap.{PageMap, View}
+use Rattle.reply_texts.specs.declared.dropped.Dropped.{Dropped}
 use Rattle.transactions.specs.TransactionsState.{TransactionsState}
 use Rattle.store_parts.specs.declared.hand.Hand.{Hand}
 use Rattle.store_parts.specs.declared.parts.Parts.{Parts}
 use Rattle.store_parts.specs.JournalState.{JournalState}
 
--- The pages with their disk; the transactions; who locks which page, and who holds which table's summarise lock; the journal; and the sessions by
--- their numbers: their names, and what each has in hand.
+-- The pages with their disk; the transactions; who locks which page, and who holds which table's summarise lock; the journal; the requests for
+-- summaries, each of an index, by its number among all, and a range; and the sessions by their numbers: what the latest insert of each asked for
+-- in vain, their names, and what each has in hand.
 pub record StoreState (D : Type 0) : Type 0 where
   pub pages : View D
   pub transactions : TransactionsState
   pub locks : LockState
   pub rights : List (Option ℕ)
   pub journal : JournalState
+  pub queue : List (ℕ × ℕ)
+  pub dropped : List (List Dropped)
   pub names : List (List ℕ)
   pub hands : List (Option Hand)
 
@@ -28,6 +32,8 @@ pub record ShownStore : Type 0 where
   pub locks : LockState
   pub rights : List (Option ℕ)
   pub entries : List Entry
+  pub queue : List (ℕ × ℕ)
+  pub dropped : List (List Dropped)
   pub names : List (List ℕ)
   pub hands : List (Option Hand)
 
@@ -39,6 +45,8 @@ shown_of s = record {
   locks = s.locks;
   rights = s.rights;
   entries = s.journal.entries;
+  queue = s.queue;
+  dropped = s.dropped;
   names = s.names;
   hands = s.hands;
 }
@@ -50,6 +58,10 @@ hand_in hands n = slice_index_or hands n None
 abbrev pub hand_at : {D : Type 0} → StoreState D → ℕ → Option Hand
 hand_at s n = hand_in s.hands n
 
+-- what the latest insert of session n asked for in vain
+abbrev pub dropped_in : List (List Dropped) → ℕ → List Dropped
+dropped_in lists n = slice_index_or lists n []
+
 -- the store of these parts, whose sessions have these names and hands
 abbrev pub store_of : {D : Type 0} → Parts D → List (List ℕ) → List (Option Hand) → StoreState D
 store_of parts names hands = record {
@@ -58,6 +70,8 @@ store_of parts names hands = record {
   locks = parts.locks;
   rights = parts.rights;
   journal = parts.journal;
+  queue = parts.queue;
+  dropped = parts.dropped;
   names = names;
   hands = hands;
 }

@@ -1,18 +1,19 @@
 -- which place a store shows behind a statement that is taken, and behind a session that is made
 use Rattle.std.specs.Prelude.{◌≡◌, ◌≢◌, ℕ, ◌<◌, List, [], length, Option, None, Some}
 use Rattle.store_layout.specs.DiskLayout.{DiskLayout}
+use Rattle.brin_desummarise.specs.declared.stage.Stage.TheVariants as desummarise_stages
 use Rattle.brin_scan.specs.declared.stage.Stage.TheVariants as stages
 use Rattle.brin_summarise.specs.declared.course.Standing.TheVariants as standings
 use Rattle.brin_summarise.specs.declared.wish.Wish.TheVariants as wishes
 use Rattle.line_texts.specs.LineTexts.{with_statement}
-use Rattle.table_coverage.specs.Accounts.{Account}
-use Rattle.line_texts.specs.Place.{Hand as HandAt, Place}
+use Rattle.reply_texts.specs.declared.dropped.Dropped.{Dropped}
+use Rattle.line_texts.specs.Place.{Place}
 use Rattle.store_parts.specs.declared.hand.Hand.{Hand}
 use Rattle.store_parts.specs.declared.hand.Hand.TheVariants as hands
-use Rattle.store_parts.specs.Hands.{HandShows, statement_of}
+use Rattle.store_parts.specs.Hands.{statement_of}
 use Rattle.store_parts.specs.ShowsPlace.{IsPlaceOf}
 use Rattle.store_parts.specs.StoreLaws.{HasHand}
-use Rattle.store_parts.specs.StoreStates.{ShownStore, hand_in}
+use Rattle.store_parts.specs.StoreStates.{ShownStore, dropped_in, hand_in}
 
 -- the statement has made no step
 abbrev pub HasNotBegun : DiskLayout → Hand → Type 0
@@ -24,16 +25,19 @@ HasNotBegun layout (hands.Selecting query) = Unit {0}
 HasNotBegun layout (hands.Deleting query) = Unit {0}
 HasNotBegun layout (hands.Explains explain) = explain.judging.stage ≡ stages.Extent
 HasNotBegun layout (hands.Summarises a) = (a.standing ≡ standings.Begins) × (a.index < length layout.schema.indexes) × (a.wish ≢ wishes.Complete)
+HasNotBegun layout (hands.Desummarises a) = (a.stage ≡ desummarise_stages.Right) × (a.index < length layout.schema.indexes)
 HasNotBegun layout hand = ⊥
+
+-- what the session asked for in vain is forgotten, and that of the others stays
+pub record ForgetsDropped (old new : List (List Dropped)) (n : ℕ) : Type 0 where
+  pub own : dropped_in new n ≡ []
+  pub others : (m : ℕ) → m ≢ n → dropped_in new m ≡ dropped_in old m
 
 -- a session without a statement in hand has this one then
 abbrev pub SubmittedIsShown : Type 0
-SubmittedIsShown = (s : ShownStore) (p : Place) (n : ℕ) (new : List (Option Hand)) (hand : Hand) → IsPlaceOf s p → hand_in s.hands n ≡ None
-    → HasHand s.hands new n (Some hand) → HasNotBegun s.layout hand → IsPlaceOf (record s { hands = new }) (with_statement p n (statement_of hand))
-
--- no statement in hand, and none behind its reply, has asked for a summary in vain
-abbrev pub NothingIsDropped : Type 0
-NothingIsDropped = (hand : Option Hand) (shown : Option HandAt) (account : Account) → HandShows hand shown account → account.dropped ≡ []
+SubmittedIsShown = (s : ShownStore) (p : Place) (n : ℕ) (new : List (Option Hand)) (dropped : List (List Dropped)) (hand : Hand) → IsPlaceOf s p → hand_in s.hands n ≡ None
+    → HasHand s.hands new n (Some hand) → ForgetsDropped s.dropped dropped n → HasNotBegun s.layout hand
+    → IsPlaceOf (record s { hands = new; dropped = dropped }) (with_statement p n (statement_of hand))
 
 -- sessions have other names, and in hand what they had
 abbrev pub NamedIsShown : Type 0

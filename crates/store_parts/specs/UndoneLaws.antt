@@ -3,6 +3,7 @@ use Rattle.std.specs.Prelude.{◌≡◌, ℕ, ◌<◌, ◌≤◌, List, length, 
 use Rattle.disk_trait.specs.Told.{Told}
 use Rattle.statements.specs.declared.limits.TheConstants.{MAX_ENTRIES, MAX_SESSIONS}
 use Rattle.page_locks.specs.LockCounts.{locks_of}
+use Rattle.page_locks.specs.RightHolders.{right_of}
 use Rattle.page_store.specs.declared.faults.StoreError.{StoreError}
 use Rattle.page_store.specs.Keeps.{Keeps, Leaves, Tells, Untold}
 use Rattle.page_store.specs.Outcome.{Refused}
@@ -16,7 +17,7 @@ use Rattle.store_parts.specs.declared.hand.Stepped.{Stepped}
 use Rattle.store_parts.specs.declared.hand.Stepped.TheVariants as stepped
 use Rattle.store_parts.specs.declared.limits.TheConstants.{MAX_LOCKS}
 use Rattle.store_parts.specs.declared.parts.Parts.{Parts}
-use Rattle.store_parts.specs.HandFits.{FitsHand, FitsStore, locks_held}
+use Rattle.store_parts.specs.HandFits.{FitsHand, FitsStore, locks_held, right_held}
 use Rattle.store_parts.specs.Shares.{share_of}
 use Rattle.store_parts.specs.ShowsPlace.{ShowsPlace}
 use Rattle.store_parts.specs.StepAnswers.{HasCause}
@@ -31,6 +32,7 @@ pub record FitsParts {D : Type 0} (told : D → Told) (parts : Parts D) (n : ℕ
   pub in_hand : FitsHand parts.pages.layout (transaction_of parts.transactions.opens n) hand
   pub limit : parts.locks.limit ≡ MAX_LOCKS
   pub own : locks_of parts.locks n ≤ locks_held hand
+  pub held : (table : ℕ) → right_of parts.rights table ≡ Some n → right_held parts.pages.layout hand ≡ Some table
   pub rights : length parts.rights ≡ length parts.pages.layout.schema.tables
   pub entries : length parts.journal.entries ≤ MAX_ENTRIES
   pub share : share_of hand (transaction_of parts.transactions.opens n) ≤ parts.journal.promised
@@ -56,6 +58,8 @@ pub record SameBesidePages {D : Type 0} (old new : Parts D) : Type 0 where
   pub locks : new.locks ≡ old.locks
   pub rights : new.rights ≡ old.rights
   pub journal : new.journal ≡ old.journal
+  pub queue : new.queue ≡ old.queue
+  pub dropped : new.dropped ≡ old.dropped
 
 -- the pages refuse the step
 abbrev pub RefusedIsUndone : {D : Type 0} → (D → Told) → Type 0

@@ -2,6 +2,7 @@
 
 use crate::faults::StoreFault;
 use block_model::{Point, Query, Reply, RowId, Spot, Values, What};
+use brin_desummarise::Desummarise;
 use brin_insert::Insert;
 use brin_scan::{Explain, Scan};
 use brin_summarise::Summarise;
@@ -43,6 +44,7 @@ pub enum Hand {
     Marks(Marking),
     Explains(Explain),
     Summarises(Summarise),
+    Desummarises(Desummarise),
 }
 
 /// What came of a step of a statement in hand: it goes on behind a step of this name; it is done, with its reply; it waits for what that

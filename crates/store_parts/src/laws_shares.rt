@@ -4,7 +4,7 @@ ghost use Rattle.std.specs.Prelude.{◌≡◌, ◌+◌, ◌≤◌, ℕ};
 ghost use Rattle.page_locks.specs.LockCounts.{locks_of};
 ghost use Rattle.page_locks.specs.LockHolders.{count_of};
 ghost use Rattle.statements.specs.declared.limits.TheConstants.{MAX_SESSIONS as SESSIONS};
-ghost use Rattle.store_parts.specs.ShareLaws.{FewLocksEach, PromisesStay, ShareIsWithin, SharesChange};
+ghost use Rattle.store_parts.specs.ShareLaws.{FewLocksEach, HolderHasLock, PromisesStay, ShareIsWithin, SharesChange};
 
 use crate::limits::{LOCKS_A_SESSION, MAX_LOCKS};
 use page_locks::{Locks, few_locks_are_held as few_locks};
@@ -21,6 +21,11 @@ pub fn shares_are_summed()
 /// No statement in hand holds more page locks than a session may. Does nothing.
 pub fn each_session_holds_few_locks()
     ensures { FewLocksEach }
+{}
+
+/// A session that locks a page holds a lock. Does nothing.
+pub fn a_holder_has_a_lock()
+    ensures { HolderHasLock }
 {}
 
 /// Where no session holds more locks than one may, there is room for the locks of one more move. Does nothing.

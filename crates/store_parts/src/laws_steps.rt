@@ -1,15 +1,21 @@
 //! Laws that say which step of the definition of texts a step of a store is. None does anything.
 
-ghost use Rattle.store_parts.specs.StepLaws.{IsOneRequest, LacksMemoryThere, LacksNumber, MachineTurns, TurnConflicts, TurnGoesOn, TurnIsRefused, TurnReplies, TurnWaits};
+ghost use Rattle.store_parts.specs.StepLaws.{IsOneRequest, LacksMemoryThere, LacksNumber, MachineAsks, MachineTurns, TurnAsks, TurnConflicts, TurnGoesOn, TurnIsRefused, TurnReplies, TurnWaits};
 
 /// A machine's step in a table is a turn of the statement there.
 pub fn a_machine_turns()
     ensures { MachineTurns }
 {}
 
+/// So is a step of a machine that may ask for a summary.
+pub fn a_machine_asks()
+    ensures { MachineAsks }
+{}
+
 /// A turn is a step of the definition, with which its statement goes on, replies, meets a conflict or is refused; and so is one that waits.
 pub fn a_turn_is_a_step()
     ensures goes_on { TurnGoesOn }
+    ensures asks { TurnAsks }
     ensures replies { TurnReplies }
     ensures conflicts { TurnConflicts }
     ensures refused { TurnIsRefused }

@@ -1,10 +1,11 @@
-//! The parts of a store of sessions and the words in which its steps are said: pages, transactions, locks, journal, and what each
-//! session has in hand, as the machine that makes its steps. Which place of the definition of texts they show stands in
+//! The parts of a store of sessions and the words in which its steps are said: pages, transactions, locks, journal, requests for summaries,
+//! and what each session has in hand, as the machine that makes its steps. Which place of the definition of texts they show stands in
 //! specs/ShowsPlace.antt; a step of a session leads from each place that is shown before it to one that is shown after it
 //! (specs/StepIs.antt). The crates above each make the steps of one kind of statement, and session_core hands them out. It stands on
-//! line_texts, transactions, and the machines brin_insert, brin_scan and brin_summarise.
+//! line_texts, transactions, summary_queue, and the machines brin_insert, brin_scan, brin_summarise and brin_desummarise.
 #![tactic(auto)]
 
+mod dropped_requests;
 mod faults;
 mod hand;
 mod journal;
@@ -23,6 +24,7 @@ mod limits;
 mod names;
 mod parts;
 
+pub use dropped_requests::DroppedRequests;
 pub use faults::{Step, StoreFault, fault_of};
 pub use hand::{Hand, Hit, Marking, Stepped};
 pub use journal::Journal;
@@ -31,8 +33,10 @@ pub use laws_opening::an_opened_store_is_shown;
 pub use laws_places::{a_step_is_shown, places_after_a_step};
 pub use laws_refusals::{a_refusal_is_shown, a_refusal_turns};
 pub use laws_requests::{one_more_request, others_copies_stay, requests_are_legal};
-pub use laws_shares::{each_session_holds_few_locks, few_locks_are_held, shares_are_summed};
-pub use laws_steps::{a_machine_turns, a_turn_is_a_step, one_request_is_a_step};
+pub use laws_shares::{
+    a_holder_has_a_lock, each_session_holds_few_locks, few_locks_are_held, shares_are_summed,
+};
+pub use laws_steps::{a_machine_asks, a_machine_turns, a_turn_is_a_step, one_request_is_a_step};
 pub use laws_stores::{a_fit_step_fits_everywhere, one_hand_changes, other_sessions_stay_fit};
 pub use laws_submits::a_submitted_statement_is_shown;
 pub use laws_tables::{
@@ -40,6 +44,6 @@ pub use laws_tables::{
     the_own_table_goes_on,
 };
 pub use laws_undone::an_undone_step_changes_nothing;
-pub use limits::{ENTRIES_A_BEGIN, LOCKS_A_SESSION, MAX_LOCKS};
+pub use limits::{DROPPED_A_SESSION, ENTRIES_A_BEGIN, LOCKS_A_SESSION, MAX_LOCKS};
 pub use names::{index_named, lock_waited_for, page_waited_for, spent, table_named};
 pub use parts::Parts;

@@ -1,13 +1,16 @@
 //! The parts of a store but for its sessions.
 
+use crate::dropped_requests::DroppedRequests;
 use crate::journal::Journal;
 use disk_trait::Disk;
 use engine_pages::PageStore;
 use page_locks::{Locks, Rights};
 use std::alloc::Global;
+use summary_queue::Queue;
 use transactions::Transactions;
 
-/// The pages, the transactions over them, who locks which page of an index and who holds the summarise lock of which table, and the journal.
+/// The pages, the transactions over them, who locks which page of an index and who holds the summarise lock of which table, the journal, the
+/// requests for summaries, and what each session's latest insert asked for in vain.
 #[derive(Drop)]
 pub struct Parts<D: Disk + Drop> {
     pub alloc: Global,
@@ -16,4 +19,6 @@ pub struct Parts<D: Disk + Drop> {
     pub locks: Locks,
     pub rights: Rights,
     pub journal: Journal,
+    pub queue: Queue,
+    pub dropped: DroppedRequests,
 }

@@ -32,7 +32,7 @@ module _ {D : Type 0} (told : D → Told) (parts : Parts D) (n : ℕ) where
       → (fault : StoreFault) → fault ≡ fault_of error → (other : Hand) → other ≡ hand → StepsSo told parts parts n hand (stepped.Undone fault other)
   refused_at_once hand fit error refused fault is other other_is =
       subst (λ (a : Stepped). StepsSo told parts parts n hand a) (λ i. stepped.Undone (sym is i) (sym other_is i))
-      (refused_is_undone told parts parts n hand error fit (fit_of_parts told parts n hand fit).over (keeps_same told parts.pages).leaves (record { transactions = refl; locks = refl; rights = refl; journal = refl }) refused)
+      (refused_is_undone told parts parts n hand error fit (fit_of_parts told parts n hand fit).over (keeps_same told parts.pages).leaves (record { transactions = refl; locks = refl; rights = refl; journal = refl; queue = refl; dropped = refl }) refused)
 
   -- and a crash leaves what one left before
   pub passes_nothing : (mid : Parts D) → mid ≡ record parts { journal = mid.journal } → (pages : View D) → pages ≡ mid.pages → Survives told (λ passed. ⊥) parts.pages parts.pages

@@ -39,6 +39,7 @@ use Rattle.brin_scan.proofs.FoundRows.{slot_of_row}
 use Rattle.brin_scan.proofs.Stepping.{onward_turned}
 use Rattle.line_texts.specs.Place.{Hand as HandAt, Place, database_at, new_hand}
 use Rattle.line_texts.specs.StatementSteps.{MakesAt, Moved, Steps, StepsTo, course_of}
+use Rattle.store_parts.specs.HandsAsk.{IsNoInsert}
 use Rattle.store_parts.specs.declared.hand.Hand.{Hand}
 use Rattle.store_parts.specs.declared.hand.Hand.TheVariants as hands
 use Rattle.store_parts.specs.declared.hand.Hit.{Hit}
@@ -149,6 +150,7 @@ module _ (laws : LookLaws) (old new : ShownStore) (n : ℕ) (before after : Find
 
     in_hand_then : IsInHand old new n number (shows laws old n lookings.Delete before o there p shown).blocks shown.database.stored next
     in_hand_then = record {
+      asks = subst IsNoInsert (sym is) tt;
       is_in = λ other there_is. sym (same_Some after.judging.query.table other (sym (ap (table_in old.layout) is) ∙ there_is)) ∙ ap (λ (q : Query). q.table) same;
       task = subst (λ (h : Option Hand). IsTaskOf old.layout number (shows laws old n lookings.Delete before o there p shown).blocks new.transactions.tx shown.database.stored (transaction_of new.transactions.opens n) h next) (sym is)
           ((λ own. marking_at), (λ away. absurd (away (ap (λ (q : Query). q.table) same))));
@@ -183,7 +185,7 @@ module _ (laws : LookLaws) (old new : ShownStore) (n : ℕ) (before after : Find
         let v : TableState = table_state (pages_show laws old n lookings.Delete before o there p shown) (task_turned n next (shows laws old n lookings.Delete before o there p shown).unseen) in
         let counts : ℕ → Bool = counts_of new.transactions shown.database.stored in (
           place_after p n number (Some hand) v account counts new.entries,
-          place_shown laws old new n lookings.Delete before o there p shown left next (Some hand) account in_hand_then leads turns.0,
+          place_shown laws old new n lookings.Delete before o there p shown left next (Some hand) account in_hand_then leads turns.0 empty,
           record {
             hand = hand;
             in_hand = in_hand laws old n lookings.Delete before o there p shown;

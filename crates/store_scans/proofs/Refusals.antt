@@ -91,7 +91,7 @@ module _ (laws : LookLaws) (old : ShownStore) (n : ℕ) (looking : Looking) (bef
 
     module _ (t : ℕ) (counts : ℕ → Bool) (no_more : CountsNoMore (p.tables number) counts t) where
       pub turns : (turns : TurnsIn p n (statement_for looking query) number (refused_in n counts (p.tables number)) (p.accounts n)) × (refusal_in turns ≡ Some LacksMemory)
-      turns = scan_is_refused p n number t (statement_for looking query) (p.tables number) its_scan counts refl shown.queue (not_work looking query) (on_table looking query p n) scans_there refl no_more
+      turns = scan_is_refused p n number t (statement_for looking query) (p.tables number) its_scan counts refl (not_work looking query) (on_table looking query p n) scans_there refl no_more
 
       pub later_step : (others : ℕ → Bool)
           → StepsTo p n hand (Ended (replies.Refused refusals.Memory)) (place_after p n number None (refused_in n counts (p.tables number)) (p.accounts n) others entries_then)

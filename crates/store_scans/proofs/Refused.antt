@@ -22,7 +22,6 @@ use Rattle.transactions.specs.CountedRows.{counts as counts_of}
 use Rattle.transactions.specs.Sessions.{IsCopyOf}
 use Rattle.transactions.specs.ShowsDatabase.{DoesRequest, ShowsDatabase}
 use Rattle.transactions.specs.TransactionsState.{TransactionsState, with_failed}
-use Rattle.table_coverage.specs.Accounts.{Account}
 use Rattle.table_coverage.specs.Machines.{Unseen, table_state, task_turned}
 use Rattle.table_coverage.specs.Table.{Resting, TableState, Task}
 use Rattle.table_coverage.proofs.Views.{pick_other, pick_same}
@@ -30,11 +29,12 @@ use Rattle.brin_scan.specs.declared.stage.Stage.TheVariants as stages
 use Rattle.brin_scan.specs.Finds.{FindHand}
 use Rattle.line_texts.specs.Place.{Hand as HandAt, Place, database_at, new_hand}
 use Rattle.line_texts.specs.StatementSteps.{Ended, Steps, StepsTo}
+use Rattle.store_parts.specs.HandsAsk.{IsNoInsert}
 use Rattle.store_parts.specs.declared.hand.Hand.{Hand}
 use Rattle.store_parts.specs.Hands.{HandShows}
 use Rattle.store_parts.specs.HandsInTables.{IsTaskOf, table_in}
 use Rattle.store_parts.specs.LeadLaws.{HasInHand}
-use Rattle.store_parts.specs.Leaving.{CountsFew, LeadsTo, LeavesOthers, SameLocks, StepsAtOnce, StepsInTable}
+use Rattle.store_parts.specs.Leaving.{CountsFew, LeadsTo, LeavesOthers, SameLocks, StepsAtOnce, StepsInTable, AsksForNone}
 use Rattle.store_parts.specs.PlacesAfter.{place_after, place_at_once}
 use Rattle.store_parts.specs.RefusalLaws.{CountsNoMore, refused_in}
 use Rattle.store_parts.specs.ShowsPlace.{IsPlaceOf, ShowsTable}
@@ -62,6 +62,8 @@ pub record RefusedLeft (old new : ShownStore) (n : ℕ) (o : Open) (query : Quer
   pub transactions : new.transactions ≡ with_failed old.transactions n o
   pub locks : new.locks ≡ old.locks
   pub rights : new.rights ≡ old.rights
+  pub queue : new.queue ≡ old.queue
+  pub dropped : new.dropped ≡ old.dropped
   pub entries : new.entries ≡ old.entries ++ refused_entry n query ∷ []
   pub none : hand_in new.hands n ≡ None
   pub fits : length new.entries ≤ MAX_ENTRIES
@@ -106,10 +108,13 @@ module _ (laws : LookLaws) (old new : ShownStore) (n : ℕ) (looking : Looking) 
 
   has_none : HasInHand old new n None (p.accounts n) (after_request d e)
   has_none = record {
-    hand = subst (λ (h : Option Hand). HandShows h None (p.accounts n)) (sym left.none) (refl, ap (λ (a : Account). a.dropped) (account_is laws old n looking before o there p shown));
+    hand = subst (λ (h : Option Hand). HandShows h None (p.accounts n)) (sym left.none) refl;
     own = λ h is. absurd (none-some h (sym left.none ∙ is));
     order = λ index below ordered. order_stays old new left.pages index ordered;
   }
+
+  asks_none : AsksForNone n old new p (p.accounts n)
+  asks_none = record { queue = left.queue; dropped = left.dropped; told = refl; hand = subst IsNoInsert (sym left.none) tt }
 
   leads : LeadsTo old new p n None (p.accounts n)
   leads = request_leads old new p n None (p.accounts n) e NoMemory shown refl legal left.entries does has_none
@@ -144,7 +149,7 @@ module _ (laws : LookLaws) (old new : ShownStore) (n : ℕ) (looking : Looking) 
     first_refused = (
       place_at_once p n counts new.entries,
       step_at_once_is_shown old new p n stored shown left.others at_once (subst (λ (m : PageMap). HasStatuses old.layout m stored) (sym left.pages) shown.database.has)
-          (same_sees_alike old new stored n left.others.first) few left.none leads,
+          (same_sees_alike old new stored n left.others.first) few left.none leads asks_none,
       record {
         hand = hand;
         in_hand = in_hand laws old n looking before o there p shown;
@@ -188,7 +193,7 @@ module _ (laws : LookLaws) (old new : ShownStore) (n : ℕ) (looking : Looking) 
     later_refused : (q : Place) × IsPlaceOf new q × Steps p n (Ended (replies.Refused refusals.Memory)) q
     later_refused = (
       place_after p n number None v (p.accounts n) counts new.entries,
-      table_step_is_shown old new p n number None v (p.accounts n) shown left.others steps_in few leads own_table,
+      table_step_is_shown old new p n number None v (p.accounts n) shown left.others steps_in few leads own_table asks_none,
       record {
         hand = hand;
         in_hand = in_hand laws old n looking before o there p shown;

@@ -33,6 +33,7 @@ use Rattle.brin_scan.specs.ScanSteps.{account_at, point_at}
 use Rattle.line_texts.specs.Place.{Hand as HandAt, Place, database_at, new_hand}
 use Rattle.line_texts.specs.Requests.{Course, Enters, MakesAll, NoneLeft, OneMore, entered, next_request}
 use Rattle.line_texts.specs.StatementSteps.{Ended, Steps, StepsTo, course_of, reply_after}
+use Rattle.store_parts.specs.HandsAsk.{IsNoInsert}
 use Rattle.store_parts.specs.declared.hand.Hand.{Hand}
 use Rattle.store_parts.specs.Hands.{HandShows}
 use Rattle.store_parts.specs.HandsInTables.{IsTaskOf, table_in}
@@ -80,6 +81,7 @@ pub none_in_hand : (old new : ShownStore) (n table : ℕ) (blocks : List (List S
     → IsInHand old new n table blocks stored Resting
 none_in_hand old new n table blocks stored is = record {
   is_in = λ other there. absurd (none-some other (sym (ap (table_in old.layout) is) ∙ there));
+  asks = subst IsNoInsert (sym is) tt;
   task = subst (λ (h : Option Hand). IsTaskOf old.layout table blocks new.transactions.tx stored (transaction_of new.transactions.opens n) h Resting) (sym is) refl;
 }
 
@@ -124,7 +126,7 @@ module _ (laws : LookLaws) (old new : ShownStore) (n : ℕ) (looking : Looking) 
 
   has_none : HasInHand old new n None account (after_request d e)
   has_none = record {
-    hand = subst (λ (h : Option Hand). HandShows h None account) (sym is) (refl, ap (λ (a : Account). a.dropped) empty);
+    hand = subst (λ (h : Option Hand). HandShows h None account) (sym is) refl;
     own = λ h here. absurd (none-some h (sym is ∙ here));
     order = λ index below ordered. order_stays old new left.pages index ordered;
   }
@@ -155,7 +157,7 @@ module _ (laws : LookLaws) (old new : ShownStore) (n : ℕ) (looking : Looking) 
       let counts : ℕ → Bool = counts_of new.transactions shown.database.stored in (
         place_after p n number None v account counts new.entries,
         place_shown laws old new n looking before o there p shown left Resting None account
-            (none_in_hand old new n number (shows laws old n looking before o there p shown).blocks shown.database.stored is) leads turns.0,
+            (none_in_hand old new n number (shows laws old n looking before o there p shown).blocks shown.database.stored is) leads turns.0 empty,
         record {
           hand = hand;
           in_hand = in_hand laws old n looking before o there p shown;

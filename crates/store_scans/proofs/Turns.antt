@@ -155,5 +155,5 @@ module _ (laws : LookLaws) (s : ShownStore) (n : ℕ) (looking : Looking) (befor
 
         pub turns_there : point ≢ points.Prune
             → (turns : TurnsIn p n (statement_for looking query) query.table v (account_at before.judging.stage (p.accounts n))) × (point_in turns ≡ Some point) × (turns.step.between ≡ between)
-        turns_there no_prune = machine_turns p n query.table (statement_for looking query) here between v point (account_at before.judging.stage) (shows laws s n looking before o there p shown).shown shown.queue
+        turns_there no_prune = machine_turns p n query.table (statement_for looking query) here between v point (account_at before.judging.stage) (shows laws s n looking before o there p shown).shown
             (not_work looking query) (on_table looking query p n) goes.does no_prune settles (inr begins)

@@ -13,6 +13,7 @@ use Rattle.store_layout.specs.DiskLayout.{DiskLayout}
 use Rattle.opened_pages.specs.PageOrder.{IsIndexInOrder}
 use Rattle.page_locks.specs.LockCounts.{locks_of}
 use Rattle.page_locks.specs.LockHolders.{LockState}
+use Rattle.page_locks.specs.RightHolders.{right_of}
 use Rattle.page_store.specs.Keeps.{Leaves, Tells}
 use Rattle.page_store.specs.PageMap.{page_at}
 use Rattle.snapshot_core.specs.declared.statuses.Status.{Status}
@@ -29,11 +30,13 @@ use Rattle.table_coverage.specs.Accounts.{Account}
 use Rattle.line_texts.specs.Place.{Hand as HandAt, Place, database_at}
 use Rattle.line_texts.specs.Requests.{Course, Enters, MakesAll, NoneLeft, OneMore, entered, next_request}
 use Rattle.line_texts.specs.StatementSteps.{Ended, IsAtOnce, StepsTo, course_of}
+use Rattle.reply_texts.specs.declared.dropped.Dropped.{Dropped}
 use Rattle.store_parts.specs.declared.hand.Hand.{Hand}
 use Rattle.store_parts.specs.declared.hand.Stepped.TheVariants as stepped
 use Rattle.store_parts.specs.declared.parts.Parts.{Parts}
-use Rattle.store_parts.specs.HandFits.{locks_held}
+use Rattle.store_parts.specs.HandFits.{locks_held, right_held}
 use Rattle.store_parts.specs.Hands.{AnswersAre, HandShows, statement_of}
+use Rattle.store_parts.specs.HandsAsk.{IsNoInsert}
 use Rattle.store_parts.specs.HandsInTables.{table_in}
 use Rattle.store_parts.specs.Leaving.{CountsFew, LeadsTo, LeavesOthers, SeeAlike, StepsAtOnce}
 use Rattle.store_parts.specs.PlaceLaws.{StepAtOnceIsShown}
@@ -44,13 +47,12 @@ use Rattle.store_parts.specs.ShowsPlace.{IsPlaceOf}
 use Rattle.store_parts.specs.StepLaws.{IsOneRequest}
 use Rattle.store_parts.specs.Stepping.{IsFit, LeavesTheOthers, MakesItsStep, StaysFit}
 use Rattle.store_parts.specs.StoreLaws.{HandChanges, HasHand}
-use Rattle.store_parts.specs.StoreStates.{ShownStore, hand_in, shown_of, store_of, with_hand}
+use Rattle.store_parts.specs.StoreStates.{ShownStore, dropped_in, hand_in, shown_of, store_of, with_hand}
 use Rattle.store_parts.specs.UndoneLaws.{FitsParts, StepsSo}
 use Rattle.store_parts.proofs.Places.{step_at_once_is_shown}
 use Rattle.store_parts.proofs.Requests.{copies_stay, one_more_is_legal, one_more_is_run}
 use Rattle.store_parts.proofs.Steps.{one_request}
 use Rattle.store_parts.proofs.Stores.{hand_changes}
-use Rattle.store_parts.proofs.Submits.{nothing_is_dropped}
 use Rattle.store_parts.proofs.Undone.{fit_of_parts, fit_of_stores}
 
 -- the laws that it takes
@@ -85,8 +87,11 @@ pub record LeavesParts {D : Type 0} (told : D → Told) (old new : Parts D) (n :
   pub over : IsOver told new.transactions.tx new.pages
   pub locks : new.locks ≡ old.locks
   pub rights : new.rights ≡ old.rights
+  pub queue : new.queue ≡ old.queue
+  pub dropped : new.dropped ≡ old.dropped
   pub entries : length new.journal.entries ≤ MAX_ENTRIES
   pub none_held : locks_held (Some hand) ≡ 0
+  pub no_right : right_held old.pages.layout (Some hand) ≡ None
   pub promised : new.journal.promised + share_of (Some hand) (transaction_of old.transactions.opens n) ≡ old.journal.promised + share_of None (transaction_of new.transactions.opens n)
   pub opens : (m : ℕ) → m ≢ n → transaction_of new.transactions.opens m ≡ transaction_of old.transactions.opens m
 
@@ -104,6 +109,7 @@ module _ {D : Type 0} (told : D → Told) (changes : HandChanges) (old new : Par
     in_hand = tt;
     limit = ap (λ (l : LockState). l.limit) left.locks ∙ was.limit;
     own = subst (λ (l : LockState). locks_of l n ≤ 0) (sym left.locks) (subst (λ (count : ℕ). locks_of old.locks n ≤ count) left.none_held was.own);
+    held = λ table holds. absurd (none-some table (sym left.no_right ∙ was.held table (ap (λ (r : List (Option ℕ)). right_of r table) (sym left.rights) ∙ holds)));
     rights = ap length left.rights ∙ was.rights ∙ ap (λ (layout : DiskLayout). length layout.schema.tables) (sym left.leaves.layout);
     entries = left.entries;
     share = less_share new.journal.promised old.journal.promised _ _ left.promised was.share;
@@ -117,6 +123,8 @@ module _ {D : Type 0} (told : D → Told) (changes : HandChanges) (old new : Par
     leaves = left.leaves;
     transactions = left.opens;
     locks = λ m apart. ap (λ (l : LockState). locks_of l m) left.locks;
+    dropped = λ m apart. ap (λ (l : List (List Dropped)). dropped_in l m) left.dropped;
+    rights = λ m table apart holds. ap (λ (r : List (Option ℕ)). right_of r table) (sym left.rights) ∙ holds;
     promised = ap (λ (h : Option Hand). new.journal.promised + share_of h (transaction_of old.transactions.opens n)) is ∙ left.promised
         ∙ ap (λ (h : Option Hand). old.journal.promised + share_of h (transaction_of new.transactions.opens n)) (sym (changes hands n hand None is).own);
   }
@@ -147,6 +155,8 @@ pub record StaysBeside {D : Type 0} (old new : Parts D) (n : ℕ) : Type 0 where
   pub pages : (place : PagePlace) → place.relation ≢ status_relation → page_at new.pages.pages place ≡ page_at old.pages.pages place
   pub locks : new.locks ≡ old.locks
   pub rights : new.rights ≡ old.rights
+  pub queue : new.queue ≡ old.queue
+  pub dropped : new.dropped ≡ old.dropped
 
 -- an index has a relation behind that of the statuses
 not_statuses : (layout : DiskLayout) (index : ℕ) → index_relation layout index ≢ status_relation
@@ -181,14 +191,14 @@ module _ {D : Type 0} (laws : Laws) (old new : Parts D) (n : ℕ) (hand : Hand) 
       (λ i block. sym (stays.pages (record { relation = index_relation old.pages.layout index; block = block }) (not_statuses old.pages.layout index)) i) order
 
   -- behind it the session has nothing in hand, and the journal these entries
-  leads : (p : Place) (account : Account) → account.dropped ≡ []
+  leads : (p : Place) (account : Account)
       → ShowsDatabase old.pages.layout new.pages.pages new.transactions (serial_run p.opening new.journal.entries) → IsLegal p.opening new.journal.entries
       → ((m : ℕ) → m ≢ n → finite.get (serial_run p.opening new.journal.entries).sessions m ≡ finite.get (database_at p).sessions m) → LeadsTo before after p n None account
-  leads p account dropped database legal copies = record {
+  leads p account database legal copies = record {
     database = database;
     legal = legal;
     copies = copies;
-    hand = subst (λ (h : Option Hand). HandShows h None account) (sym has_none.own) (refl, dropped);
+    hand = subst (λ (h : Option Hand). HandShows h None account) (sym has_none.own) refl;
     own = λ now there. absurd (none-some now (sym has_none.own ∙ there));
     order = order_kept;
   }
@@ -198,7 +208,8 @@ module _ {D : Type 0} (laws : Laws) (old new : Parts D) (n : ℕ) (hand : Hand) 
       → ((m : ℕ) → m ≢ n → finite.get (serial_run p.opening new.journal.entries).sessions m ≡ finite.get (database_at p).sessions m)
       → IsPlaceOf after (place_at_once p n (counts_of new.transactions restates.later) new.journal.entries)
   shown_then p shown restates database legal copies =
-      laws.shown before after p n restates.later shown others_left at_once restates.has restates.alike restates.few has_none.own (leads p (p.accounts n) (nothing_is_dropped (hand_in hands n) (p.hands n) (p.accounts n) (shown.hands n)) database legal copies)
+      laws.shown before after p n restates.later shown others_left at_once restates.has restates.alike restates.few has_none.own (leads p (p.accounts n) database legal copies)
+      (record { queue = stays.queue; dropped = stays.dropped; told = refl; hand = subst IsNoInsert (sym has_none.own) tt })
 
 -- ---- the request
 

@@ -90,6 +90,8 @@ pub record BeginsSo {D : Type 0} (told : D → Told) (old new : Parts D) (n t : 
   pub room : length new.journal.entries ≤ MAX_ENTRIES
   pub locks : new.locks ≡ old.locks
   pub rights : new.rights ≡ old.rights
+  pub queue : new.queue ≡ old.queue
+  pub dropped : new.dropped ≡ old.dropped
 
 module _ {D : Type 0} (told : D → Told) (with_laws : BeginLaws) (old new : Parts D) (n t : ℕ) (numbers : Vec ℕ) (so : BeginsSo told old new n t) where
   first_same : new.transactions.tx.first ≡ old.transactions.tx.first
@@ -130,6 +132,8 @@ module _ {D : Type 0} (told : D → Told) (with_laws : BeginLaws) (old new : Par
       pages = λ place apart. so.rest.pages tells place apart;
       locks = so.locks;
       rights = so.rights;
+      queue = so.queue;
+      dropped = so.dropped;
     };
     in_none = λ table there. none-some table there;
     does = so.does;
@@ -150,6 +154,8 @@ pub record RefusesSo {D : Type 0} (old new : Parts D) : Type 0 where
   pub transactions : new.transactions ≡ old.transactions
   pub locks : new.locks ≡ old.locks
   pub rights : new.rights ≡ old.rights
+  pub queue : new.queue ≡ old.queue
+  pub dropped : new.dropped ≡ old.dropped
   pub entries : new.journal.entries ≡ old.journal.entries
 
 module _ {D : Type 0} (told : D → Told) (with_laws : BeginLaws) (old new : Parts D) (n : ℕ) (numbers : Vec ℕ) (so : RefusesSo old new) (spent : old.transactions.tx.next ≡ number_limit old.pages.layout)
@@ -174,6 +180,8 @@ module _ {D : Type 0} (told : D → Told) (with_laws : BeginLaws) (old new : Par
     pages = λ place apart. ap (λ (view : View D). page_at view.pages place) so.pages;
     locks = so.locks;
     rights = so.rights;
+    queue = so.queue;
+    dropped = so.dropped;
   }
 
   pub lacks_number : MakesItsStep told old new n (hands.Begins numbers) (stepped.Done (replies.Refused (refusals.Full (codes "status") old.transactions.tx.next)))
@@ -258,6 +266,8 @@ module _ {D : Type 0} (told : D → Told) (laws : BeginLaws) (old : Parts D) (n 
         room = more;
         locks = refl;
         rights = refl;
+        queue = refl;
+        dropped = refl;
       } in
       begins told laws old new n t numbers so (record {
         fits = fits;
@@ -267,8 +277,11 @@ module _ {D : Type 0} (told : D → Told) (laws : BeginLaws) (old : Parts D) (n 
         over = over;
         locks = refl;
         rights = refl;
+        queue = refl;
+        dropped = refl;
         entries = more;
         none_held = refl;
+        no_right = refl;
         promised = (λ i. j.promised + (3 + open_share (idle i))) ∙ begin_promised j.promised old.journal.promised entered ∙ (λ i. old.journal.promised + (0 + open_share (sym now_open i)));
         opens = others_same told laws old new n t numbers so;
       })
@@ -278,7 +291,7 @@ module _ {D : Type 0} (told : D → Told) (laws : BeginLaws) (old : Parts D) (n 
   refused j spent same released =
       let new : Parts D = record old { journal = j } in
       let room : length j.entries ≤ MAX_ENTRIES = omega (arith, was.entries, ap length same) in
-      is_refused told laws old new n numbers (record { pages = refl; transactions = refl; locks = refl; rights = refl; entries = same }) spent room (record {
+      is_refused told laws old new n numbers (record { pages = refl; transactions = refl; locks = refl; rights = refl; queue = refl; dropped = refl; entries = same }) spent room (record {
         fits = fits;
         ready = ready;
         still = ready;
@@ -286,8 +299,11 @@ module _ {D : Type 0} (told : D → Told) (laws : BeginLaws) (old : Parts D) (n 
         over = was.over;
         locks = refl;
         rights = refl;
+        queue = refl;
+        dropped = refl;
         entries = room;
         none_held = refl;
+        no_right = refl;
         promised = (λ i. j.promised + (3 + open_share (idle i))) ∙ refused_promised j.promised old.journal.promised released ∙ (λ i. old.journal.promised + (0 + open_share (sym idle i)));
         opens = λ m apart. refl;
       })

@@ -40,7 +40,7 @@ use Rattle.store_parts.specs.declared.hand.Hand.{Hand}
 use Rattle.store_parts.specs.declared.hand.Hand.TheVariants as hands
 use Rattle.store_parts.specs.declared.hand.Stepped.TheVariants as stepped
 use Rattle.store_parts.specs.declared.parts.Parts.{Parts}
-use Rattle.store_parts.specs.HandFits.{locks_held}
+use Rattle.store_parts.specs.HandFits.{locks_held, right_held}
 use Rattle.store_parts.specs.Hands.{statement_of}
 use Rattle.store_parts.specs.HandsInTables.{table_in}
 use Rattle.store_parts.specs.RequestLaws.{EndIsLegal}
@@ -103,6 +103,8 @@ pub record EndsSo {D : Type 0} (told : D → Told) (old new : Parts D) (n : ℕ)
   pub room : length new.journal.entries ≤ MAX_ENTRIES
   pub locks : new.locks ≡ old.locks
   pub rights : new.rights ≡ old.rights
+  pub queue : new.queue ≡ old.queue
+  pub dropped : new.dropped ≡ old.dropped
 
 module _ {D : Type 0} (told : D → Told) (with_laws : EndLaws) (old new : Parts D) (n : ℕ) (hand : Hand) (e : Entry) (answer : Answer) (reply : Reply) (so : EndsSo told old new n hand e answer reply) where
   first_same : new.transactions.tx.first ≡ old.transactions.tx.first
@@ -135,6 +137,8 @@ module _ {D : Type 0} (told : D → Told) (with_laws : EndLaws) (old new : Parts
     pages = λ place apart. so.rest.pages tells place apart;
     locks = so.locks;
     rights = so.rights;
+    queue = so.queue;
+    dropped = so.dropped;
   }
 
   request : DoesRequestNow told old new n hand e answer reply
@@ -187,7 +191,7 @@ module _ {D : Type 0} (told : D → Told) (laws : TransactionLaws) (old : Parts 
   with_laws : EndLaws
   with_laws = record { laws = the_laws; legal = end_is_legal; sessions = laws.sessions; unseen = laws.unseen }
 
-  module _ (hand : Hand) (fits : IsFit told old n hand) (none_held : locks_held (Some hand) ≡ 0) (no_share : hand_share (Some hand) ≡ 0) (e : Entry) (answer : Answer) (reply : Reply)
+  module _ (hand : Hand) (fits : IsFit told old n hand) (none_held : locks_held (Some hand) ≡ 0) (no_right : right_held old.pages.layout (Some hand) ≡ None) (no_share : hand_share (Some hand) ≡ 0) (e : Entry) (answer : Answer) (reply : Reply)
       (so : EndsSo told old new n hand e answer reply) where
     promised : j.promised + share_of (Some hand) (transaction_of old.transactions.opens n) ≡ old.journal.promised + share_of None (transaction_of tx.opens n)
     promised = (λ i. j.promised + (no_share i + open_share (so.opened i))) ∙ end_promised j.promised mid.promised old.journal.promised unneeded (open_share (Some so.own)) released entered (shared so.own so.opened)
@@ -202,8 +206,11 @@ module _ {D : Type 0} (told : D → Told) (laws : TransactionLaws) (old : Parts 
       over = over;
       locks = refl;
       rights = refl;
+      queue = refl;
+      dropped = refl;
       entries = so.room;
       none_held = none_held;
+      no_right = no_right;
       promised = promised;
       opens = λ m apart. ap (λ (t : TransactionsState). transaction_of t.opens m) ended_is ∙ theirs old.transactions.opens n m apart;
     }
@@ -222,7 +229,7 @@ module _ {D : Type 0} (told : D → Told) (laws : TransactionLaws) (old : Parts 
   commits fits committed is_open answered does statuses longer =
       let own = some_open (transaction_of old.transactions.opens n) is_open in
       let is : (if committed then status.Committed else status.RolledBack) ≡ ended own.0.failed = ap (λ (c : Bool). if c then status.Committed else status.RolledBack) (answered own.0 own.1) ∙ status_is own.0.failed in
-      ends_so hands.Commits fits refl refl (request_entry n 0 requests.Commit) (if committed then Committed else RolledBack) (if committed then replies.Committed else replies.RolledBack) (record {
+      ends_so hands.Commits fits refl refl refl (request_entry n 0 requests.Commit) (if committed then Committed else RolledBack) (if committed then replies.Committed else replies.RolledBack) (record {
         own = own.0;
         opened = own.1;
         end = if committed then status.Committed else status.RolledBack;
@@ -240,6 +247,8 @@ module _ {D : Type 0} (told : D → Told) (laws : TransactionLaws) (old : Parts 
         room = more_entries (request_entry n 0 requests.Commit) longer;
         locks = refl;
         rights = refl;
+        queue = refl;
+        dropped = refl;
       })
 
   pub rolls_back : IsFit told old n hands.RollsBack → IsSome (transaction_of old.transactions.opens n)
@@ -249,7 +258,7 @@ module _ {D : Type 0} (told : D → Told) (laws : TransactionLaws) (old : Parts 
       → StepsSo told old new n hands.RollsBack (stepped.Done replies.RolledBack)
   rolls_back fits is_open does statuses longer =
       let own = some_open (transaction_of old.transactions.opens n) is_open in
-      ends_so hands.RollsBack fits refl refl (request_entry n 0 requests.Rollback) RolledBack replies.RolledBack (record {
+      ends_so hands.RollsBack fits refl refl refl (request_entry n 0 requests.Rollback) RolledBack replies.RolledBack (record {
         own = own.0;
         opened = own.1;
         end = status.RolledBack;
@@ -267,4 +276,6 @@ module _ {D : Type 0} (told : D → Told) (laws : TransactionLaws) (old : Parts 
         room = more_entries (request_entry n 0 requests.Rollback) longer;
         locks = refl;
         rights = refl;
+        queue = refl;
+        dropped = refl;
       })

@@ -34,6 +34,7 @@ use Rattle.line_texts.specs.Place.{Hand as HandAt, Place, database_at, new_hand}
 use Rattle.store_parts.specs.declared.hand.Hand.{Hand}
 use Rattle.store_parts.specs.declared.hand.Hand.TheVariants as hands
 use Rattle.store_parts.specs.Hands.{HandShows}
+use Rattle.store_parts.specs.HandsAsk.{IsNoInsert}
 use Rattle.store_parts.specs.HandsInTables.{IsTaskOf, table_in}
 use Rattle.store_parts.specs.Leaving.{LeadsTo, LeavesOthers, SameLocks, StepsInTable}
 use Rattle.store_parts.specs.PlacesAfter.{TurnsIn, place_after}
@@ -52,12 +53,15 @@ pub record ExplainLeft (old new : ShownStore) (n : ℕ) (before : ExplainHand) :
   pub transactions : new.transactions ≡ old.transactions
   pub locks : new.locks ≡ old.locks
   pub rights : new.rights ≡ old.rights
+  pub queue : new.queue ≡ old.queue
+  pub dropped : new.dropped ≡ old.dropped
   pub entries : new.entries ≡ old.entries
 
 -- what the session has in hand then: the explain, over its table, or nothing
 pub record LeftInHand (old new : ShownStore) (n : ℕ) (before : ExplainHand) (next : Task) (at : Option HandAt) : Type 0 where
   pub is_in : (other : ℕ) → table_in old.layout (hand_in new.hands n) ≡ Some other → other ≡ before.judging.query.table
   pub shows : HandShows (hand_in new.hands n) at no_account
+  pub asks : IsNoInsert (hand_in new.hands n)
   pub own : (transaction : Option Open) (copy : Option OpenTransaction) (hand : Hand) → hand_in new.hands n ≡ Some hand → IsOfTransaction transaction copy hand
   pub task : (blocks : List (List Slot)) (stored : List Status) → IsTaskOf old.layout before.judging.query.table blocks new.transactions.tx stored (transaction_of new.transactions.opens n) (hand_in new.hands n) next
 
@@ -80,6 +84,9 @@ module _ (old new : ShownStore) (n : ℕ) (before : ExplainHand) (left : Explain
 
   same_entries : new.entries ≡ p.journal
   same_entries = left.entries ∙ sym shown.journal
+
+  told_here : p.accounts n ≡ no_account
+  told_here = (subst (λ (h : Option Hand). HandShows h (p.hands n) (p.accounts n)) left.there.was (shown.hands n)).4
 
   steps_in : StepsInTable n number old new
   steps_in = record {
@@ -120,6 +127,7 @@ module _ (old new : ShownStore) (n : ℕ) (before : ExplainHand) (left : Explain
     pub place_shown : IsPlaceOf new led
     place_shown = table_step_is_shown old new p n number at after account shown left.others steps_in
         (same_counts_few old new stored stored (λ t. ap (λ (x : TransactionsState). counts_of x stored t) left.transactions)) leads own_table
+        (record { queue = left.queue; dropped = left.dropped; told = ap (λ (a : Account). a.dropped) (empty ∙ sym told_here); hand = in_hand.asks })
 
 -- ---- what the session has in hand then
 
@@ -141,6 +149,7 @@ explain_in_hand old new n before after now same apart is = record {
   is_in = λ other there. same_Some other before.judging.query.table (sym there ∙ ap (table_in old.layout) is ∙ ap (λ (q : Query). Some q.table) same);
   shows = subst (λ (h : Option Hand). HandShows h (Some (new_hand (statements.Explain before.judging.query))) no_account) (sym is)
       (new_hand (statements.Explain before.judging.query), refl, ap statements.Explain (sym same), refl, refl);
+  asks = subst IsNoInsert (sym is) tt;
   own = λ transaction copy hand there. subst (λ (h : Hand). IsOfTransaction transaction copy h) (same_Some (hands.Explains after) hand (sym is ∙ there)) (of_any_copy copy after);
   task = λ blocks stored. subst (λ (h : Option Hand). IsTaskOf old.layout before.judging.query.table blocks new.transactions.tx stored (transaction_of new.transactions.opens n) h
       (Scans (table_scan old.layout after.judging (explaining now)))) (sym is) (
@@ -152,7 +161,8 @@ explain_in_hand old new n before after now same apart is = record {
 pub none_in_hand : (old new : ShownStore) (n : ℕ) (before : ExplainHand) → hand_in new.hands n ≡ None → LeftInHand old new n before Resting None
 none_in_hand old new n before is = record {
   is_in = λ other there. absurd (none-some other (sym (ap (table_in old.layout) is) ∙ there));
-  shows = subst (λ (h : Option Hand). HandShows h None no_account) (sym is) (refl, refl);
+  shows = subst (λ (h : Option Hand). HandShows h None no_account) (sym is) refl;
+  asks = subst IsNoInsert (sym is) tt;
   own = λ transaction copy hand there. absurd (none-some hand (sym is ∙ there));
   task = λ blocks stored. subst (λ (h : Option Hand). IsTaskOf old.layout before.judging.query.table blocks new.transactions.tx stored (transaction_of new.transactions.opens n) h Resting) (sym is) refl;
 }

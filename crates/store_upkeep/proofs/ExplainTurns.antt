@@ -168,7 +168,7 @@ module _ (old : ShownStore) (n : ℕ) (before : ExplainHand) (there : ExplainsTh
 
         pub turns_there : point ≢ points.Prune
             → (turns : TurnsIn p n statement table v (account_at before.judging.stage (p.accounts n))) × (point_in turns ≡ Some point) × (turns.step.between ≡ between)
-        turns_there no_prune = machine_turns p n table statement w between v point (account_at before.judging.stage) shows.shown shown.queue not_work refl goes.does no_prune settles (inr begins)
+        turns_there no_prune = machine_turns p n table statement w between v point (account_at before.judging.stage) shows.shown not_work refl goes.does no_prune settles (inr begins)
           where
             not_work : statement ≢ statements.Work
             not_work is = cc

@@ -2,3 +2,14 @@ pub mod ExplainTurns
 pub mod ExplainShown
 pub mod Explained
 pub mod ExplainSteps
+pub mod UpkeepPoints
+pub mod UpkeepAt
+pub mod UpkeepSteps
+pub mod UpkeepStays
+pub mod UpkeepParts
+pub mod SummariseLocks
+pub mod SummariseTurns
+pub mod SummariseParts
+pub mod SummariseFull
+pub mod DesummariseTurns
+pub mod DesummariseParts

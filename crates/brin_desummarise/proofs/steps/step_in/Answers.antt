@@ -1,15 +1,27 @@
 use Rattle.std.proofs.Common.{◌≡◌, ◌≤◌, refl, sym, subst, arith}
+use Rattle.disk_trait.specs.Told.{Told}
+use Rattle.page_locks.specs.declared.did.Did.{Did}
+use Rattle.page_locks.specs.declared.did.Did.TheVariants as did
 use Rattle.page_locks.specs.LockCounts.{locks_of}
-use Rattle.page_locks.specs.LockHolders.{holder}
+use Rattle.page_locks.specs.LockHolders.{LockState, holder}
 use Rattle.page_store.specs.Keeps.{Tells}
+use Rattle.page_store.specs.PageMap.{View}
 use Rattle.engine_pages.specs.SurvivesLaws.{survives_still}
 use Rattle.index_contents.specs.IndexContents.{relation_of}
 use Rattle.index_order.specs.OrderLaws.{order_kept}
 use Rattle.index_steps.specs.LockLaws.{same_apart, takes_none}
 use Rattle.index_steps.specs.SwapAnswers.{TakesAtMost}
 use Rattle.brin_desummarise.specs.declared.stage.Stage.{Stage}
-use Rattle.brin_desummarise.specs.Desummarises.{DamageAt, GivesAt, RightAnswers, StageDoes, StandsAfter, Works, held_at, step_of, table_of, taken_at}
+use Rattle.brin_desummarise.specs.declared.stage.Stage.TheVariants as stages
+use Rattle.brin_desummarise.specs.Desummarises.{DamageAt, GivesAt, IsAtWork, RightAnswers, StageDoes, StandsAfter, StaysWithoutRight, Works, held_at, step_of, table_of, taken_at}
 use Rattle.brin_desummarise.proofs.steps.step_in.Goals as goal
+
+-- a step at its range doesn't lack the summarise lock
+has_right : {D : Type 0} (told : D → Told) (old new : View D) (before after : LockState) (was now : Stage) (answer : Did) → IsAtWork was → StandsAfter was now answer → StaysWithoutRight told old new before after answer
+has_right told old new before after was now (did.Moved point) work stands = tt
+has_right told old new before after was now (did.Finished point) work stands = tt
+has_right told old new before after was now (did.Blocked held) work stands = tt
+has_right told old new before after was now (did.NoRight by) work stands = absurd (subst IsAtWork stands.0 work)
 
 pub returns-in-Ok-clause-does : goal.returns-in-Ok-clause-does
 returns-in-Ok-clause-does g c = λ tells blocks.
@@ -150,3 +162,17 @@ returns-in-Ok-drop_cleared-clause-counts g c = subst (λ (q : Stage). TakesAtMos
 
 pub returns-in-Err-drop_cleared-clause-counts : goal.returns-in-Err-drop_cleared-clause-counts
 returns-in-Err-drop_cleared-clause-counts g c = subst (λ (q : Stage). TakesAtMost (taken_at q) c.args.locks.now c.drop_cleared.new.locks c.args.at.actor) (sym c.in-Drop.is) c.drop_cleared.ensures.counts
+
+pub returns-in-Ok-clause-no_right : goal.returns-in-Ok-clause-no_right
+returns-in-Ok-clause-no_right g c = c.in-Ok.ensures.no_right c.args.locks.now
+
+pub returns-in-Ok-look-clause-no_right : goal.returns-in-Ok-look-clause-no_right
+returns-in-Ok-look-clause-no_right g c = has_right g.D.Disk.told c.args.pages.now c.look.new.pages c.args.locks.now c.args.locks.now stages.Map c.in-Ok-look.done.0 c.in-Ok-look.done.1 tt c.in-Ok-look.ensures.stands
+
+pub returns-in-Ok-clear-clause-no_right : goal.returns-in-Ok-clear-clause-no_right
+returns-in-Ok-clear-clause-no_right g c =
+    has_right g.D.Disk.told c.args.pages.now c.clear.new.pages c.args.locks.now c.clear.new.locks (stages.Clear c.in-Clear.spot) c.in-Ok-clear.done.0 c.in-Ok-clear.done.1 tt c.in-Ok-clear.ensures.stands
+
+pub returns-in-Ok-drop_cleared-clause-no_right : goal.returns-in-Ok-drop_cleared-clause-no_right
+returns-in-Ok-drop_cleared-clause-no_right g c =
+    has_right g.D.Disk.told c.args.pages.now c.drop_cleared.new.pages c.args.locks.now c.drop_cleared.new.locks (stages.Drop c.in-Drop.from) c.in-Ok-drop_cleared.done.0 c.in-Ok-drop_cleared.done.1 tt c.in-Ok-drop_cleared.ensures.stands

@@ -1,7 +1,8 @@
 use Rattle.page_store.specs.PageMap.{unstarted_page}
 use Rattle.fresh_store.proofs.FreshOrder.{fresh_order}
 use Rattle.fresh_store.proofs.FreshOpens.{opens}
-use Rattle.fresh_store.proofs.FreshPlaces.{fresh_at}
+use Rattle.fresh_store.proofs.FreshForms.{fresh_passes}
+use Rattle.fresh_store.proofs.FreshPlaces.{fresh_at, fresh_whole}
 use Rattle.fresh_store.proofs.laws.a_new_store_opens_to_fresh_pages.Goals as goal
 
 pub returns-clause-opens : goal.returns-clause-opens
@@ -13,3 +14,9 @@ returns-clause-order c = fresh_order c.args.layout.now c.known.ensures.sizes
 
 pub returns-clause-pages : goal.returns-clause-pages
 returns-clause-pages c = λ place is. fresh_at c.args.layout.now unstarted_page place is
+
+pub returns-clause-whole : goal.returns-clause-whole
+returns-clause-whole c = fresh_whole c.args.layout.now
+
+pub returns-clause-checked : goal.returns-clause-checked
+returns-clause-checked c = λ place is. fresh_passes c.args.layout.now place is

@@ -2,11 +2,11 @@ use Rattle.store_inserts.proofs.laws.steps_of_an_insert.Goals as goal
 
 pub returns-clause-index : goal.returns-clause-index
 returns-clause-index c = record {
-  machine = c.a_machine_turns.ensures;
-  goes = c.a_turn_is_a_step.ensures.goes_on;
+  machine = c.a_machine_asks.ensures;
+  goes = c.a_turn_is_a_step.ensures.asks;
   replies = c.a_turn_is_a_step.ensures.replies;
   waits = c.a_turn_is_a_step.ensures.waits;
-  shown = c.a_step_is_shown.ensures.in_one_table;
+  shown = c.a_step_is_shown.ensures.asking;
   stays = c.a_step_is_shown.ensures.same;
   own = c.the_own_table_goes_on.ensures.goes_on;
   alike = c.other_pages_show_alike.ensures;
@@ -17,10 +17,10 @@ returns-clause-index c = record {
 
 pub returns-clause-row : goal.returns-clause-row
 returns-clause-row c = record {
-  machine = c.a_machine_turns.ensures;
-  goes = c.a_turn_is_a_step.ensures.goes_on;
+  machine = c.a_machine_asks.ensures;
+  goes = c.a_turn_is_a_step.ensures.asks;
   replies = c.a_turn_is_a_step.ensures.replies;
-  shown = c.a_step_is_shown.ensures.in_one_table;
+  shown = c.a_step_is_shown.ensures.asking;
   own = c.the_own_table_goes_on.ensures.goes_on;
   leads = c.a_request_leads.ensures.one;
   legal = c.requests_are_legal.ensures.put;

@@ -1,4 +1,4 @@
-use Rattle.std.proofs.Common.{◌≡◌, ℕ, [], ◌∷◌, ◌++◌, ◌+◌, ◌-◌, ◌<◌, ◌≤◌, List, length, Option, None, Some, refl, sym, ap, subst, ◌∙◌, arith}
+use Rattle.std.proofs.Common.{◌≡◌, [], ◌∷◌, ◌++◌, ◌+◌, ◌<◌, ◌≤◌, List, length, Option, None, Some, refl, sym, ap, subst, ◌∙◌, arith}
 use Rattle.std.specs.Prelude.{IfSome, IsSome, IsSomeAnd}
 use Rattle.std.proofs.lemmas.Bool.{false≢true}
 use Rattle.block_model.specs.declared.reply.Refusal.TheVariants as refusals
@@ -7,7 +7,6 @@ use Rattle.block_model.specs.declared.reply.Reply.TheVariants as replies
 use Rattle.block_model.specs.declared.request.Entry.{Entry}
 use Rattle.block_model.specs.declared.request.Request.TheVariants as requests
 use Rattle.block_model.specs.declared.request.Tag.TheVariants as tags
-use Rattle.block_model.specs.declared.value.Value.{Value}
 use Rattle.row_versions.specs.declared.sessions.Open.{Open}
 use Rattle.row_versions.specs.StoredVersions.{transaction_of}
 use Rattle.statements.specs.declared.limits.TheConstants.{MAX_ENTRIES}
@@ -19,13 +18,10 @@ use Rattle.page_locks.specs.LockHolders.{holder}
 use Rattle.transactions.specs.TransactionsState.{with_failed}
 use Rattle.brin_insert.specs.Inserts.{IsInsertFor}
 use Rattle.store_parts.specs.declared.faults.StoreFault.{StoreFault}
-use Rattle.store_parts.specs.declared.faults.StoreFault.TheVariants as stops
 use Rattle.store_parts.specs.declared.hand.Hand.{Hand}
 use Rattle.store_parts.specs.declared.hand.Hand.TheVariants as hands
-use Rattle.store_parts.specs.declared.hand.Stepped.{Stepped}
 use Rattle.store_parts.specs.declared.hand.Stepped.TheVariants as stepped
 use Rattle.store_parts.specs.declared.parts.Parts.{Parts}
-use Rattle.store_parts.specs.StoreFaults.{fault_of}
 use Rattle.store_parts.specs.Stepping.{IsFit, IsShown}
 use Rattle.store_parts.specs.UndoneLaws.{StepsSo}
 use Rattle.store_inserts.specs.Promised.{unpromised}
@@ -43,7 +39,7 @@ returns-in-Err g c =
     let hand = hands.Puts c.args.table c.args.values in
     let fits = c.an_undone_step_changes_nothing.ensures.parts parts c.args.session hand c.requires.fit in
     let so : StepsSo g.D.Disk.told parts parts c.args.session hand (stepped.Undone c.fault_of.result hand) = subst (λ (f : StoreFault). StepsSo g.D.Disk.told parts parts c.args.session hand (stepped.Undone f hand)) (sym c.fault_of.ensures)
-    (c.an_undone_step_changes_nothing.ensures.refused parts parts c.args.session hand c.in-Err.error c.requires.fit fits.over (leaves_same g.D.Disk.told parts.pages) (record { transactions = refl; locks = refl; rights = refl; journal = refl }) c.in-Err.ensures.outcome) in
+    (c.an_undone_step_changes_nothing.ensures.refused parts parts c.args.session hand c.in-Err.error c.requires.fit fits.over (leaves_same g.D.Disk.told parts.pages) (record { transactions = refl; locks = refl; rights = refl; journal = refl; queue = refl; dropped = refl }) c.in-Err.ensures.outcome) in
     record { steps = so.steps; fit = so.fit; others = so.others; stays = so.stays; cause = so.cause; spare = c.requires.spare; survives = passed_none g.D.Disk.told (IsBefore parts.pages) parts.pages parts.pages c.ready.ensures.stays }
 
 pub returns-then-not-fits : goal.returns-then-not-fits
@@ -69,9 +65,6 @@ machine_for-requires-clause-table g c = (c.an_undone_step_changes_nothing.ensure
 
 pub machine_for-requires-clause-kinds : goal.machine_for-requires-clause-kinds
 machine_for-requires-clause-kinds g c = (c.an_undone_step_changes_nothing.ensures.parts c.args.parts.now c.args.session (hands.Puts c.args.table c.args.values) c.requires.fit).in_hand.2
-
-pub machine_for-requires-clause-asks : goal.machine_for-requires-clause-asks
-machine_for-requires-clause-asks g c = (c.an_undone_step_changes_nothing.ensures.parts c.args.parts.now c.args.session (hands.Puts c.args.table c.args.values) c.requires.fit).in_hand.3
 
 pub machine_for-requires-clause-spare : goal.machine_for-requires-clause-spare
 machine_for-requires-clause-spare g c = c.requires.spare
@@ -160,6 +153,7 @@ returns g c =
     let refused : LeftRefused g.D.Disk.told parts parts.pages later.transactions later.locks later.journal c.args.session hand own.own (tagged_entry c.args.session c.args.table (requests.Put c.args.values) tags.NoMemory) = record {
       fits = fits;
       free = refl;
+      no_right = refl;
       open_is = own.is;
       whole = own.whole;
       leaves = leaves_same g.D.Disk.told parts.pages;

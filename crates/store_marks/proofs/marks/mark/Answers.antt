@@ -4,7 +4,7 @@ use Rattle.heap_rows.specs.RowPlaces.{IsInUse}
 use Rattle.logged_pages.specs.Survives.{Survives}
 use Rattle.page_store.specs.PageMap.{View}
 use Rattle.tx_table.specs.Durable.{IsBefore}
-use Rattle.tx_table.proofs.Parts.{before_then, passed_none}
+use Rattle.tx_table.proofs.Parts.{before_then}
 use Rattle.store_parts.specs.declared.hand.Hand.TheVariants as hands
 use Rattle.store_parts.specs.declared.hand.Hit.{Hit}
 use Rattle.store_parts.specs.declared.parts.Parts.{Parts}
@@ -67,4 +67,4 @@ returns-in-Err-hit_conflicts-clause-fit g c =
     let keeps = c.hit_conflicts.ensures.kept in
     (refused_by told old new c.args.session (hands.Marks c.args.marking) c.in-Err-hit_conflicts.error (fault_of c.in-Err-hit_conflicts.error) c.requires.fit
     (over_still told old.transactions.tx old.pages c.hit_conflicts.new.pages (fit_of_parts told old c.args.session (hands.Marks c.args.marking) c.requires.fit).over keeps) keeps.leaves
-    (record { transactions = refl; locks = refl; rights = refl; journal = refl }) c.in-Err-hit_conflicts.ensures.outcome refl).fit
+    (record { transactions = refl; locks = refl; rights = refl; journal = refl; queue = refl; dropped = refl }) c.in-Err-hit_conflicts.ensures.outcome refl).fit

@@ -31,5 +31,5 @@ returns-in-Err g c =
     let r : StepsSo told old (record old { pages = c.mark.new.pages }) c.args.session (hands.Marks c.args.marking) (stepped.Undone c.fault_of.result (hands.Marks c.args.marking)) =
     refused_by told old (record old { pages = c.mark.new.pages }) c.args.session (hands.Marks c.args.marking) c.in-Err.error c.fault_of.result c.requires.fit
     (over_marked told old.transactions.tx c.args.marking.query.table old.pages c.mark.new.pages (fit_of_parts told old c.args.session (hands.Marks c.args.marking) c.requires.fit).over c.mark.ensures.others)
-    c.mark.ensures.others.leaves (record { transactions = refl; locks = refl; rights = refl; journal = refl }) c.in-Err.ensures.outcome c.fault_of.ensures in
+    c.mark.ensures.others.leaves (record { transactions = refl; locks = refl; rights = refl; journal = refl; queue = refl; dropped = refl }) c.in-Err.ensures.outcome c.fault_of.ensures in
     record { steps = r.steps; fit = r.fit; others = r.others; stays = r.stays; cause = r.cause; survives = c.mark.ensures.survives }

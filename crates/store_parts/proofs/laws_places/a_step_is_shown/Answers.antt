@@ -1,8 +1,11 @@
-use Rattle.store_parts.proofs.Places.{place_stays_shown, step_at_once_is_shown, table_step_is_shown}
+use Rattle.store_parts.proofs.Places.{asking_step_is_shown, place_stays_shown, step_at_once_is_shown, table_step_is_shown}
 use Rattle.store_parts.proofs.laws_places.a_step_is_shown.Goals as goal
 
 pub returns-clause-in_one_table : goal.returns-clause-in_one_table
 returns-clause-in_one_table c = table_step_is_shown
+
+pub returns-clause-asking : goal.returns-clause-asking
+returns-clause-asking c = asking_step_is_shown
 
 pub returns-clause-in_no_table : goal.returns-clause-in_no_table
 returns-clause-in_no_table c = step_at_once_is_shown

@@ -33,6 +33,6 @@ returns-in-Store g c =
     let r : StepsSo told old new c.args.session (hands.Begins c.args.numbers) (stepped.Undone c.fault_of.result (hands.Begins c.in-Err.unbegun.active)) =
     subst (λ active. StepsSo told old new c.args.session (hands.Begins c.args.numbers) (stepped.Undone c.fault_of.result (hands.Begins active))) (sym c.in-Err.ensures.back)
     (refused_by told old new c.args.session (hands.Begins c.args.numbers) c.in-Store.error c.fault_of.result c.requires.fit c.begin.ensures.over c.begin.ensures.rest.leaves
-    (record { transactions = c.in-Err.ensures.same; locks = refl; rights = refl; journal = refl })
+    (record { transactions = c.in-Err.ensures.same; locks = refl; rights = refl; journal = refl; queue = refl; dropped = refl })
     (subst (λ (f : BeginFault). BeginOutcome told old.transactions.tx.next old.pages c.begin.new.pages (Err f)) c.in-Store.is c.in-Err.ensures.outcome).1 c.fault_of.ensures) in
     record { steps = r.steps; fit = r.fit; others = r.others; stays = r.stays; cause = r.cause; survives = c.begin.ensures.survives }

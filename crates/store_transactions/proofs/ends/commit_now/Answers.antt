@@ -35,5 +35,5 @@ returns-in-Err g c =
     let new : Parts _ = record old { pages = c.commit.new.pages; transactions = c.commit.new.self } in
     let r : StepsSo told old new c.args.session hands.Commits (stepped.Undone c.fault_of.result hands.Commits) =
     refused_by told old new c.args.session hands.Commits c.in-Err.error c.fault_of.result c.requires.fit c.commit.ensures.over c.commit.ensures.rest.leaves
-    (record { transactions = c.in-Err.ensures.same; locks = refl; rights = refl; journal = refl }) c.in-Err.ensures.outcome c.fault_of.ensures in
+    (record { transactions = c.in-Err.ensures.same; locks = refl; rights = refl; journal = refl; queue = refl; dropped = refl }) c.in-Err.ensures.outcome c.fault_of.ensures in
     record { steps = r.steps; fit = r.fit; others = r.others; stays = r.stays; cause = r.cause; survives = c.commit.ensures.survives; sure = tt }

@@ -1,0 +1,9 @@
+use Rattle.std.proofs.Common.{Option, refl, sym, subst, ◌∙◌}
+use Rattle.block_model.specs.declared.place.Spot.{Spot}
+use Rattle.brin_insert.specs.AskedFor.{HasOne, IsAsked}
+use Rattle.brin_insert.proofs.insert.ask_at.Goals as goal
+
+pub returns-in-Ok-Some-clause-asked : goal.returns-in-Ok-Some-clause-asked
+returns-in-Ok-Some-clause-asked g c = λ tells.
+    subst (λ (o : Option Spot). IsAsked (c.args.index, c.args.range) c.args.queue.now c.args.queue.now c.args.dropped.now.items c.args.dropped.now.items o) (sym (c.in-Ok-Some.ensures.entry tells ∙ c.in-Ok-Some.field-0-is))
+    (HasOne c.in-Ok-Some.field-0-0 refl refl)

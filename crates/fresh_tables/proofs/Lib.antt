@@ -1,0 +1,3 @@
+mod Statuses
+mod NewIndexes
+mod NewTables
