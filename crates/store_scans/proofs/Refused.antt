@@ -47,7 +47,7 @@ use Rattle.store_scans.specs.declared.looking.Looking.{Looking}
 use Rattle.store_scans.specs.LookLaws.{LookLaws}
 use Rattle.store_scans.specs.Looks.{statement_for}
 use Rattle.store_scans.proofs.Led.{order_stays}
-use Rattle.store_scans.proofs.Standing.{LooksThere, account_is, in_hand, shows}
+use Rattle.store_scans.proofs.Standing.{LooksThere, in_hand, shows}
 use Rattle.store_scans.proofs.Tells.{none_in_hand}
 use Rattle.store_scans.proofs.Turns.{copy}
 use Rattle.store_scans.proofs.Words.{in_table}
