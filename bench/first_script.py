@@ -2,9 +2,10 @@
 """Times the built program on large scripts: first_script.py PROGRAM. No part of the gate.
 
 Runs a million inserts in one transaction, alone and with a select of all, the same of two sessions in turn, a million
-comments, inserts with a hundred selects of one row each, without and with an index, 64 sessions that each insert a row and
-select it, in turn, and a thousand explains over 131,072 ranges of one page; each three times. Tells the best time, lines a
-second and the peak of memory. The answers go to a file.
+comments, inserts with a hundred selects of one row each, without an index and with one that is summarised, the summarise of
+that index, of ranges of 128 pages and of one, 64 sessions that insert rows in turn and then, behind a summarise, select a row
+each in turn, and a hundred explains over 131,072 summarised ranges of one page; each three times. Tells the best time, lines
+a second and the peak of memory. The answers go to a file.
 """
 import os
 import subprocess
@@ -31,6 +32,10 @@ def select():
     yield "r select t\n"
 
 
+def summarise():
+    yield "m summarize i\n"
+
+
 def lookups():
     """The lines that select a hundred rows, one each."""
     yield "r begin\n"
@@ -42,20 +47,21 @@ def comments():
 
 
 def interleaved():
-    """64 sessions in turn: each puts a row, and then selects it."""
+    """64 sessions in turn: each puts a row, and selects it once all rows are summarised."""
     yield from (f"s{n} begin\n" for n in range(64))
-    for n in range(LINES // 10):
-        yield f"s{n % 64} insert t {n}\n"
-        yield f"s{n % 64} select t where a = {n}\n"
+    yield from (f"s{n % 64} insert t {n}\n" for n in range(LINES // 10))
+    yield from summarise()
+    yield from (f"s{n % 64} select t where a = {n}\n" for n in range(LINES // 10))
     yield from (f"s{n} commit\n" for n in range(64))
 
 
 def explains():
-    """The lines that fill a range of one page each, and then explain a query of one row a thousand times."""
+    """The lines that fill a range of one page each and summarise them, and then explain a query of one row a hundred times."""
     yield "s begin\n"
     yield from (f"s insert t {n}\n" for n in range(RANGES))
     yield "s commit\n"
-    yield from (f"s explain t where a = {n * (RANGES // 1000)}\n" for n in range(1000))
+    yield from summarise()
+    yield from (f"s explain t where a = {n * (RANGES // 100)}\n" for n in range(100))
 
 
 def run(program, words, script, out):
@@ -77,9 +83,11 @@ def main():
         "inserts, then a select of all": (WORDS, lambda: [inserts(1), select()]),
         "inserts of two sessions in turn, then a select of all": (WORDS, lambda: [inserts(2), select()]),
         "inserts, then 100 selects of one row": (WORDS, lambda: [inserts(1), lookups()]),
-        "the same with an index": (WORDS + INDEX, lambda: [inserts(1), lookups()]),
-        "64 sessions in turn, an insert and a select of its row": (WORDS + SMALL_RANGES, lambda: [interleaved()]),
-        "1,000 explains over 131,072 ranges": (ONE_A_PAGE + SMALL_RANGES, lambda: [explains()]),
+        "inserts and a summarize": (WORDS + INDEX, lambda: [inserts(1), summarise()]),
+        "the same with ranges of one page": (WORDS + SMALL_RANGES, lambda: [inserts(1), summarise()]),
+        "inserts and a summarize, then 100 selects of one row": (WORDS + INDEX, lambda: [inserts(1), summarise(), lookups()]),
+        "64 sessions in turn, inserts, a summarize, and selects of one row": (WORDS + SMALL_RANGES, lambda: [interleaved()]),
+        "100 explains over 131,072 ranges": (ONE_A_PAGE + SMALL_RANGES, lambda: [explains()]),
         "comments": (WORDS, lambda: [comments()]),
     }
     with tempfile.TemporaryDirectory() as folder:

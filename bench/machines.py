@@ -22,7 +22,7 @@ ROWS_A_PAGE = 100
 ROWS = BLOCKS * ROWS_A_PAGE
 NEEDED = (
     "machine_bench: block_model store_layout disk_trait page_locks store_format engine_pages"
-    " brin_insert brin_summarise brin_scan\n"
+    " summary_queue brin_insert brin_summarise brin_scan\n"
 )
 PARTS = {
     "an insert into a range without a summary": ROWS,
@@ -50,6 +50,7 @@ use std::io;
 use std::time::Instant;
 use store_format::format;
 use store_layout::Layout;
+use summary_queue::Queue;
 
 const BLOCKS: u64 = 4000;
 
@@ -86,6 +87,7 @@ fn insert(
     insert: &mut Insert,
     pages: &mut PageStore<SteadyDisk>,
     locks: &mut Locks,
+    queue: &mut Queue,
     from: u64,
     to: u64,
     widens: bool,
@@ -96,7 +98,7 @@ fn insert(
         insert.begin(row(1, i, a), pages.layout());
         let mut done = false;
         while !done {
-            match insert.step(pages, locks, 0) {
+            match insert.step(pages, locks, queue, 0) {
                 Ok(Did::Finished(_)) => done = true,
                 Ok(Did::Moved(_)) => {}
                 _ => return false,
@@ -156,28 +158,31 @@ fn main(rt: HostRuntime) -> io::Result<()> {
     let Ok(mut rights) = Rights::new(alloc, 1) else {
         return Ok(());
     };
+    let Ok(mut queue) = Queue::new(alloc) else {
+        return Ok(());
+    };
     let Ok(mut work) = Insert::new(alloc, row(1, 0, 5), pages.layout()) else {
         return Ok(());
     };
     let start = Instant::now(&rt)?;
-    let bare = insert(&mut work, &mut pages, &mut locks, 0, ROWS, true);
+    let bare = insert(&mut work, &mut pages, &mut locks, &mut queue, 0, ROWS, true);
     println!(rt; "took {}", start.elapsed(&rt)?.as_nanos())?;
     // One into a summarised range: another store, of which one row is summarised first.
     let Some(mut other) = store(alloc) else {
         return Ok(());
     };
-    let one = insert(&mut work, &mut other, &mut locks, 0, 1, false);
+    let one = insert(&mut work, &mut other, &mut locks, &mut queue, 0, 1, false);
     let first = summarise(alloc, &mut other, &mut locks, &mut rights);
     let start = Instant::now(&rt)?;
-    let had = insert(&mut work, &mut other, &mut locks, 1, ROWS, false);
+    let had = insert(&mut work, &mut other, &mut locks, &mut queue, 1, ROWS, false);
     println!(rt; "took {}", start.elapsed(&rt)?.as_nanos())?;
     let Some(mut third) = store(alloc) else {
         return Ok(());
     };
-    let two = insert(&mut work, &mut third, &mut locks, 0, 1, true);
+    let two = insert(&mut work, &mut third, &mut locks, &mut queue, 0, 1, true);
     let second = summarise(alloc, &mut third, &mut locks, &mut rights);
     let start = Instant::now(&rt)?;
-    let widened = insert(&mut work, &mut third, &mut locks, 1, ROWS, true);
+    let widened = insert(&mut work, &mut third, &mut locks, &mut queue, 1, ROWS, true);
     println!(rt; "took {}", start.elapsed(&rt)?.as_nanos())?;
     let start = Instant::now(&rt)?;
     let ranges = summarise(alloc, &mut pages, &mut locks, &mut rights);

@@ -8,11 +8,12 @@ table with a column for each:
 - inserts a second, in one transaction, without and with an index; and what an insert takes beyond the same line that is refused, so
   without its reading and its answer;
 - bytes a row, beside those of its entry in the journal: the peak of memory of N inserts, beyond that of N selects of an empty table;
-- a select of one row among all by an index, with ranges of 128 pages and of one;
+- a summarise of all rows, with ranges of 128 pages and of one, for each page;
+- a select of one row among all by an index that is summarised, with ranges of 128 pages and of one;
 - how many rows a second a select without an index goes through, where none matches.
 
-Each run is made --rounds times (5, if not said), and the shortest time counts. The answers go to a file. Needs `rt` for checkouts, and
-GNU time.
+Each run is made --rounds times (5, if not said), and the shortest time counts. The answers go to a file. A program that has a summary of
+each range at once refuses the line of the summarise, and is measured all the same. Needs `rt` for checkouts, and GNU time.
 """
 import argparse
 import os
@@ -30,7 +31,7 @@ NARROW = "index i on t(a minmax) pages_per_range 1"
 SLOTS = 272
 
 # How many selects a run makes: of one row by ranges of 128 pages and of one page, and of no row without an index.
-SELECTS, NARROW_SELECTS, SCANS = 1_000, 20_000, 50
+SELECTS, NARROW_SELECTS, SCANS = 1_000, 2_000, 50
 
 # Links the program without the sanitizer, whose allocator would be measured too, and keeps it.
 LINKER = """#!/bin/bash
@@ -83,9 +84,15 @@ def looks(rows):
     yield "s commit\n"
 
 
-def selects(rows, count):
-    """Behind the inserts, selects of one row each, from all over the table."""
+def summarised(rows):
+    """Behind the inserts, a summary of each range."""
     yield from inserts(rows)
+    yield "m summarize i\n"
+
+
+def selects(rows, count):
+    """Behind these, selects of one row each, from all over the table."""
+    yield from summarised(rows)
     yield "s begin\n"
     yield from (f"s select t where a = {n * 7919 % rows}\n" for n in range(count))
 
@@ -121,10 +128,12 @@ class Runs:
 
 def costs(runs, rows):
     """The figures of one program, by their names."""
-    blocks = f"--heap-blocks={rows // SLOTS + 1}"
+    pages = rows // SLOTS + 1
+    blocks = f"--heap-blocks={pages}"
     plain, wide, narrow = ([blocks, TABLE, *index] for index in ([], [WIDE], [NARROW]))
     empty, refusal, look = (runs.run(plain, lines) for lines in ([], refused(rows), looks(rows)))
     put, put_wide, put_narrow = (runs.run(words, inserts(rows)) for words in (plain, wide, narrow))
+    made_wide, made_narrow = (runs.run(words, summarised(rows)) for words in (wide, narrow))
     by_wide = runs.run(wide, selects(rows, SELECTS))
     by_narrow = runs.run(narrow, selects(rows, NARROW_SELECTS))
     scan = runs.run(plain, scans(rows, SCANS))
@@ -134,8 +143,10 @@ def costs(runs, rows):
         "an insert beyond its refused line": f"{(put[0] - refusal[0]) / rows * 1e9:.0f} ns",
         "bytes a row": f"{(put[1] - look[1]) / rows:.0f}",
         "bytes of its journal entry": f"{(look[1] - empty[1]) / rows:.0f}",
-        "a select of one row by an index, ranges of 128 pages": f"{(by_wide[0] - put_wide[0]) / SELECTS * 1e6:.0f} µs",
-        "the same, ranges of one page": f"{(by_narrow[0] - put_narrow[0]) / NARROW_SELECTS * 1e6:.1f} µs",
+        "a page that is summarised, ranges of 128 pages": f"{(made_wide[0] - put_wide[0]) / pages * 1e6:.1f} µs",
+        "a page, ranges of one": f"{(made_narrow[0] - put_narrow[0]) / pages * 1e6:.1f} µs",
+        "a select of one row by an index, ranges of 128 pages": f"{(by_wide[0] - made_wide[0]) / SELECTS * 1e6:.0f} µs",
+        "the same, ranges of one page": f"{(by_narrow[0] - made_narrow[0]) / NARROW_SELECTS * 1e6:.1f} µs",
         "rows a second of a whole scan": f"{rows * SCANS / max(scan[0] - put[0], 0.001):,.0f}",
     }
 

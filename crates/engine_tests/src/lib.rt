@@ -8,5 +8,3 @@ mod serial;
 mod sessions;
 #[cfg(test)]
 mod snapshots;
-#[cfg(test)]
-mod summaries;

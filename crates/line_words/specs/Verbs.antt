@@ -33,7 +33,8 @@ every_verb =
 -- the verbs that the engine answers today
 abbrev pub answered : List Verb
 answered =
-    verbs.Begin ∷ verbs.Commit ∷ verbs.Rollback ∷ verbs.Insert ∷ verbs.Select ∷ verbs.Delete ∷ verbs.Explain ∷ []
+    verbs.Begin ∷ verbs.Commit ∷ verbs.Rollback ∷ verbs.Insert ∷ verbs.Select ∷ verbs.Delete ∷ verbs.Explain ∷ verbs.Summarize
+    ∷ verbs.Desummarize ∷ verbs.Start ∷ verbs.Step ∷ verbs.Finish ∷ []
 
 -- the verb is one of the language's
 abbrev pub has_verb : List Verb → Verb → Bool

@@ -27,7 +27,7 @@ pub enum Verb {
 }
 
 /// The language of the engine: the verbs that it answers today. Another verb is refused as a word that no line has.
-pub const ANSWERED: [Verb; 7] = [
+pub const ANSWERED: [Verb; 12] = [
     Verb::Begin,
     Verb::Commit,
     Verb::Rollback,
@@ -35,6 +35,11 @@ pub const ANSWERED: [Verb; 7] = [
     Verb::Select,
     Verb::Delete,
     Verb::Explain,
+    Verb::Summarize,
+    Verb::Desummarize,
+    Verb::Start,
+    Verb::Step,
+    Verb::Finish,
 ];
 
 /// How it is written.

@@ -1,5 +1,5 @@
-//! Tests that run the machines of an index over a store: an insert, a summarise, an explain and the scan of a select, each by its steps, alone
-//! and between the steps of others. They show what no clause says: that each machine comes to its end by the steps that its protocol names,
+//! Tests that run the machines of an index over a store: an insert, a summarise, an explain, the scan of a select, a delete and a vacuum, each by
+//! its steps, alone and between the steps of others. They show what no clause says: that each machine comes to its end by the steps that its protocol names,
 //! and the worked rows, as far as these are machines' work. Nothing stands on it.
 #![tactic(auto)]
 
@@ -13,3 +13,5 @@ mod paths;
 mod rows;
 #[cfg(test)]
 mod store;
+#[cfg(test)]
+mod vacuums;

@@ -348,29 +348,10 @@ const LEFT_OVER: [(&str, &str); 8] = [
     ("s1 explain t where a is null", "s1 blocks 3"),
 ];
 
-const ONE_BLOCK: Sizes = Sizes {
-    heap_blocks: 1,
-    ..SMALL
-};
-
-const FULL_HEAP: [(&str, &str); 6] = [
-    ("s1 begin", "s1 begun 1"),
-    ("s1 insert t 1", "s1 inserted 1.0"),
-    ("s1 insert t 2", "s1 inserted 1.1"),
-    ("s1 commit", "s1 committed"),
-    ("s1 begin", "s1 begun 2"),
-    ("s1 insert t 3", "s1 error 8 t 2"),
-];
-
 #[test]
-fn a_full_index_leaves_a_placeholder_and_a_full_heap_takes_no_row(
-    rt: HostRuntime,
-) -> Result<(), Fail> {
+fn a_full_index_leaves_a_placeholder(rt: HostRuntime) -> Result<(), Fail> {
     let alloc = rt.alloc();
-    let found = [
-        wrong(alloc, ONE_PAGE, &LARGE_FILTERS, &[&LEFT_OVER])?,
-        wrong(alloc, ONE_BLOCK, &PLAIN, &[&FULL_HEAP])?,
-    ];
-    assert_eq!(rt; found, [None, None]);
+    let found = wrong(alloc, ONE_PAGE, &LARGE_FILTERS, &[&LEFT_OVER])?;
+    assert_eq!(rt; found, None);
     Ok(())
 }

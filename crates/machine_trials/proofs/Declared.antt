@@ -13,8 +13,8 @@ use Rattle.block_model.specs.ValuesOfKind.{IsValueOf, has_kind}
 use Rattle.heap_rows.specs.Heaps.{kinds_at, no_table}
 use Rattle.page_layout.specs.HeapForms.{kinds_of}
 use Rattle.page_layout.specs.RowBytes.{HaveKinds}
-use Rattle.query_words.specs.LineFits.{IsIndexOf}
-use Rattle.statements.specs.StatementFits.{AreValuesFor, IsInsertFor, IsQueryFor}
+use Rattle.query_words.specs.LineFits.{IsTableOf}
+use Rattle.statements.specs.StatementFits.{AreValuesFor, IsIndexOf, IsInsertFor, IsQueryFor}
 use Rattle.store_layout.specs.DiskLayout.{DiskLayout}
 
 one_kind : (kind : Kind) (v : Value) → IsValueOf kind v → has_kind kind v ≡ true
@@ -42,3 +42,6 @@ query_below schema query h = slice_get_within schema.tables query.table h.of h.t
 
 pub index_below : (schema : Schema) (n : ℕ) → IsIndexOf schema n → n < length schema.indexes
 index_below schema n h = slice_get_within schema.indexes n h.0 h.1
+
+pub table_below : (schema : Schema) (n : ℕ) → IsTableOf schema n → n < length schema.tables
+table_below schema n h = slice_get_within schema.tables n h.0 h.1

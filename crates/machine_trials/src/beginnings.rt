@@ -7,11 +7,12 @@ ghost use Rattle.query_words.specs.LineFits.{FitsStatement};
 ghost use Rattle.machine_trials.specs.Works.{IsWorkOf};
 
 use crate::turns::has_few_tables;
-use crate::work::Work;
+use crate::work::{Cleaning, Delete, Work};
 use block_model::{Query, Row, RowId, Values};
 use brin_insert::Insert;
 use brin_scan::{Explain, Scan};
 use brin_summarise::{Summarise, Wish};
+use brin_vacuum::Vacuum;
 use index_steps::declared_index;
 use statements::Statement;
 use std::alloc::Global;
@@ -33,8 +34,10 @@ pub(crate) fn work_for(
             None => None,
         },
         Statement::Select(query) => select_of(alloc, layout, query),
+        Statement::Delete(query) => delete_of(alloc, layout, query),
         Statement::Explain(query) => explain_of(alloc, layout, query),
         Statement::Summarize { index, block } => summarise_of(alloc, layout, index, block),
+        Statement::Vacuum { table } => vacuum_of(alloc, layout, table),
         _ => None,
     }
 }
@@ -63,6 +66,18 @@ fn select_of(alloc: Global, layout: &Layout, query: Query) -> Option<Work>
     }
 }
 
+/// The scan of a delete.
+fn delete_of(alloc: Global, layout: &Layout, query: Query) -> Option<Work>
+    requires table { query.table < length layout.now.schema.tables }
+    ensures { IfSome result (IsWorkOf layout.now) }
+{
+    let table = query.table;
+    match Scan::new(alloc, query, layout) {
+        Ok(scan) => Some(Work::Delete(Delete::Scans(table, scan))),
+        Err(_) => None,
+    }
+}
+
 /// An explain.
 fn explain_of(alloc: Global, layout: &Layout, query: Query) -> Option<Work>
     requires table { query.table < length layout.now.schema.tables }
@@ -87,6 +102,18 @@ fn summarise_of(alloc: Global, layout: &Layout, index: u8, block: Option<u32>) -
     let table = declared_index(layout, index).table;
     match Summarise::new(alloc, index, wish, layout) {
         Ok(summarise) => Some(Work::Summarise(table, summarise)),
+        Err(_) => None,
+    }
+}
+
+/// A vacuum of the table.
+fn vacuum_of(alloc: Global, layout: &Layout, table: u8) -> Option<Work>
+    requires table { table < length layout.now.schema.tables }
+    ensures { IfSome result (IsWorkOf layout.now) }
+{
+    has_few_tables(layout);
+    match Vacuum::new(alloc, table, layout) {
+        Ok(vacuum) => Some(Work::Vacuum(Cleaning::Drops(table, vacuum))),
         Err(_) => None,
     }
 }

@@ -3,6 +3,7 @@
 ghost use Rattle.query_words.specs.LineFits.{FitsLine, FitsOrder};
 
 use crate::names::{name_of, relation_name, session_of};
+use crate::transactions::Ending;
 use crate::trial::Trial;
 use crate::turns::Turn;
 use block_model::{Name, Point, Refusal, Reply, What};
@@ -13,13 +14,16 @@ use statements::Statement;
 use std::alloc::Global;
 
 /// What the sessions of a trial may say.
-const VERBS: [Verb; 9] = [
+const VERBS: [Verb; 12] = [
     Verb::Begin,
     Verb::Commit,
+    Verb::Rollback,
     Verb::Insert,
     Verb::Select,
+    Verb::Delete,
     Verb::Explain,
     Verb::Summarize,
+    Verb::Vacuum,
     Verb::Start,
     Verb::Step,
     Verb::Finish,
@@ -83,10 +87,8 @@ fn say(trial: &mut Trial, name: &Name, order: Order, out: &mut Vec<u8>) -> Optio
             let t = trial.begin(session)?;
             render(name, &Reply::Begun { t }, out).ok()
         }
-        Order::Whole(Statement::Commit) => {
-            trial.commit(session)?;
-            render(name, &Reply::Committed, out).ok()
-        }
+        Order::Whole(Statement::Commit) => end(trial, name, session, Ending::Committed, out),
+        Order::Whole(Statement::Rollback) => end(trial, name, session, Ending::RolledBack, out),
         Order::Whole(statement) => {
             trial.start(session, statement)?;
             let turn = last_turn(trial, session);
@@ -105,6 +107,21 @@ fn say(trial: &mut Trial, name: &Name, order: Order, out: &mut Vec<u8>) -> Optio
             tell(trial, name, turn, out)
         }
     }
+}
+
+/// The session ends its transaction, and is told how.
+fn end(
+    trial: &mut Trial,
+    name: &Name,
+    session: usize,
+    wanted: Ending,
+    out: &mut Vec<u8>,
+) -> Option<()> {
+    let reply = match trial.end(session, wanted)? {
+        Ending::Committed => Reply::Committed,
+        Ending::RolledBack => Reply::RolledBack,
+    };
+    render(name, &reply, out).ok()
 }
 
 /// Steps what the session has in hand as long as it goes on.
@@ -136,6 +153,7 @@ fn tell(trial: &Trial, name: &Name, turn: Turn, out: &mut Vec<u8>) -> Option<()>
             let relation = relation_name(trial.layout(), relation)?;
             Reply::Refused(Refusal::Full { relation, number })
         }
+        Turn::Conflict(id) => Reply::Refused(Refusal::Conflict { id }),
         Turn::Failed => return None,
     };
     render(name, &reply, out).ok()

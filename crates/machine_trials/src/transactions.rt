@@ -13,12 +13,20 @@ use statements::Statement;
 use std::alloc::Global;
 use tx_table::TxTable;
 
-/// An open transaction: its number, how many rows it has put, and what it knew of the others when it began.
+/// An open transaction: its number, how many rows it has put, whether it has failed, and what it knew of the others when it began.
 #[derive(Drop)]
 pub(crate) struct Open {
     pub(crate) t: u64,
     pub(crate) rows: u32,
+    pub(crate) failed: bool,
     pub(crate) snapshot: Snapshot,
+}
+
+/// How a transaction ends.
+#[derive(Clone, Copy, Debug, PartialEq, Eq)]
+pub enum Ending {
+    Committed,
+    RolledBack,
 }
 
 /// Begins a transaction beside those that are open; `None` where none is begun.
@@ -42,6 +50,7 @@ pub(crate) fn begun(
             Some(Open {
                 t,
                 rows: 0,
+                failed: false,
                 snapshot,
             })
         }
@@ -60,8 +69,49 @@ fn numbers_of(alloc: Global, open: &[Option<Open>]) -> Result<Numbers, NoMemory>
     Ok(numbers)
 }
 
+/// How it ends where that is wanted: one that has failed is rolled back.
+pub(crate) fn ending_of(open: &Open, wanted: Ending) -> Ending {
+    if open.failed {
+        Ending::RolledBack
+    } else {
+        wanted
+    }
+}
+
+/// Ends the transaction so, and answers whether it did.
+pub(crate) fn ends(
+    tx: &mut TxTable,
+    pages: &mut PageStore<QuietDisk>,
+    t: u64,
+    ending: Ending,
+) -> bool
+    requires over { IsOver (⟦<QuietDisk as Disk>⟧.told) tx.old pages.old }
+    ensures over { IsOver (⟦<QuietDisk as Disk>⟧.told) tx.new pages.new }
+    ensures leaves { Leaves (⟦<QuietDisk as Disk>⟧.told) pages.old pages.new }
+{
+    match ending {
+        Ending::Committed => commits(tx, pages, t),
+        Ending::RolledBack => rolls_back(tx, pages, t),
+    }
+}
+
+/// Rolls the transaction back, and answers whether it did.
+fn rolls_back(tx: &mut TxTable, pages: &mut PageStore<QuietDisk>, t: u64) -> bool
+    requires over { IsOver (⟦<QuietDisk as Disk>⟧.told) tx.old pages.old }
+    ensures over { IsOver (⟦<QuietDisk as Disk>⟧.told) tx.new pages.new }
+    ensures leaves { Leaves (⟦<QuietDisk as Disk>⟧.told) pages.old pages.new }
+{
+    if !is_begun(tx, pages, t) {
+        return false;
+    }
+    match tx.rollback(pages, t) {
+        Ok(()) => true,
+        Err(_) => false,
+    }
+}
+
 /// Commits the transaction, and answers whether it did.
-pub(crate) fn commits(tx: &mut TxTable, pages: &mut PageStore<QuietDisk>, t: u64) -> bool
+fn commits(tx: &mut TxTable, pages: &mut PageStore<QuietDisk>, t: u64) -> bool
     requires over { IsOver (⟦<QuietDisk as Disk>⟧.told) tx.old pages.old }
     ensures over { IsOver (⟦<QuietDisk as Disk>⟧.told) tx.new pages.new }
     ensures leaves { Leaves (⟦<QuietDisk as Disk>⟧.told) pages.old pages.new }
@@ -109,4 +159,37 @@ fn next_row(open: &mut Vec<Option<Open>>, session: usize) -> Option<RowId> {
     let k = open.rows;
     open.rows = k.checked_add(1)?;
     Some(RowId { t: open.t, k })
+}
+
+/// The session's transaction has failed.
+pub(crate) fn fail(open: &mut Vec<Option<Open>>, session: usize) {
+    if let Some(Some(open)) = open.get_mut(session) {
+        open.failed = true;
+    }
+}
+
+/// The snapshots of the transactions that are open, in copies.
+pub(crate) fn snapshots_of(
+    alloc: Global,
+    open: &[Option<Open>],
+) -> Result<Vec<Snapshot>, NoMemory> {
+    let mut snapshots = Vec::new(alloc);
+    for open in open {
+        if let Some(open) = open {
+            snapshots.push(copied(alloc, &open.snapshot)?)?;
+        }
+    }
+    Ok(snapshots)
+}
+
+/// The same snapshot.
+fn copied(alloc: Global, snapshot: &Snapshot) -> Result<Snapshot, NoMemory> {
+    let mut active = Numbers::new(alloc);
+    for t in snapshot.active.as_slice() {
+        active.push(*t)?;
+    }
+    Ok(Snapshot {
+        next: snapshot.next,
+        active,
+    })
 }

@@ -7,16 +7,19 @@ ghost use Rattle.tx_table.specs.TxState.{IsOver};
 ghost use Rattle.machine_trials.specs.Works.{IsWorkOf, max_tables};
 
 use crate::beginnings::work_for;
+use crate::deletes::turn_delete;
 use crate::names::SESSIONS;
 use crate::quiet_disk::QuietDisk;
-use crate::transactions::{Open, begun, commits, id_for};
+use crate::transactions::{Ending, Open, begun, ending_of, ends, fail, id_for, snapshots_of};
 use crate::turns::{Turn, turn_explain, turn_insert, turn_select, turn_summarise};
+use crate::vacuums::turn_vacuum;
 use crate::work::Work;
 use block_model::{NoMemory, Sizes, Words};
 use disk_trait::Disk;
 use engine_pages::PageStore;
 use page_locks::{Locks, Rights};
 use schema_words::read_declarations;
+use snapshot_core::Snapshot;
 use statements::Statement;
 use std::alloc::Global;
 use std::marker::Model;
@@ -174,16 +177,17 @@ impl Trial {
         Some(t)
     }
 
-    /// The session commits its transaction.
-    pub fn commit(&mut self, session: usize) -> Option<()>
+    /// The session ends its transaction, and is told how: so, but by a rollback where it has failed.
+    pub fn end(&mut self, session: usize, wanted: Ending) -> Option<Ending>
         ensures { self.new ≡ self.old }
     {
         if session >= self.open.len() {
             return None;
         }
         let open = mem::replace(&mut self.open[session], None)?;
-        if commits(&mut self.tx, &mut self.pages, open.t) {
-            Some(())
+        let ending = ending_of(&open, wanted);
+        if ends(&mut self.tx, &mut self.pages, open.t, ending) {
+            Some(ending)
         } else {
             None
         }
@@ -197,6 +201,9 @@ impl Trial {
             return Turn::Failed;
         }
         let Ok(actor) = u32::try_from(session) else {
+            return Turn::Failed;
+        };
+        let Ok(live) = snapshots_of(self.alloc, self.open.as_slice()) else {
             return Turn::Failed;
         };
         let work = take_work(&mut self.works, session);
@@ -213,10 +220,19 @@ impl Trial {
             &mut self.queue,
             &self.tx,
             open,
+            live.as_slice(),
             actor,
         );
         put_work(&mut self.works, session, work);
+        heed(&mut self.open, session, &turn);
         turn
+    }
+}
+
+/// By a conflict the session's transaction fails.
+fn heed(open: &mut Vec<Option<Open>>, session: usize, turn: &Turn) {
+    if let Turn::Conflict(_) = turn {
+        fail(open, session);
     }
 }
 
@@ -248,6 +264,7 @@ fn turn_of(
     queue: &mut Queue,
     tx: &TxTable,
     open: Option<&Open>,
+    live: &[Snapshot],
     actor: u32,
 ) -> (Work, Turn)
     requires work { IsWorkOf pages.old.layout work }
@@ -269,5 +286,12 @@ fn turn_of(
             Some(open) => turn_select(alloc, scan, pages, tx, open),
             None => (Work::Nothing, Turn::Failed),
         },
+        Work::Delete(delete) => match open {
+            Some(open) => turn_delete(alloc, delete, pages, tx, open),
+            None => (Work::Nothing, Turn::Failed),
+        },
+        Work::Vacuum(cleaning) => {
+            turn_vacuum(alloc, cleaning, pages, locks, rights, tx, live, actor)
+        }
     }
 }

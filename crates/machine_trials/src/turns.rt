@@ -39,6 +39,8 @@ pub enum Turn {
     /// That actor holds the summarise lock of the table.
     NoRight { table: u8, by: u32 },
     Full { relation: u8, number: u64 },
+    /// Another transaction has deleted the row of this number.
+    Conflict(RowId),
     /// The store failed, memory was wanting, or there is nothing to step.
     Failed,
 }
@@ -161,7 +163,7 @@ pub(crate) fn turn_select(
 }
 
 /// Whether room is left for the locks of a step.
-fn has_room(locks: &Locks) -> bool
+pub(crate) fn has_room(locks: &Locks) -> bool
     ensures { result ≡ true → count_of locks.now + 3 ≤ locks.now.limit }
 {
     let limit = locks.limit() as usize;
@@ -176,7 +178,7 @@ pub(crate) fn has_few_tables(layout: &Layout)
 }
 
 /// That the machine comes to nothing.
-fn stopped(fault: MachineFault) -> Turn {
+pub(crate) fn stopped(fault: MachineFault) -> Turn {
     match fault {
         MachineFault::Full { relation, number } => Turn::Full { relation, number },
         _ => Turn::Failed,

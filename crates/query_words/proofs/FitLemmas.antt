@@ -39,8 +39,8 @@ use Rattle.query_words.specs.Syntax.{stop_of}
 use Rattle.query_words.specs.Parsed.{said_of}
 use Rattle.query_words.specs.Statements.{◌>>=◌, or_fault, table_from, table_said, column_from, column_said, op_in, op_said, value_said, cond_on, test_said, cond_said, conds_said, values_said, query_said, insert_said, index_from, index_said, vacuum_said, statement_said, order_said}
 use Rattle.query_words.specs.Lines.{line_said, line_judged}
-use Rattle.statements.specs.StatementFits.{HasKeyFor, IsCondFor, AreValuesFor, IsQueryFor, IsInsertFor}
-use Rattle.query_words.specs.LineFits.{IsTableOf, IsIndexOf, FitsStatement, FitsOrder, FitsLine, IsLineFor, answered_fits, is_order_in, is_line_in}
+use Rattle.statements.specs.StatementFits.{HasKeyFor, IsCondFor, AreValuesFor, IsIndexOf, IsQueryFor, IsInsertFor}
+use Rattle.query_words.specs.LineFits.{IsTableOf, FitsStatement, FitsOrder, FitsLine, IsLineFor, answered_fits, is_order_in, is_line_in}
 use Rattle.query_words.proofs.LineLawLemmas.{unstopped}
 
 -- the value of a kind is one of it

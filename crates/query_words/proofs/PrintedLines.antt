@@ -31,10 +31,10 @@ use Rattle.query_words.specs.declared.line.LineFault.TheVariants as faults
 use Rattle.query_words.specs.Grammar.{SaidCond, SaidStatement, Begin, Commit, Rollback, Insert, Select, Delete, Explain, Summarize, Desummarize, Vacuum, Work, SaidOrder, Whole, Start, Step, Finish, SaidLine, Nothing, Say, verb_said, words_behind, words_of_more, words_of_conds, words_of_order}
 use Rattle.block_model.specs.declared.limits.TheConstants.{MAX_CONDITIONS}
 use Rattle.query_words.specs.Grammar.{AreValueWords, IsSaidQuery, HasSaidParts, IsSaidStatement, IsSaidOrder, cond_texts, statement_texts, order_texts, said_texts}
-use Rattle.query_words.specs.LineFits.{IsTableOf, IsIndexOf, FitsStatement, FitsOrder, FitsLine, is_order_in, is_line_in}
+use Rattle.query_words.specs.LineFits.{IsTableOf, FitsStatement, FitsOrder, FitsLine, is_order_in, is_line_in}
 use Rattle.query_words.specs.Statements.{◌>>=◌, or_fault, table_from, index_from, conds_said, values_said, query_said, statement_said, order_said}
 use Rattle.query_words.specs.Lines.{line_said, line_in}
-use Rattle.statements.specs.StatementFits.{IsCondFor, AreValuesFor, IsQueryFor, IsInsertFor}
+use Rattle.statements.specs.StatementFits.{IsCondFor, AreValuesFor, IsIndexOf, IsQueryFor, IsInsertFor}
 use Rattle.query_words.specs.LineTexts.{table_name, index_name, cond_of, conds_of, statement_of, order_of, joined}
 use Rattle.query_words.specs.LineLaws.{IsOfItsType, HasItsType, IsNamedLine, HasNames, ReadsBack}
 use Rattle.query_words.proofs.LineLawLemmas.{grammar_read}

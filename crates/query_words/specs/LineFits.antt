@@ -2,7 +2,6 @@
 use Rattle.std.specs.Prelude.{◌≡◌, ℕ, Bool, true, ◌&&◌, List, slice_get, Some}
 use Rattle.block_model.specs.declared.schema.Schema.{Schema}
 use Rattle.block_model.specs.declared.schema.Table.{Table}
-use Rattle.block_model.specs.declared.schema.Index.{Index}
 use Rattle.statements.specs.StatementFits.{IsStatementFor}
 use Rattle.statements.specs.declared.statement.Statement.{Statement}
 use Rattle.statements.specs.declared.statement.Statement.TheVariants as statements
@@ -19,14 +18,8 @@ use Rattle.std.proofs.lemmas.Bool.{false≢true}
 abbrev pub IsTableOf : Schema → ℕ → Type 0
 IsTableOf schema n = (table : Table) × (slice_get schema.tables n ≡ Some table)
 
--- an index of that number is
-abbrev pub IsIndexOf : Schema → ℕ → Type 0
-IsIndexOf schema n = (index : Index) × (slice_get schema.indexes n ≡ Some index)
-
--- maintenance of what is declared, or a statement of a transaction or an explain that fits
+-- a statement of the grammar that fits: a vacuum names a declared table, work names nothing, and the others are those of the engine
 abbrev pub FitsStatement : Schema → Statement → Type 0
-FitsStatement schema (statements.Summarize index block) = IsIndexOf schema index
-FitsStatement schema (statements.Desummarize index block) = IsIndexOf schema index
 FitsStatement schema (statements.Vacuum table) = IsTableOf schema table
 FitsStatement schema statements.Work = Unit {0}
 FitsStatement schema statement = IsStatementFor schema statement
@@ -53,30 +46,36 @@ abbrev pub is_line_in : List Verb → Line → Bool
 is_line_in language lines.Nothing = true
 is_line_in language (lines.Say session order) = is_order_in language order
 
--- the orders that the engine answers today: an explain or a statement of a transaction, as a whole
+-- the orders that the engine answers today: a step, all steps that are left, or a statement that fits, as a whole or started
 abbrev pub IsOrderFor : Schema → Order → Type 0
 IsOrderFor schema (orders.Whole statement) = IsStatementFor schema statement
-IsOrderFor schema order = ⊥
+IsOrderFor schema (orders.Start statement) = IsStatementFor schema statement
+IsOrderFor schema orders.Step = Unit {0}
+IsOrderFor schema orders.Finish = Unit {0}
 
 -- a line that the engine answers today, and that fits
 abbrev pub IsLineFor : Schema → Line → Type 0
 IsLineFor schema lines.Nothing = Unit {0}
 IsLineFor schema (lines.Say session order) = IsOrderFor schema order
 
+-- a statement whose verb is of the engine's language is one of its
+answered_statement : (schema : Schema) (statement : Statement) → FitsStatement schema statement → has_verb answered (statement_verb statement) ≡ true → IsStatementFor schema statement
+answered_statement schema statements.Begin fits within = tt
+answered_statement schema statements.Commit fits within = tt
+answered_statement schema statements.Rollback fits within = tt
+answered_statement schema (statements.Insert table values) fits within = fits
+answered_statement schema (statements.Select query) fits within = fits
+answered_statement schema (statements.Delete query) fits within = fits
+answered_statement schema (statements.Explain query) fits within = fits
+answered_statement schema (statements.Summarize index block) fits within = fits
+answered_statement schema (statements.Desummarize index block) fits within = fits
+answered_statement schema (statements.Vacuum table) fits within = absurd (false≢true within)
+answered_statement schema statements.Work fits within = absurd (false≢true within)
+
 -- a line of the engine's language is one
 pub answered_fits : (schema : Schema) (line : Line) → FitsLine schema line → is_line_in answered line ≡ true → IsLineFor schema line
 answered_fits schema lines.Nothing fits within = tt
-answered_fits schema (lines.Say session (orders.Whole statements.Begin)) fits within = tt
-answered_fits schema (lines.Say session (orders.Whole statements.Commit)) fits within = tt
-answered_fits schema (lines.Say session (orders.Whole statements.Rollback)) fits within = tt
-answered_fits schema (lines.Say session (orders.Whole (statements.Insert table values))) fits within = fits
-answered_fits schema (lines.Say session (orders.Whole (statements.Select query))) fits within = fits
-answered_fits schema (lines.Say session (orders.Whole (statements.Delete query))) fits within = fits
-answered_fits schema (lines.Say session (orders.Whole (statements.Explain query))) fits within = fits
-answered_fits schema (lines.Say session (orders.Whole (statements.Summarize index block))) fits within = absurd (false≢true within)
-answered_fits schema (lines.Say session (orders.Whole (statements.Desummarize index block))) fits within = absurd (false≢true within)
-answered_fits schema (lines.Say session (orders.Whole (statements.Vacuum table))) fits within = absurd (false≢true within)
-answered_fits schema (lines.Say session (orders.Whole statements.Work)) fits within = absurd (false≢true within)
-answered_fits schema (lines.Say session (orders.Start statement)) fits within = absurd (false≢true within)
-answered_fits schema (lines.Say session orders.Step) fits within = absurd (false≢true within)
-answered_fits schema (lines.Say session orders.Finish) fits within = absurd (false≢true within)
+answered_fits schema (lines.Say session (orders.Whole statement)) fits within = answered_statement schema statement fits within
+answered_fits schema (lines.Say session (orders.Start statement)) fits within = answered_statement schema statement fits within
+answered_fits schema (lines.Say session orders.Step) fits within = tt
+answered_fits schema (lines.Say session orders.Finish) fits within = tt

@@ -1,4 +1,3 @@
-pub mod Chunks
 pub mod VersionsState
 pub mod Hits
 pub mod VisibleState

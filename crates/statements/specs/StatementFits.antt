@@ -9,6 +9,7 @@ use Rattle.block_model.specs.declared.row.Query.{Query}
 use Rattle.block_model.specs.declared.schema.Schema.{Schema}
 use Rattle.block_model.specs.declared.schema.Table.{Table}
 use Rattle.block_model.specs.declared.schema.Column.{Column}
+use Rattle.block_model.specs.declared.schema.Index.{Index}
 use Rattle.block_model.specs.ValuesOfKind.{IsValueOf}
 use Rattle.statements.specs.declared.statement.Statement.{Statement}
 use Rattle.statements.specs.declared.statement.Statement.TheVariants as statements
@@ -46,6 +47,11 @@ pub record IsInsertFor (schema : Schema) (number : ℕ) (row : List Value) : Typ
   pub table : slice_get schema.tables number ≡ Some into
   pub values : AreValuesFor into.columns row
 
+-- an index of that number is declared
+abbrev pub IsIndexOf : Schema → ℕ → Type 0
+IsIndexOf schema n = (index : Index) × (slice_get schema.indexes n ≡ Some index)
+
+-- a statement that fits. No vacuum and no work does yet: there is nothing to make their steps.
 abbrev pub IsStatementFor : Schema → Statement → Type 0
 IsStatementFor schema statements.Begin = Unit {0}
 IsStatementFor schema statements.Commit = Unit {0}
@@ -54,7 +60,7 @@ IsStatementFor schema (statements.Insert table values) = IsInsertFor schema tabl
 IsStatementFor schema (statements.Select query) = IsQueryFor schema query
 IsStatementFor schema (statements.Delete query) = IsQueryFor schema query
 IsStatementFor schema (statements.Explain query) = IsQueryFor schema query
-IsStatementFor schema (statements.Summarize index block) = ⊥
-IsStatementFor schema (statements.Desummarize index block) = ⊥
+IsStatementFor schema (statements.Summarize index block) = IsIndexOf schema index
+IsStatementFor schema (statements.Desummarize index block) = IsIndexOf schema index
 IsStatementFor schema (statements.Vacuum table) = ⊥
 IsStatementFor schema statements.Work = ⊥

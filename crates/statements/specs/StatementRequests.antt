@@ -14,7 +14,6 @@ use Rattle.block_model.specs.declared.reply.Refusal.{Refusal}
 use Rattle.block_model.specs.declared.reply.Refusal.TheVariants as refusals
 use Rattle.block_model.specs.DatabaseState.{DatabaseState, OpenTransaction}
 use Rattle.block_model.specs.RequestEffect.{Answer, Begun, Inserted, Found, Marked, Conflict, Committed, RolledBack, Full, NoMemory, after_request, reply_to}
-use Rattle.block_model.specs.SerialRun.{replies_to}
 use Rattle.statements.specs.declared.statement.Statement.{Statement}
 use Rattle.statements.specs.declared.statement.Statement.TheVariants as statements
 
@@ -146,24 +145,6 @@ submission_refusal (Some x) (statements.Select q) = if x.failed then Some refusa
 submission_refusal (Some x) (statements.Delete q) = if x.failed then Some refusals.Doomed else None
 submission_refusal transaction statement = None
 
--- a statement that isn't taken makes no request
-abbrev pub unless_refused : Option Refusal → List Entry → List Entry
-unless_refused None entries = entries
-unless_refused (Some refusal) entries = []
-
-abbrev pub reply_unless_refused : Option Refusal → Option Reply → Option Reply
-reply_unless_refused None reply = reply
-reply_unless_refused (Some refusal) reply = Some (replies.Refused refusal)
-
 -- why the statement of session n isn't taken in state s
 abbrev pub refusal_at : DatabaseState → ℕ → Statement → Option Refusal
 refusal_at s n statement = submission_refusal (map.get s.sessions n) statement
-
--- the requests that a statement of session n makes in state s
-unfoldable pub statement_requests : DatabaseState → ℕ → Bool → Bool → Statement → List Entry
-statement_requests s n short full statement = unless_refused (refusal_at s n statement) (requests_of s n short full statement)
-
--- The reply to a statement of a transaction: why it isn't taken, or the one to what its requests were answered.
-unfoldable pub statement_reply : (ℕ → Refusal) → DatabaseState → ℕ → Bool → Bool → Statement → Option Reply
-statement_reply of_full s n short full statement =
-    reply_unless_refused (refusal_at s n statement) (reply_to_statement of_full statement (replies_to s (requests_of s n short full statement)))

@@ -124,8 +124,8 @@ module _ (old : ShownStore) (n : ℕ) (before after : Insert) (hand : InsertHand
           → ComesOf old n before after p blocks queued
       asked_here_so asking place placed work got here =
           let it : AsksHere old.layout old.pages (Some x) (Some hand) old.queue queued before.dropped.items after.dropped.items =
-              subst (λ (o : Option InsertHand). AsksHere old.layout old.pages (Some x) o old.queue queued before.dropped.items after.dropped.items) got
-              (subst (λ (o : Option Spot). AsksHere old.layout old.pages o work old.queue queued before.dropped.items after.dropped.items) placed here) in
+          subst (λ (o : Option InsertHand). AsksHere old.layout old.pages (Some x) o old.queue queued before.dropped.items after.dropped.items) got
+          (subst (λ (o : Option Spot). AsksHere old.layout old.pages o work old.queue queued before.dropped.items after.dropped.items) placed here) in
           asking_comes asking it.0 it.1 it.2
 
       by_asking : (b : Bool) → before.asking ≡ b → AsksBy old.layout old.pages b before.place (work_of before) old.queue queued before.dropped.items after.dropped.items → ComesOf old n before after p blocks queued

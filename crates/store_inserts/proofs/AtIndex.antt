@@ -1,60 +1,28 @@
 -- an insert at an index, in a place that the store shows
-use Rattle.std.proofs.Common.{◌≡◌, ◌≢◌, ◌⊎◌, inl, inr, ℕ, ◌<◌, ◌≤◌, Bool, true, false, List, [], ◌∷◌, length, Option, None, Some, refl, sym, ap, subst, ◌∙◌, arith, ◌+◌}
+use Rattle.std.proofs.Common.{◌≡◌, inr, ℕ, Bool, true, false, List, [], ◌∷◌, Option, Some, refl, sym, ap, subst, ◌∙◌}
 use Rattle.std.specs.Prelude.{slice_get}
-use Rattle.std.specs.FinMap as finite
-use Rattle.std.proofs.lemmas.Option.{none-some, same_Some}
-use Rattle.block_model.specs.declared.place.Place.{Place as PagePlace}
 use Rattle.block_model.specs.declared.place.Spot.{Spot}
-use Rattle.block_model.specs.declared.reply.Point.{Point}
-use Rattle.block_model.specs.declared.reply.Point.TheVariants as points
-use Rattle.block_model.specs.declared.reply.Reply.TheVariants as replies
-use Rattle.block_model.specs.declared.request.Entry.{Entry}
 use Rattle.block_model.specs.declared.row.Row.{Row}
-use Rattle.block_model.specs.DatabaseState.{DatabaseState}
-use Rattle.block_model.specs.RequestEffect.{Answer, Inserted}
-use Rattle.block_model.specs.SerialRun.{IsLegal, serial_run}
-use Rattle.store_layout.specs.DiskLayout.{DiskLayout}
-use Rattle.page_layout.specs.PageContents.{Slot}
-use Rattle.page_store.specs.PageMap.{PageMap, block_at, page_at}
-use Rattle.page_locks.specs.declared.did.Did.{Did}
-use Rattle.page_locks.specs.declared.did.Did.TheVariants as did
-use Rattle.page_locks.specs.LockHolders.{holder}
-use Rattle.page_locks.specs.RightHolders.{right_of}
-use Rattle.opened_pages.specs.PageOrder.{IsIndexInOrder}
-use Rattle.heap_rows.specs.HeapBlocks.{HasBlocks}
-use Rattle.heap_rows.specs.Heaps.{relation_of as heap_of}
-use Rattle.row_versions.specs.declared.sessions.Open.{Open}
+use Rattle.block_model.specs.RequestEffect.{Inserted}
 use Rattle.row_versions.specs.StoredVersions.{transaction_of}
-use Rattle.statements.specs.declared.limits.TheConstants.{MAX_ENTRIES}
 use Rattle.statements.specs.declared.statement.Statement.{Statement}
 use Rattle.statements.specs.declared.statement.Statement.TheVariants as statements
 use Rattle.snapshot_core.specs.declared.statuses.Status.{Status}
-use Rattle.tx_table.specs.Statuses.{status_relation}
-use Rattle.transactions.specs.CountedRows.{counts as counts_of}
-use Rattle.transactions.specs.Laws.{ShowAlike}
-use Rattle.transactions.specs.ShowsDatabase.{ShowsDatabase}
-use Rattle.transactions.specs.TransactionsState.{TransactionsState}
 use Rattle.coverage.specs.Statements.{OnIndex}
 use Rattle.range_tuple.specs.TupleBytes.{tuple_bytes}
-use Rattle.index_contents.specs.IndexContents.{index_page, relation_of as index_relation}
+use Rattle.index_contents.specs.IndexContents.{relation_of as index_relation}
 use Rattle.table_coverage.specs.Accounts.{Account, no_account}
 use Rattle.table_coverage.specs.GoingOn.{IsInserting}
-use Rattle.table_coverage.specs.InOneIndex.{DoesAt}
-use Rattle.table_coverage.specs.Machines.{Unseen, table_state, task_turned}
-use Rattle.table_coverage.specs.Table.{Asks, Inserts, Resting, TableState, Task}
+use Rattle.table_coverage.specs.Machines.{table_state}
+use Rattle.table_coverage.specs.Table.{Asks, Inserts}
 use Rattle.table_coverage.specs.TableCovered.{IsTableKept}
-use Rattle.table_coverage.specs.TableSteps.{Settles}
-use Rattle.table_coverage.proofs.Views.{pick_other, pick_same}
-use Rattle.index_steps.specs.IndexTuples.{index_at, shape_of}
+use Rattle.index_steps.specs.IndexTuples.{shape_of}
 use Rattle.index_steps.specs.ShownRows.{shown_by}
 use Rattle.index_steps.specs.ShownTable.{indexes_of}
-use Rattle.index_steps.specs.SwapAnswers.{LeavesLocks}
-use Rattle.line_texts.specs.Place.{Hand as HandAt, Place, database_at}
-use Rattle.line_texts.specs.Requests.{Course, MakesAll, NoneLeft}
-use Rattle.line_texts.specs.StatementSteps.{Ended, MakesAt, Moved, Steps, course_of}
+use Rattle.line_texts.specs.Place.{Hand as HandAt, Place}
 use Rattle.brin_insert.specs.AskedFor.{AreRequestsOf}
 use Rattle.brin_insert.specs.declared.insert.Insert.{Insert}
-use Rattle.brin_insert.specs.InsertAnswers.{InsertDid, InsertGoesTo, InsertStepped, heap_after, relation_at}
+use Rattle.brin_insert.specs.InsertAnswers.{relation_at}
 use Rattle.brin_insert.specs.InsertHands.{InsertHand}
 use Rattle.brin_insert.specs.InsertSteps.{on_index}
 use Rattle.brin_insert.specs.Inserts.{IsInsertFor, task_of, work_of}
@@ -66,14 +34,9 @@ use Rattle.store_parts.specs.declared.hand.Hand.TheVariants as hands
 use Rattle.store_parts.specs.Hands.{HandShows, put_answers}
 use Rattle.store_parts.specs.HandsAsk.{HandAsked}
 use Rattle.store_parts.specs.HandsInTables.{IsTaskOf, table_in}
-use Rattle.store_parts.specs.LeadLaws.{NoRequestLeads, NothingLeavesSlots, SameCountsFew}
-use Rattle.store_parts.specs.Leaving.{IsRelationOf, LeavesOthers, LocksIn, StepsInTable}
-use Rattle.store_parts.specs.PlaceLaws.{TableStepIsShown}
-use Rattle.store_parts.specs.PlacesAfter.{TurnsIn, place_after, point_in}
-use Rattle.store_parts.specs.ShowsPlace.{IsOfTransaction, IsPlaceOf, IsRowOf, ShowsTable, is_put}
-use Rattle.store_parts.specs.StepLaws.{MachineTurns, TurnGoesOn, TurnReplies}
+use Rattle.store_parts.specs.Leaving.{IsRelationOf}
+use Rattle.store_parts.specs.ShowsPlace.{IsPlaceOf, IsRowOf, ShowsTable, is_put}
 use Rattle.store_parts.specs.StoreStates.{ShownStore, hand_in}
-use Rattle.store_parts.specs.TableLaws.{OwnTableGoesOn}
 use Rattle.std.specs.Prelude.{IsSome}
 use Rattle.disk_trait.specs.Told.{Told}
 use Rattle.brin_insert.specs.Inserts.{HasStepLeft}

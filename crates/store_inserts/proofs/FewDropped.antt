@@ -1,17 +1,21 @@
 -- how many requests an insert asks for in vain at most, and that one without a row has asked for none
-use Rattle.std.proofs.Common.{◌≡◌, ℕ, ◌+◌, ◌<◌, ◌≤◌, ◌==◌, Bool, true, false, cond, List, [], ◌∷◌, length, length-map, Option, None, Some, refl, sym, ap, subst, ◌∙◌, arith}
+use Rattle.std.proofs.Common.{◌≡◌, ℕ, ◌+◌, ◌≤◌, ◌==◌, Bool, true, false, cond, All, List, [], ◌∷◌, length, Option, None, Some, refl, sym, ap, subst, ◌∙◌, arith}
 use Rattle.std.specs.Prelude.{IsSome}
 use Rattle.std.proofs.lemmas.Bool.{false≢true}
-use Rattle.std.proofs.lemmas.List.{nil_from_length}
+use Rattle.std.proofs.lemmas.List.{length-map, nil_from_length}
 use Rattle.std.proofs.lemmas.Option.{none-some, slice_get_within}
 use Rattle.block_model.specs.declared.place.Spot.{Spot}
+use Rattle.block_model.specs.declared.reply.Point.TheVariants as points
 use Rattle.block_model.specs.declared.schema.Index.{Index}
 use Rattle.store_layout.specs.DiskLayout.{DiskLayout}
 use Rattle.index_steps.specs.ShownTable.{indexes_of, numbers_from}
-use Rattle.brin_insert.specs.AskedFor.{AsksNothingMore}
+use Rattle.page_locks.specs.declared.did.Did.{Did}
+use Rattle.page_locks.specs.declared.did.Did.TheVariants as did
+use Rattle.brin_insert.specs.AskedFor.{AsksFirst, AsksNothingMore}
 use Rattle.brin_insert.specs.declared.insert.Insert.{Insert}
+use Rattle.brin_insert.specs.InsertAnswers.{StandsPlaced}
 use Rattle.brin_insert.specs.InsertHands.{InsertHand}
-use Rattle.brin_insert.specs.Inserts.{HasStepLeft, IsDroppedFew, IsInsertFor}
+use Rattle.brin_insert.specs.Inserts.{HasStepLeft, IsDroppedFew, IsInsertFor, IsOfIndexes}
 use Rattle.brin_insert.proofs.Tasks.{none_was}
 use Rattle.store_inserts.proofs.Beside.{at_work_of}
 
@@ -43,6 +47,31 @@ few_dropped layout insert made step_left some =
     let few = few_there insert.place work.x insert.asking insert.at (length insert.dropped.items) work.placed made.few in
     let many : length insert.works.items ≡ length (indexes_of layout insert.row.table) = sym (length-map insert.works.items (λ (h : InsertHand). h.index)) ∙ ap length made.numbers in
     omega (arith, below, few, many, indexes_few layout insert.row.table)
+
+-- in the layout that the pages have then
+pub dropped_within : (layout other : DiskLayout) → other ≡ layout → (insert : Insert) (requests : List (ℕ × ℕ)) → requests ≡ insert.dropped.items → IsInsertFor layout insert → HasStepLeft insert → IsSome insert.place
+    → length requests ≤ length other.schema.indexes
+dropped_within layout other same insert requests are made step_left some =
+    let few = few_dropped layout insert made step_left some in
+    let as_many : length requests ≡ length insert.dropped.items = ap length are in
+    let indexes : length other.schema.indexes ≡ length layout.schema.indexes = ap (λ (l : DiskLayout). length l.schema.indexes) same in
+    omega (arith, few, as_many, indexes)
+
+pub dropped_named : (layout other : DiskLayout) → other ≡ layout → (insert : Insert) (requests : List (ℕ × ℕ)) → requests ≡ insert.dropped.items → IsInsertFor layout insert
+    → All (IsOfIndexes (length other.schema.indexes)) requests
+dropped_named layout other same insert requests are made =
+    subst (λ (l : DiskLayout). All (IsOfIndexes (length l.schema.indexes)) requests) (sym same)
+    (subst (λ (l : List (ℕ × ℕ)). All (IsOfIndexes (length layout.schema.indexes)) l) (sym are) made.named)
+
+-- the row of an insert stands where it stood
+pub stands_still : (was now : Option Spot) → IsSome was → StandsPlaced was now → IsSome now
+stands_still None now some placed = absurd (false≢true some)
+stands_still (Some x) now some placed = subst (λ (o : Option Spot). IsSome o) (sym placed) refl
+
+-- one that answers anything else than that it asks had nothing to ask for
+pub silent_end : (asking : Bool) (answer : Did) → AsksFirst asking answer → (answer ≡ did.Moved points.Ask → ⊥) → asking ≡ false
+silent_end true answer first other = absurd (other first)
+silent_end false answer first other = refl
 
 -- one whose row stands nowhere has nothing to ask for
 pub silent_nowhere : (layout : DiskLayout) (insert : Insert) → IsInsertFor layout insert → insert.place ≡ None → insert.asking ≡ false

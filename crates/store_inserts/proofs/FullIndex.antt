@@ -1,5 +1,5 @@
 -- an index that is full for an insert
-use Rattle.std.proofs.Common.{◌≡◌, ◌≢◌, ℕ, ◌+◌, ◌≤◌, length, Bool, true, false, List, [], ◌∷◌, Option, None, Some, refl, sym, ap, subst, ◌∙◌}
+use Rattle.std.proofs.Common.{◌≡◌, ℕ, ◌≤◌, length, Bool, true, false, Some, refl, sym, ap, subst, ◌∙◌}
 use Rattle.std.proofs.lemmas.Bool.{false≢true}
 use Rattle.block_model.specs.declared.place.Spot.{Spot}
 use Rattle.block_model.specs.declared.reply.Refusal.TheVariants as refusals
@@ -7,12 +7,10 @@ use Rattle.block_model.specs.declared.reply.Refusal.{Refusal}
 use Rattle.block_model.specs.declared.reply.Reply.TheVariants as replies
 use Rattle.block_model.specs.declared.request.Tag.TheVariants as tags
 use Rattle.block_model.specs.declared.row.Row.{Row}
-use Rattle.store_layout.specs.DiskLayout.{DiskLayout}
 use Rattle.row_versions.specs.declared.sessions.Open.{Open}
 use Rattle.statements.specs.declared.limits.TheConstants.{MAX_ENTRIES}
 use Rattle.transactions.specs.CountedRows.{counts as counts_of}
 use Rattle.coverage.specs.Statements.{OnIndex}
-use Rattle.table_coverage.specs.Refusals as causes
 use Rattle.table_coverage.specs.Refusals.{IndexNumber, InsertFull, IsFull, IsTaskFull, MaintainFull, insert_refusal}
 use Rattle.table_coverage.specs.Machines.{ShownTable}
 use Rattle.table_coverage.specs.Table.{Asks, Inserts, TableState, Task}
@@ -29,7 +27,7 @@ use Rattle.store_parts.specs.PlacesAfter.{TurnsIn, refusal_in}
 use Rattle.store_parts.specs.RefusalLaws.{CountsNoMore, InsertIsRefused, refused_in}
 use Rattle.store_parts.specs.ShowsPlace.{IsPlaceOf}
 use Rattle.store_parts.specs.StepLaws.{TurnIsRefused}
-use Rattle.store_parts.specs.StoreStates.{ShownStore, hand_in}
+use Rattle.store_parts.specs.StoreStates.{ShownStore}
 use Rattle.store_parts.specs.TableLaws.{IsQuiet}
 use Rattle.store_inserts.proofs.AtIndex.{AtIndex, hand_here, insert_of, kept_here, on_there, put_of, shows_here, task_asking, task_before, task_here}
 use Rattle.store_inserts.proofs.Points.{is_at_index}

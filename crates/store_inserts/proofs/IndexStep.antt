@@ -1,6 +1,5 @@
 -- a step of an insert in an index, as a step of the place that the store shows
-use Rattle.std.proofs.Common.{◌≡◌, ◌≢◌, ◌⊎◌, inl, inr, ℕ, ◌<◌, ◌≤◌, List, [], ◌∷◌, length, Option, None, Some, refl, sym, ap, subst, ◌∙◌, arith, ◌+◌}
-use Rattle.std.specs.Prelude.{slice_get}
+use Rattle.std.proofs.Common.{◌≡◌, ◌≢◌, inl, ℕ, false, ◌<◌, ◌≤◌, List, [], ◌∷◌, length, Option, None, Some, refl, sym, ap, subst, ◌∙◌, arith}
 use Rattle.std.specs.FinMap as finite
 use Rattle.std.proofs.lemmas.Option.{none-some, same_Some}
 use Rattle.block_model.specs.declared.place.Place.{Place as PagePlace}
@@ -10,14 +9,8 @@ use Rattle.block_model.specs.declared.reply.Point.TheVariants as points
 use Rattle.block_model.specs.declared.reply.Reply.TheVariants as replies
 use Rattle.block_model.specs.declared.request.Entry.{Entry}
 use Rattle.block_model.specs.declared.row.Row.{Row}
-use Rattle.block_model.specs.DatabaseState.{DatabaseState}
-use Rattle.block_model.specs.RequestEffect.{Answer, Inserted}
-use Rattle.block_model.specs.SerialRun.{IsLegal, serial_run}
-use Rattle.store_layout.specs.DiskLayout.{DiskLayout}
-use Rattle.page_layout.specs.PageContents.{Slot}
-use Rattle.page_store.specs.PageMap.{PageMap, block_at, page_at}
-use Rattle.page_locks.specs.declared.did.Did.{Did}
-use Rattle.page_locks.specs.declared.did.Did.TheVariants as did
+use Rattle.block_model.specs.RequestEffect.{Inserted}
+use Rattle.page_store.specs.PageMap.{block_at, page_at}
 use Rattle.page_locks.specs.LockHolders.{holder}
 use Rattle.page_locks.specs.RightHolders.{right_of}
 use Rattle.opened_pages.specs.PageOrder.{IsIndexInOrder}
@@ -26,28 +19,18 @@ use Rattle.heap_rows.specs.Heaps.{relation_of as heap_of}
 use Rattle.row_versions.specs.declared.sessions.Open.{Open}
 use Rattle.row_versions.specs.StoredVersions.{transaction_of}
 use Rattle.statements.specs.declared.limits.TheConstants.{MAX_ENTRIES}
-use Rattle.statements.specs.declared.statement.Statement.{Statement}
 use Rattle.statements.specs.declared.statement.Statement.TheVariants as statements
 use Rattle.snapshot_core.specs.declared.statuses.Status.{Status}
 use Rattle.tx_table.specs.Statuses.{status_relation}
 use Rattle.transactions.specs.CountedRows.{counts as counts_of}
-use Rattle.transactions.specs.Laws.{ShowAlike}
-use Rattle.transactions.specs.ShowsDatabase.{ShowsDatabase}
 use Rattle.transactions.specs.TransactionsState.{TransactionsState}
-use Rattle.coverage.specs.Statements.{OnIndex}
-use Rattle.range_tuple.specs.TupleBytes.{tuple_bytes}
 use Rattle.index_contents.specs.IndexContents.{index_page, relation_of as index_relation}
 use Rattle.table_coverage.specs.Accounts.{Account, Asked, no_account}
 use Rattle.table_coverage.specs.GoingOn.{IsInserting}
-use Rattle.table_coverage.specs.InOneIndex.{DoesAt}
 use Rattle.table_coverage.specs.Machines.{Unseen, table_state, task_turned}
-use Rattle.table_coverage.specs.Table.{Inserts, Resting, TableState, Task}
-use Rattle.table_coverage.specs.TableCovered.{IsTableKept}
-use Rattle.table_coverage.specs.TableSteps.{Settles}
+use Rattle.table_coverage.specs.Table.{Resting, TableState, Task}
 use Rattle.table_coverage.proofs.Views.{pick_other, pick_same}
-use Rattle.index_steps.specs.IndexTuples.{index_at, shape_of}
 use Rattle.index_steps.specs.ShownRows.{shown_by}
-use Rattle.index_steps.specs.ShownTable.{indexes_of}
 use Rattle.index_steps.specs.SwapAnswers.{LeavesLocks}
 use Rattle.line_texts.specs.Names.{dropped_of}
 use Rattle.line_texts.specs.Place.{Hand as HandAt, Place, accounts_at, database_at}
@@ -55,29 +38,21 @@ use Rattle.line_texts.specs.Requests.{Course, MakesAll, NoneLeft}
 use Rattle.line_texts.specs.StatementSteps.{Ended, MakesAt, Moved, Steps, course_of}
 use Rattle.brin_insert.specs.AskedFor.{InsertAsks}
 use Rattle.brin_insert.specs.declared.insert.Insert.{Insert}
-use Rattle.brin_insert.specs.InsertAnswers.{AccountsCome, DoesWith, InsertDid, InsertGoesTo, InsertStepped, heap_after, relation_at}
+use Rattle.brin_insert.specs.InsertAnswers.{AccountsCome, DoesWith, InsertGoesTo, relation_at}
 use Rattle.brin_insert.specs.InsertHands.{InsertHand}
-use Rattle.brin_insert.specs.InsertSteps.{on_index}
-use Rattle.brin_insert.specs.Inserts.{IsInsertFor, task_of, work_of}
-use Rattle.brin_insert.proofs.Numbers.{number_within, own_table}
-use Rattle.brin_insert.proofs.Outcomes.{index_next}
-use Rattle.brin_insert.proofs.Tasks.{number_there, task_is}
+use Rattle.brin_insert.specs.Inserts.{task_of}
 use Rattle.store_parts.specs.declared.hand.Hand.{Hand}
 use Rattle.store_parts.specs.declared.hand.Hand.TheVariants as hands
 use Rattle.store_parts.specs.Hands.{HandShows, put_answers}
 use Rattle.store_parts.specs.HandsAsk.{HandAsked, named_requests}
 use Rattle.store_parts.specs.HandsInTables.{IsTaskOf, table_in}
-use Rattle.store_parts.specs.LeadLaws.{NoRequestLeads, NothingLeavesSlots, SameCountsFew}
 use Rattle.store_parts.specs.Leaving.{IsRelationOf, LeavesOthers, LocksIn, StepsInTable}
-use Rattle.store_parts.specs.PlaceLaws.{TableStepIsShown}
 use Rattle.store_parts.specs.PlacesAfter.{TurnsAsking, place_after, place_asking, point_in}
 use Rattle.store_parts.specs.ShowsPlace.{IsOfTransaction, IsPlaceOf, IsRowOf, ShowsTable, is_put}
-use Rattle.store_parts.specs.StepLaws.{MachineTurns, TurnGoesOn, TurnReplies}
 use Rattle.store_parts.specs.StoreStates.{ShownStore, dropped_in, hand_in}
-use Rattle.store_parts.specs.TableLaws.{OwnTableGoesOn}
 use Rattle.store_parts.proofs.Asks.{asked_are_named}
 use Rattle.store_inserts.proofs.Asking.{ComesOf, comes_so}
-use Rattle.store_inserts.proofs.AtIndex.{AtIndex, busy_before, hand_here, in_table, insert_of, kept_here, on_there, own_relation, own_row_here, put_of, relation_here, shows_here, task_before, task_here, told_here}
+use Rattle.store_inserts.proofs.AtIndex.{AtIndex, busy_before, hand_here, in_table, insert_of, kept_here, own_relation, own_row_here, put_of, relation_here, shows_here, task_here}
 use Rattle.store_inserts.proofs.Points.{IsPlain, index_point}
 use Rattle.store_inserts.specs.TakenLaws.{IndexLaws}
 

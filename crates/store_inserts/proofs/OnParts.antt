@@ -1,8 +1,7 @@
 -- a later step of an insert, over the parts of a store
-use Rattle.std.proofs.Common.{◌≡◌, ◌≢◌, inl, ℕ, ◌+◌, ◌<◌, ◌≤◌, List, [], ◌∷◌, length, Option, None, Some, Ok, refl, sym, ap, subst, ◌∙◌, arith}
+use Rattle.std.proofs.Common.{◌≡◌, ◌≢◌, inl, ℕ, false, ◌+◌, ◌<◌, ◌≤◌, List, length, Option, None, Some, refl, sym, ap, subst, ◌∙◌, arith}
 use Rattle.std.specs.Prelude.{IfSome, IsSome, slice_get}
 use Rattle.disk_trait.specs.Told.{Told}
-use Rattle.block_model.specs.declared.place.Place.{Place as PagePlace}
 use Rattle.block_model.specs.declared.place.Spot.{Spot}
 use Rattle.block_model.specs.declared.reply.Point.{Point}
 use Rattle.block_model.specs.declared.reply.Reply.TheVariants as replies
@@ -11,7 +10,7 @@ use Rattle.block_model.specs.declared.reply.What.TheVariants as whats
 use Rattle.block_model.specs.declared.row.Row.{Row}
 use Rattle.store_layout.specs.DiskLayout.{DiskLayout}
 use Rattle.page_layout.specs.PageContents.{Slot}
-use Rattle.page_store.specs.Keeps.{Keeps, Leaves, Tells}
+use Rattle.page_store.specs.Keeps.{Keeps, Tells}
 use Rattle.page_store.specs.PageMap.{PageMap, View, page_at}
 use Rattle.page_locks.specs.declared.did.Did.{Did}
 use Rattle.page_locks.specs.declared.did.Did.TheVariants as did
@@ -30,10 +29,8 @@ use Rattle.index_order.specs.KeepsOrder.{KeepsOrder}
 use Rattle.index_steps.specs.ShownRows.{shown_by}
 use Rattle.index_steps.specs.ShownTable.{indexes_of}
 use Rattle.index_steps.specs.SwapAnswers.{LeavesLocks, TakesAtMost}
-use Rattle.table_coverage.specs.Table.{Resting}
-use Rattle.line_texts.specs.Place.{Place}
 use Rattle.brin_insert.specs.declared.insert.Insert.{Insert}
-use Rattle.brin_insert.specs.InsertAnswers.{BlockedOn, InsertDid, InsertStepped, IsLeftBy, LeavesOtherRelations, StandsPlaced, heap_after, relation_at}
+use Rattle.brin_insert.specs.InsertAnswers.{BlockedOn, InsertDid, InsertStepped, LeavesOtherRelations, StandsPlaced, heap_after, relation_at}
 use Rattle.brin_insert.specs.AskedFor.{InsertAsks}
 use Rattle.brin_insert.specs.InsertHands.{InsertHand}
 use Rattle.brin_insert.specs.InsertLocks.{held_by, stage_at, stage_of, taken_by}
@@ -48,14 +45,12 @@ use Rattle.store_parts.specs.declared.hand.Hand.{Hand}
 use Rattle.store_parts.specs.declared.hand.Hand.TheVariants as hands
 use Rattle.store_parts.specs.declared.hand.Stepped.{Stepped}
 use Rattle.store_parts.specs.declared.hand.Stepped.TheVariants as stepped
-use Rattle.store_parts.specs.declared.limits.TheConstants.{MAX_LOCKS}
 use Rattle.store_parts.specs.declared.parts.Parts.{Parts}
 use Rattle.store_parts.specs.Hands.{statement_of}
 use Rattle.store_parts.specs.Shares.{share_of}
 use Rattle.store_parts.specs.StepIs.{hand_after}
-use Rattle.store_parts.specs.HandFits.{FitsHand, IsHandFor, IsOwnRow, IsUnderWay, locks_held}
+use Rattle.store_parts.specs.HandFits.{FitsHand, IsHandFor, IsOwnRow, locks_held}
 use Rattle.store_parts.specs.Leaving.{LeavesOthers}
-use Rattle.store_parts.specs.ShowsPlace.{IsPlaceOf}
 use Rattle.store_parts.specs.StepAnswers.{StaysReady}
 use Rattle.store_parts.specs.Stepping.{IsFit, LeavesTheOthers}
 use Rattle.store_parts.specs.StoreLaws.{HandChanges}
@@ -105,16 +100,6 @@ pub record MachineLeft {D : Type 0} (told : D → Told) (parts : Parts D) (pages
   pub row : after.row ≡ before.row
   pub ready : StaysReady parts.pages pages
 
--- what it makes of the requests for summaries, and of what sessions asked for in vain
-pub record AskedLeft {D : Type 0} (told : D → Told) (parts : Parts D) (queue : List (ℕ × ℕ)) (dropped : List (List Dropped)) (n : ℕ) (before after : Insert) : Type 0 where
-  pub asks : Tells told parts.pages → InsertAsks parts.pages.layout parts.pages.pages before after parts.queue queue
-  pub others : (m : ℕ) → m ≢ n → dropped_in dropped m ≡ dropped_in parts.dropped m
-
--- nothing, where it has nothing to ask for
-pub asks_none : {D : Type 0} (told : D → Told) (parts : Parts D) (n : ℕ) (before after : Insert) → (Tells told parts.pages → InsertAsks parts.pages.layout parts.pages.pages before after parts.queue parts.queue)
-    → AskedLeft told parts parts.queue parts.dropped n before after
-asks_none told parts n before after asks = record { asks = asks; others = λ m apart. refl }
-
 -- an insert that has no step left has no locks
 pub none_left : (insert : Insert) → (HasStepLeft insert → ⊥) → (locks : LockState) (n : ℕ) → locks_of locks n ≤ held_by (stage_of insert) → locks_of locks n ≤ 0
 none_left insert none locks n few = by_place insert.place (work_of insert) none few
@@ -149,7 +134,7 @@ waited_there layout other same index block what named table at there =
     subst (λ (l : DiskLayout). slice_get (indexes_of l table) at ≡ Some index → what ≡ whats.Page (index_name l table at) block) same (named table at) there
 
 module _ {D : Type 0} (told : D → Told) (changes : HandChanges) (of_parts : FitOfParts told) (of_stores : FitOfStores told) (parts : Parts D) (pages : View D) (locks : LockState) (n : ℕ) (queue : List (ℕ × ℕ)) (dropped : List (List Dropped)) (before after : Insert)
-    (fit : IsFit told parts n (hands.Inserts before)) (left : MachineLeft told parts pages locks n before after) (left_asked : AskedLeft told parts queue dropped n before after) where
+    (fit : IsFit told parts n (hands.Inserts before)) (left : MachineLeft told parts pages locks n before after) (kept_others : (m : ℕ) → m ≢ n → dropped_in dropped m ≡ dropped_in parts.dropped m) where
   abbrev new : Parts D
   new = record parts { pages = pages; locks = locks; queue = queue; dropped = dropped }
 
@@ -191,7 +176,7 @@ module _ {D : Type 0} (told : D → Told) (changes : HandChanges) (of_parts : Fi
     leaves = left.others.leaves;
     transactions = λ m other. refl;
     locks = λ m other. left.counts.adds.others m other;
-    dropped = left_asked.others;
+    dropped = kept_others;
     rights = refl;
     promised = ap (λ (s : ℕ). parts.journal.promised + s) share;
   })
@@ -221,8 +206,8 @@ module _ {D : Type 0} (told : D → Told) (changes : HandChanges) (of_parts : Fi
       opens = λ m other. refl;
     }
 
-    in_index : Tells told parts.pages → after.place ≡ Some work.x → (h : Option Hand) → InIndex before_it (after_it h) n before after work.hand work.x
-    in_index tells still h = record {
+    in_index : Tells told parts.pages → InsertAsks parts.pages.layout parts.pages.pages before after parts.queue queue → after.place ≡ Some work.x → (h : Option Hand) → InIndex before_it (after_it h) n before after work.hand work.x
+    in_index tells asks still h = record {
       at = at_index;
       still = still;
       row = left.row;
@@ -233,8 +218,8 @@ module _ {D : Type 0} (told : D → Told) (changes : HandChanges) (of_parts : Fi
       transactions = refl;
       rights = refl;
       entries = refl;
-      asks = left_asked.asks tells;
-      dropped = left_asked.others;
+      asks = asks;
+      dropped = kept_others;
       few = fits.entries;
     }
 
@@ -261,14 +246,15 @@ module _ {D : Type 0} (told : D → Told) (changes : HandChanges) (of_parts : Fi
   -- it goes on
   pub moved_so : IndexLaws → (point : Point) → OfBlocks told parts.pages before.row.table (InsertStepped parts.pages.layout parts.pages.pages pages.pages parts.locks locks n before after (did.Moved point))
       → HasStepLeft after → StandsPlaced before.place after.place → locks_of locks n ≤ held_by (stage_of after) → dropped_in dropped n ≡ named_requests parts.pages.layout after.dropped.items
+      → (Tells told parts.pages → InsertAsks parts.pages.layout parts.pages.pages before after parts.queue queue)
       → StepsSo told parts new n (hands.Inserts before) (stepped.Moved point (hands.Inserts after))
   unfolding in_index at_index
-  moved_so laws point stepped_so step_left placed own named = record {
+  moved_so laws point stepped_so step_left placed own named asks = record {
     steps = λ names hand_list has tells ready then p shown.
         let at = at_index names hand_list has in
         let shows = shows_here (before_it names hand_list has) n before work.hand work.x at p shown in
         let it = came (did.Moved point) stepped_so tells shows.blocks shows.has in
-        goes_on (before_it names hand_list has) (after_it names hand_list has (Some (hands.Inserts after))) n before after work.hand work.x (in_index names hand_list has tells (still_there placed) (Some (hands.Inserts after))) p shown
+        goes_on (before_it names hand_list has) (after_it names hand_list has (Some (hands.Inserts after))) n before after work.hand work.x (in_index names hand_list has tells (asks tells) (still_there placed) (Some (hands.Inserts after))) p shown
         point it.0 (has_then (did.Moved point) stepped_so tells shows.blocks shows.has) laws (now_has names hand_list has (Some (hands.Inserts after))) it.1 named;
     fit = stays_fit told changes of_stores parts new n (hands.Inserts before) (stepped.Moved point (hands.Inserts after)) (fits_then (Some (hands.Inserts after)) (in_hand_then step_left (placed_then placed)) own refl);
     others = others_so (stepped.Moved point (hands.Inserts after)) refl;
@@ -279,14 +265,15 @@ module _ {D : Type 0} (told : D → Told) (changes : HandChanges) (of_parts : Fi
   -- it is done
   pub done_so : IndexLaws → (point : Point) → OfBlocks told parts.pages before.row.table (InsertStepped parts.pages.layout parts.pages.pages pages.pages parts.locks locks n before after (did.Finished point))
       → StandsPlaced before.place after.place → locks_of locks n ≤ 0 → before.asking ≡ false → dropped ≡ parts.dropped
+      → (Tells told parts.pages → InsertAsks parts.pages.layout parts.pages.pages before after parts.queue queue)
       → StepsSo told parts new n (hands.Inserts before) (stepped.Done (replies.Inserted before.row.id))
   unfolding in_index at_index
-  done_so laws point stepped_so placed own silent kept = record {
+  done_so laws point stepped_so placed own silent kept asks = record {
     steps = λ names hand_list has tells ready then p shown.
         let at = at_index names hand_list has in
         let shows = shows_here (before_it names hand_list has) n before work.hand work.x at p shown in
         let it = came (did.Finished point) stepped_so tells shows.blocks shows.has in
-        is_done (before_it names hand_list has) (after_it names hand_list has None) n before after work.hand work.x (in_index names hand_list has tells (still_there placed) None) p shown
+        is_done (before_it names hand_list has) (after_it names hand_list has None) n before after work.hand work.x (in_index names hand_list has tells (asks tells) (still_there placed) None) p shown
         point it.0 (has_then (did.Finished point) stepped_so tells shows.blocks shows.has) laws (now_has names hand_list has None) it.1 silent (ap (λ (l : List (List Dropped)). dropped_in l n) kept);
     fit = stays_fit told changes of_stores parts new n (hands.Inserts before) (stepped.Done (replies.Inserted before.row.id)) (fits_then None tt own refl);
     others = others_so (stepped.Done (replies.Inserted before.row.id)) refl;

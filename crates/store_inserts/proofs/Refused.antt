@@ -1,23 +1,20 @@
 -- an insert that is refused, as a step of the place that the store shows
-use Rattle.std.proofs.Common.{◌≡◌, ◌≢◌, ◌⊎◌, inl, inr, ℕ, ◌+◌, ◌<◌, ◌≤◌, Bool, true, false, not, List, [], ◌∷◌, ◌++◌, length, Option, None, Some, refl, sym, ap, subst, ◌∙◌, arith, length-append}
-use Rattle.std.specs.Prelude.{IsTrue, ◌&&◌, ◌==◌}
+use Rattle.std.proofs.Common.{◌≡◌, ◌≢◌, ℕ, ◌+◌, ◌<◌, ◌≤◌, Bool, true, false, not, List, [], ◌∷◌, ◌++◌, length, Option, None, Some, refl, sym, ap, subst, ◌∙◌, arith, length-append}
+use Rattle.std.specs.Prelude.{◌&&◌, ◌==◌}
 use Rattle.std.specs.FinMap as finite
-use Rattle.std.proofs.lemmas.Bool.{and_parts, eq-eqb, false≢true}
-use Rattle.std.proofs.lemmas.Option.{none-some, same_Some}
+use Rattle.std.proofs.lemmas.Bool.{and_parts, eq-eqb}
+use Rattle.std.proofs.lemmas.Option.{none-some}
 use Rattle.block_model.specs.declared.place.Place.{Place as PagePlace}
 use Rattle.block_model.specs.declared.reply.Refusal.{Refusal}
-use Rattle.block_model.specs.declared.reply.Refusal.TheVariants as refusals
 use Rattle.block_model.specs.declared.reply.Reply.TheVariants as replies
 use Rattle.block_model.specs.declared.request.Entry.{Entry}
 use Rattle.block_model.specs.declared.request.Request.TheVariants as requests
 use Rattle.block_model.specs.declared.request.Tag.{Tag}
 use Rattle.block_model.specs.declared.request.Tag.TheVariants as tags
-use Rattle.block_model.specs.declared.row.Row.{Row}
 use Rattle.block_model.specs.declared.value.Value.{Value}
 use Rattle.block_model.specs.DatabaseState.{DatabaseState, OpenTransaction}
 use Rattle.block_model.specs.RequestEffect.{Answer, after_failure, effect}
-use Rattle.store_layout.specs.DiskLayout.{DiskLayout}
-use Rattle.page_store.specs.PageMap.{block_at, page_at}
+use Rattle.page_store.specs.PageMap.{page_at}
 use Rattle.page_locks.specs.LockChanges.{GivesAll}
 use Rattle.page_locks.specs.LockHolders.{holder}
 use Rattle.page_locks.specs.RightHolders.{right_of}
@@ -27,12 +24,10 @@ use Rattle.snapshot_core.specs.declared.statuses.Status.{Status}
 use Rattle.row_versions.specs.declared.sessions.Open.{Open}
 use Rattle.row_versions.specs.StoredVersions.{transaction_of}
 use Rattle.statements.specs.declared.limits.TheConstants.{MAX_ENTRIES}
-use Rattle.statements.specs.declared.statement.Statement.{Statement}
-use Rattle.statements.specs.declared.statement.Statement.TheVariants as statements
 use Rattle.statements.specs.StatementRequests.{tagged_entry}
 use Rattle.tx_table.specs.Statuses.{status_relation}
 use Rattle.transactions.specs.CountedRows.{counts as counts_of}
-use Rattle.transactions.specs.Laws.{FailsOnly, FailureCounts, FailureIsShown, RefusalIsFailure, SessionsAreShown, ShowAlike}
+use Rattle.transactions.specs.Laws.{FailsOnly}
 use Rattle.transactions.specs.ShowsDatabase.{DoesRequest, ShowsDatabase}
 use Rattle.transactions.specs.TransactionsState.{TransactionsState, with_failed}
 use Rattle.index_contents.specs.IndexContents.{index_page, relation_of as index_relation}
@@ -41,17 +36,14 @@ use Rattle.table_coverage.specs.Refusals as causes
 use Rattle.table_coverage.specs.Table.{TableState}
 use Rattle.line_texts.specs.Place.{Hand as HandAt, Place, database_at}
 use Rattle.line_texts.specs.Requests.{refused_request}
-use Rattle.line_texts.specs.StatementSteps.{Ended, LacksRoom, Outcome, RefusesSo, Steps, StepsTo}
+use Rattle.line_texts.specs.StatementSteps.{Ended, LacksRoom, RefusesSo, Steps, StepsTo}
 use Rattle.store_parts.specs.declared.hand.Hand.{Hand}
 use Rattle.store_parts.specs.Hands.{HandShows}
 use Rattle.store_parts.specs.HandsAsk.{IsNoInsert}
 use Rattle.store_parts.specs.HandsInTables.{table_in}
-use Rattle.store_parts.specs.LeadLaws.{FailureCountsNoMore, FewerCountsFew, RequestLeads}
 use Rattle.store_parts.specs.Leaving.{GivesLocks, LeavesOthers, StepsInTable}
-use Rattle.store_parts.specs.PlaceLaws.{TableStepIsShown}
 use Rattle.store_parts.specs.PlacesAfter.{TurnsIn, place_after, refusal_in}
-use Rattle.store_parts.specs.RefusalLaws.{CountsNoMore, RefusalIsShown, refused_in}
-use Rattle.store_parts.specs.RequestLaws.{PutIsLegal}
+use Rattle.store_parts.specs.RefusalLaws.{CountsNoMore, refused_in}
 use Rattle.store_parts.specs.ShowsPlace.{IsPlaceOf, ShowsTable}
 use Rattle.store_parts.specs.StepLaws.{TurnIsRefused}
 use Rattle.store_parts.specs.StoreStates.{ShownStore, hand_in}

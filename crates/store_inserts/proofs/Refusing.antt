@@ -1,5 +1,5 @@
 -- what a refusal, and a step that the pages refuse, leave of the parts of a store
-use Rattle.std.proofs.Common.{◌≡◌, ◌≢◌, ℕ, ◌+◌, ◌<◌, ◌≤◌, Bool, false, List, [], ◌∷◌, ◌++◌, length, Option, None, Some, refl, sym, ap, subst, ◌∙◌, arith, length-append, if◌then◌else◌}
+use Rattle.std.proofs.Common.{◌≡◌, ◌≢◌, ℕ, ◌+◌, ◌≤◌, Bool, false, List, [], ◌∷◌, ◌++◌, length, Option, None, Some, refl, sym, ap, subst, ◌∙◌, arith, length-append, if◌then◌else◌}
 use Rattle.std.proofs.lemmas.Option.{none-some}
 use Rattle.disk_trait.specs.Told.{Told}
 use Rattle.block_model.specs.declared.reply.Reply.{Reply}
@@ -20,13 +20,12 @@ use Rattle.tx_table.specs.TxState.{IsOver, TxState}
 use Rattle.transactions.specs.TransactionsState.{TransactionsState, with_failed}
 use Rattle.store_parts.specs.declared.hand.Hand.{Hand}
 use Rattle.store_parts.specs.declared.hand.Stepped.TheVariants as stepped
-use Rattle.store_parts.specs.declared.limits.TheConstants.{MAX_LOCKS}
 use Rattle.store_parts.specs.declared.parts.Parts.{Parts}
 use Rattle.store_parts.specs.Hands.{statement_of}
-use Rattle.store_parts.specs.HandFits.{FitsHand, locks_held, right_held}
+use Rattle.store_parts.specs.HandFits.{FitsHand, right_held}
 use Rattle.store_parts.specs.JournalState.{JournalState}
 use Rattle.store_parts.specs.Shares.{hand_share, open_share, share_of}
-use Rattle.store_parts.specs.StepAnswers.{HasFaultCause, StaysReady, StaysWhereUndone}
+use Rattle.store_parts.specs.StepAnswers.{HasFaultCause, StaysWhereUndone}
 use Rattle.store_parts.specs.Stepping.{LeavesTheOthers, StaysFit}
 use Rattle.store_parts.specs.StoreFaults.{fault_of}
 use Rattle.store_parts.specs.StoreLaws.{HandChanges}

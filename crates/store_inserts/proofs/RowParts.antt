@@ -1,7 +1,7 @@
 -- the first step of an insert, over the parts of a store
-use Rattle.std.proofs.Common.{◌≡◌, ◌≢◌, ℕ, ◌+◌, ◌-◌, ◌*◌, ◌^◌, ◌<◌, ◌≤◌, Bool, true, false, List, [], ◌∷◌, ◌++◌, length, Option, None, Some, refl, sym, ap, subst, ◌∙◌, arith, length-append, if◌then◌else◌}
-use Rattle.std.specs.Prelude.{IsSome, ◌==◌}
-use Rattle.std.proofs.lemmas.Option.{none-some, same_Some}
+use Rattle.std.proofs.Common.{◌≡◌, ◌≢◌, ℕ, ◌+◌, ◌-◌, ◌*◌, ◌<◌, ◌≤◌, false, List, [], ◌∷◌, ◌++◌, length, Option, None, Some, refl, sym, ap, subst, ◌∙◌, arith, length-append}
+use Rattle.std.specs.Prelude.{IsSome}
+use Rattle.std.proofs.lemmas.Option.{none-some}
 use Rattle.disk_trait.specs.Told.{Told}
 use Rattle.block_model.specs.declared.place.Spot.{Spot}
 use Rattle.block_model.specs.declared.reply.Point.{Point}
@@ -17,8 +17,7 @@ use Rattle.block_model.specs.declared.row.RowId.{RowId}
 use Rattle.block_model.specs.declared.value.Value.{Value}
 use Rattle.store_layout.specs.DiskLayout.{DiskLayout}
 use Rattle.page_layout.specs.PageContents.{Slot}
-use Rattle.page_store.specs.declared.faults.MachineFault.TheVariants as faults
-use Rattle.page_store.specs.Keeps.{Keeps, Leaves, Tells}
+use Rattle.page_store.specs.Keeps.{Keeps, Tells}
 use Rattle.page_store.specs.PageMap.{PageMap, View, page_at}
 use Rattle.page_locks.specs.declared.did.Did.{Did}
 use Rattle.page_locks.specs.declared.did.Did.TheVariants as did
@@ -38,28 +37,26 @@ use Rattle.tx_table.specs.TxState.{IsOver, TxState}
 use Rattle.transactions.specs.Sessions.{next_row_of}
 use Rattle.transactions.specs.TransactionsState.{TransactionsState, with_row_counted}
 use Rattle.table_coverage.specs.Refusals.{Heap, IsFull, LacksMemory}
-use Rattle.table_coverage.specs.Table.{Resting, TableState, Task}
+use Rattle.table_coverage.specs.Table.{Resting, TableState}
 use Rattle.table_coverage.specs.TableSteps.{HeapFull, IsHeapFull, RowLacksMemory}
 use Rattle.index_steps.specs.ShownRows.{shown_by}
 use Rattle.line_texts.specs.Names.{table_name}
 use Rattle.line_texts.specs.Place.{Place}
 use Rattle.line_texts.specs.StatementSteps.{Ended, ForMemory, HeapIsFull, LacksRoom, RefusesSo, Steps}
 use Rattle.brin_insert.specs.declared.insert.Insert.{Insert}
-use Rattle.brin_insert.specs.InsertAnswers.{InsertStepped, IsInsertFull, SaysInsertFull, StandsPlaced, relation_at, relation_in}
+use Rattle.brin_insert.specs.InsertAnswers.{InsertStepped, IsInsertFull, StandsPlaced, relation_at, relation_in}
 use Rattle.brin_insert.specs.InsertLocks.{held_by, stage_of}
-use Rattle.brin_insert.specs.Inserts.{HasStepLeft, IsInsertFor, task_at, task_of, work_of}
+use Rattle.brin_insert.specs.Inserts.{HasStepLeft, task_at, task_of, work_of}
 use Rattle.store_parts.specs.declared.hand.Hand.{Hand}
 use Rattle.store_parts.specs.declared.hand.Hand.TheVariants as hands
 use Rattle.store_parts.specs.declared.hand.Stepped.{Stepped}
 use Rattle.store_parts.specs.declared.hand.Stepped.TheVariants as stepped
 use Rattle.store_parts.specs.declared.parts.Parts.{Parts}
-use Rattle.store_parts.specs.Hands.{statement_of}
-use Rattle.store_parts.specs.HandFits.{FitsHand, IsHandFor, IsOwnRow, IsUnderWay, locks_held}
+use Rattle.store_parts.specs.HandFits.{FitsHand, IsOwnRow, IsUnderWay, locks_held}
 use Rattle.store_parts.specs.HandsInTables.{table_in}
 use Rattle.store_parts.specs.JournalState.{JournalState}
-use Rattle.store_parts.specs.Leaving.{LeavesOthers}
 use Rattle.store_parts.specs.ShowsPlace.{IsPlaceOf, ShowsPlace}
-use Rattle.store_parts.specs.Shares.{hand_share, open_share, share_of}
+use Rattle.store_parts.specs.Shares.{hand_share, share_of}
 use Rattle.store_parts.specs.StepAnswers.{StaysReady}
 use Rattle.store_parts.specs.StepIs.{hand_after}
 use Rattle.store_parts.specs.Stepping.{InSomeStore, IsFit, LeavesTheOthers}

@@ -1,5 +1,5 @@
 -- an insert that has no row
-use Rattle.std.proofs.Common.{◌≡◌, ℕ, ◌+◌, ◌≤◌, length, List, [], ◌∷◌, Option, None, Some, refl, sym, ap, subst, ◌∙◌}
+use Rattle.std.proofs.Common.{◌≡◌, ℕ, ◌≤◌, length, List, Option, Some, refl, sym, ap, subst, ◌∙◌}
 use Rattle.block_model.specs.declared.reply.Refusal.{Refusal}
 use Rattle.block_model.specs.declared.reply.Refusal.TheVariants as refusals
 use Rattle.block_model.specs.declared.reply.Reply.TheVariants as replies
@@ -17,7 +17,6 @@ use Rattle.table_coverage.specs.Refusals.{LacksMemory, row_refusal}
 use Rattle.table_coverage.specs.Table.{Resting, TableState, Task}
 use Rattle.table_coverage.specs.TableSteps.{IsRowRefused, RowLacksMemory}
 use Rattle.line_texts.specs.Place.{Place}
-use Rattle.line_texts.specs.Requests.{refused_request}
 use Rattle.line_texts.specs.StatementSteps.{Ended, ForMemory, LacksRoom, RefusesSo, Steps}
 use Rattle.store_parts.specs.declared.hand.Hand.{Hand}
 use Rattle.store_parts.specs.declared.hand.Hand.TheVariants as hands

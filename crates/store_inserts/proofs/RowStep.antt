@@ -1,5 +1,5 @@
 -- a row that is put, as a step of the place that the store shows
-use Rattle.std.proofs.Common.{◌≡◌, ◌≢◌, ◌⊎◌, inl, inr, ℕ, ◌+◌, ◌<◌, ◌≤◌, Bool, true, false, List, [], ◌∷◌, ◌++◌, length, Option, None, Some, refl, sym, ap, subst, ◌∙◌, arith, length-append}
+use Rattle.std.proofs.Common.{◌≡◌, ◌≢◌, inl, inr, ℕ, ◌+◌, ◌<◌, ◌≤◌, false, List, [], ◌∷◌, ◌++◌, length, Option, None, Some, refl, sym, ap, subst, ◌∙◌, arith, length-append}
 use Rattle.std.specs.FinMap as finite
 use Rattle.std.proofs.lemmas.Bool.{false≢true}
 use Rattle.std.proofs.lemmas.Option.{none-some, same_Some}
@@ -12,12 +12,9 @@ use Rattle.block_model.specs.declared.request.Entry.{Entry}
 use Rattle.block_model.specs.declared.request.Request.TheVariants as requests
 use Rattle.block_model.specs.declared.request.Tag.TheVariants as tags
 use Rattle.block_model.specs.declared.row.Row.{Row}
-use Rattle.block_model.specs.declared.row.RowId.{RowId}
 use Rattle.block_model.specs.declared.value.Value.{Value}
 use Rattle.block_model.specs.DatabaseState.{DatabaseState, OpenTransaction}
 use Rattle.block_model.specs.RequestEffect.{Answer, Inserted, next_row, reply_to}
-use Rattle.block_model.specs.SerialRun.{serial_run}
-use Rattle.store_layout.specs.DiskLayout.{DiskLayout}
 use Rattle.page_layout.specs.PageContents.{Slot}
 use Rattle.page_store.specs.PageMap.{page_at}
 use Rattle.page_locks.specs.declared.did.Did.{Did}
@@ -32,11 +29,9 @@ use Rattle.row_versions.specs.declared.sessions.Open.{Open}
 use Rattle.row_versions.specs.SessionChanges.{with_next_k}
 use Rattle.row_versions.specs.StoredVersions.{transaction_of}
 use Rattle.statements.specs.declared.limits.TheConstants.{MAX_ENTRIES}
-use Rattle.statements.specs.declared.statement.Statement.{Statement}
 use Rattle.statements.specs.declared.statement.Statement.TheVariants as statements
 use Rattle.statements.specs.StatementRequests.{request_entry}
 use Rattle.transactions.specs.CountedRows.{counts as counts_of}
-use Rattle.transactions.specs.Laws.{PutCounts, PutIsShown, PutIsUnseen, SessionsAreShown}
 use Rattle.transactions.specs.Sessions.{IsCopyOf}
 use Rattle.transactions.specs.ShowsDatabase.{DoesRequest}
 use Rattle.transactions.specs.StoredRows.{PutsRow}
@@ -66,16 +61,11 @@ use Rattle.store_parts.specs.declared.hand.Hand.TheVariants as hands
 use Rattle.store_parts.specs.Hands.{HandShows}
 use Rattle.store_parts.specs.HandsAsk.{HandAsked}
 use Rattle.store_parts.specs.HandsInTables.{IsTaskOf, table_in}
-use Rattle.store_parts.specs.LeadLaws.{PutLeavesSlots, RequestLeads, SameCountsFew}
 use Rattle.store_parts.specs.Leaving.{LeavesOthers, LocksIn, StepsInTable}
-use Rattle.store_parts.specs.PlaceLaws.{TableStepIsShown}
 use Rattle.store_parts.specs.PlacesAfter.{TurnsIn, place_after, point_in}
-use Rattle.store_parts.specs.RequestLaws.{PutIsLegal}
 use Rattle.store_parts.specs.ShowsPlace.{IsOfTransaction, IsPlaceOf, IsRowOf, ShowsTable, is_put}
-use Rattle.store_parts.specs.StepLaws.{MachineAsks, TurnAsks, TurnReplies}
 use Rattle.store_parts.specs.StoreStates.{ShownStore, dropped_in, hand_in}
-use Rattle.store_parts.specs.TableLaws.{OwnTableGoesOn}
-use Rattle.store_inserts.proofs.AtIndex.{insert_of, put_of}
+use Rattle.store_inserts.proofs.AtIndex.{put_of}
 use Rattle.store_inserts.proofs.IndexStep.{is_no_work, not_resting, put_shown}
 use Rattle.store_inserts.proofs.Opens.{open_here}
 use Rattle.store_inserts.proofs.Points.{row_point}

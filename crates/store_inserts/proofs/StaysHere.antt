@@ -1,6 +1,5 @@
 -- an insert that waits, or isn't stepped: the store shows the same place
-use Rattle.std.proofs.Common.{◌≡◌, ◌≢◌, ◌⊎◌, inl, inr, ℕ, ◌<◌, ◌≤◌, List, [], ◌∷◌, length, Option, None, Some, refl, sym, ap, subst, ◌∙◌}
-use Rattle.std.specs.Prelude.{slice_get}
+use Rattle.std.proofs.Common.{◌≡◌, inl, ℕ, ◌<◌, ◌≤◌, List, length, Option, Some, refl, sym, ap, subst, ◌∙◌}
 use Rattle.std.specs.FinMap as finite
 use Rattle.std.proofs.lemmas.Option.{same_Some}
 use Rattle.block_model.specs.declared.place.Place.{Place as PagePlace}
@@ -11,27 +10,23 @@ use Rattle.block_model.specs.declared.request.Entry.{Entry}
 use Rattle.block_model.specs.declared.row.Row.{Row}
 use Rattle.store_layout.specs.DiskLayout.{DiskLayout}
 use Rattle.page_layout.specs.PageContents.{Slot}
-use Rattle.page_store.specs.PageMap.{block_at, page_at}
+use Rattle.page_store.specs.PageMap.{page_at}
 use Rattle.page_locks.specs.LockChanges.{page_of}
 use Rattle.page_locks.specs.LockHolders.{holder}
 use Rattle.opened_pages.specs.PageOrder.{IsIndexInOrder}
 use Rattle.heap_rows.specs.Heaps.{relation_of as heap_of}
 use Rattle.snapshot_core.specs.declared.statuses.Status.{Status}
-use Rattle.row_versions.specs.declared.sessions.Open.{Open}
 use Rattle.row_versions.specs.StoredVersions.{transaction_of}
 use Rattle.statements.specs.declared.limits.TheConstants.{MAX_ENTRIES}
 use Rattle.tx_table.specs.Statuses.{status_relation}
-use Rattle.tx_table.specs.TxState.{TxState}
 use Rattle.transactions.specs.Laws.{ShowAlike}
 use Rattle.transactions.specs.TransactionsState.{TransactionsState}
 use Rattle.index_contents.specs.IndexContents.{index_page, relation_of as index_relation}
-use Rattle.table_coverage.specs.Accounts.{Account, no_account}
 use Rattle.table_coverage.specs.Machines.{table_state}
-use Rattle.table_coverage.specs.Table.{Inserts, TableState, Task}
+use Rattle.table_coverage.specs.Table.{TableState, Task}
 use Rattle.table_coverage.specs.TablePoints.{IsHeldBy, PageLock}
-use Rattle.table_coverage.specs.TableSteps.{IsBlocked}
 use Rattle.index_steps.specs.ShownRows.{shown_by}
-use Rattle.index_steps.specs.ShownTable.{indexes_of, shown_at}
+use Rattle.index_steps.specs.ShownTable.{shown_at}
 use Rattle.line_texts.specs.Names.{index_name, name_of}
 use Rattle.line_texts.specs.Place.{Hand as HandAt, Place, database_at}
 use Rattle.line_texts.specs.StatementSteps.{Steps, StepsTo, Waits}

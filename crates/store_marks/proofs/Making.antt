@@ -43,7 +43,6 @@ use Rattle.transactions.specs.CountedRows.{counts as counts_of}
 use Rattle.transactions.specs.Laws.{CopyStands, IsMarking, MarkIsShown, MarkIsUnseen, SessionsAreShown}
 use Rattle.transactions.specs.StoredRows.{conflicts_with}
 use Rattle.transactions.specs.ShowsDatabase.{DoesRequest, ShowsDatabase}
-use Rattle.table_coverage.specs.Accounts.{Account}
 use Rattle.table_coverage.specs.Machines.{ShownTable, table_state, task_turned}
 use Rattle.table_coverage.specs.TableSteps.{OnlyTurns}
 use Rattle.table_coverage.specs.Table.{Marks, Resting, TableScan, TableState, Task, pick}

@@ -26,7 +26,6 @@ use Rattle.transactions.specs.CountedRows.{counts as counts_of}
 use Rattle.transactions.specs.Laws.{ConflictIsShown, CopyStands, FailureCounts, IsMarking, SessionsAreShown}
 use Rattle.transactions.specs.ShowsDatabase.{DoesRequest, ShowsDatabase}
 use Rattle.transactions.specs.TransactionsState.{with_failed}
-use Rattle.table_coverage.specs.Accounts.{Account}
 use Rattle.table_coverage.specs.Machines.{Unseen, task_turned}
 use Rattle.table_coverage.specs.Refusals.{HasConflict}
 use Rattle.table_coverage.specs.Table.{Resting, TableState}

@@ -1,5 +1,5 @@
 -- a step of a desummarise, over the parts of a store
-use Rattle.std.proofs.Common.{◌≡◌, ◌≢◌, ◌⊎◌, inl, ℕ, ◌+◌, ◌<◌, ◌≤◌, List, length, Option, None, Some, refl, sym, ap, subst, ◌∙◌, arith}
+use Rattle.std.proofs.Common.{◌≡◌, ◌≢◌, ◌⊎◌, inl, inr, ℕ, ◌<◌, ◌≤◌, List, length, Option, None, Some, refl, sym, ap, subst, ◌∙◌, arith}
 use Rattle.std.specs.Prelude.{slice_get, slice_set}
 use Rattle.disk_trait.specs.Told.{Told}
 use Rattle.block_model.specs.declared.reply.Point.{Point}
@@ -10,7 +10,7 @@ use Rattle.block_model.specs.declared.reply.What.TheVariants as whats
 use Rattle.store_layout.specs.DiskLayout.{DiskLayout}
 use Rattle.page_layout.specs.PageContents.{Slot}
 use Rattle.page_store.specs.declared.faults.StoreError.{StoreError}
-use Rattle.page_store.specs.Keeps.{Keeps, Tells, Untold}
+use Rattle.page_store.specs.Keeps.{Keeps, Tells}
 use Rattle.page_store.specs.Outcome.{Refused}
 use Rattle.page_store.specs.PageMap.{PageMap, View}
 use Rattle.page_locks.specs.declared.did.Did.{Did}
@@ -19,7 +19,6 @@ use Rattle.page_locks.specs.declared.held.Held.{Held}
 use Rattle.page_locks.specs.LockCounts.{locks_of}
 use Rattle.page_locks.specs.LockHolders.{LockState, holder}
 use Rattle.page_locks.specs.RightHolders.{right_of}
-use Rattle.row_versions.specs.StoredVersions.{transaction_of}
 use Rattle.transactions.specs.Laws.{ShowAlike}
 use Rattle.index_contents.specs.IndexChanges.{LeavesOthers as LeavesOtherIndexes}
 use Rattle.index_contents.specs.IndexContents.{relation_of as index_relation}
@@ -35,7 +34,7 @@ use Rattle.table_coverage.specs.TableCovered.{IsTableKept}
 use Rattle.brin_desummarise.specs.declared.stage.Stage.{Stage}
 use Rattle.brin_desummarise.specs.declared.stage.Stage.TheVariants as stages
 use Rattle.brin_desummarise.specs.Desummarises.{DamageIn, DesummariseDoes, DesummariseState, IsAtWork, IsDesummariseOf, IsDone, IsLeft, RightAnswers, StandsAfter, count_at, held_at, step_of, table_of, taken_at}
-use Rattle.brin_desummarise.specs.TableSteps.{DoesInTable, account_by, task_of}
+use Rattle.brin_desummarise.specs.TableSteps.{DoesInTable, task_of}
 use Rattle.line_texts.specs.Beginnings.{StandsAt}
 use Rattle.line_texts.specs.Names.{index_name, name_of, table_name}
 use Rattle.line_texts.specs.Place.{Place}
@@ -46,15 +45,17 @@ use Rattle.store_parts.specs.declared.hand.Hand.TheVariants as hands
 use Rattle.store_parts.specs.declared.hand.Stepped.TheVariants as stepped
 use Rattle.store_parts.specs.declared.parts.Parts.{Parts}
 use Rattle.store_parts.specs.Hands.{statement_of}
+use Rattle.store_parts.specs.HandFits.{right_held, right_in}
 use Rattle.store_parts.specs.ShowsPlace.{IsPlaceOf}
 use Rattle.store_parts.specs.StepAnswers.{StaysReady}
 use Rattle.store_parts.specs.Stepping.{IsFit, IsShown}
 use Rattle.store_parts.specs.StoreFaults.{fault_of}
 use Rattle.store_parts.specs.StoreStates.{ShownStore, hand_in, shown_of, store_of}
 use Rattle.store_parts.specs.UndoneLaws.{FitsParts, StepsSo}
+use Rattle.store_parts.proofs.HeldLocks.{holder_has_lock}
 use Rattle.store_parts.proofs.Undone.{fit_of_parts}
-use Rattle.store_upkeep.proofs.DesummariseTurns.{StepsInTable, counts_on, holds_there, is_busy, is_desummarise, is_over, left_then, made_by, right_left, right_same, right_taken}
-use Rattle.store_upkeep.proofs.SummariseLocks.{OthersStay, gives_stay, gives_there, same_stays, stays_on}
+use Rattle.store_upkeep.proofs.DesummariseTurns.{StepsInTable, counts_on, holds_there, is_busy, is_desummarise, is_over, left_then, made_by, right_at_work, right_left, right_same, right_taken}
+use Rattle.store_upkeep.proofs.SummariseLocks.{OthersStay, gives_own, gives_stay, gives_there, same_stays, stays_on}
 use Rattle.store_upkeep.proofs.UpkeepAt.{IsUpkeep, at_task, counted, here, kept_here, unseen_here}
 use Rattle.store_upkeep.proofs.UpkeepParts.{PartsLeft, done_so, moved_so, new_store, old_store, refused_untold, undone_so, waits_so, with_these}
 use Rattle.store_upkeep.proofs.UpkeepStays.{waits_for_lock, waits_for_page}
@@ -146,7 +147,11 @@ module _ {D : Type 0} (told : D → Told) (parts : Parts D) (n : ℕ) (a : Desum
     same_state : b.stage ≡ a.stage → b ≡ a
     same_state stage = λ j. record { index = left.index j; block = left.block j; stage = stage j }
 
-    left_by : (rights : List (Option ℕ)) → OthersStay number parts.rights rights → PartsLeft told parts pages locks rights n a.index
+    -- and it has the summarise lock that it had
+    right_stays : b.stage ≡ a.stage → right_held parts.pages.layout (Some next) ≡ right_held parts.pages.layout (Some was)
+    right_stays same = ap (λ (i : ℕ). right_in (index_at parts.pages.layout i).table b.stage) left.index ∙ ap (right_in number) same
+
+    left_by : (rights : List (Option ℕ)) → OthersStay number n parts.rights rights → PartsLeft told parts pages locks rights n a.index
     left_by rights stays = record {
       others = left.others;
       order = left.order;
@@ -154,6 +159,7 @@ module _ {D : Type 0} (told : D → Told) (parts : Parts D) (n : ℕ) (a : Desum
       counts = λ m other. left.counts.adds.others m other;
       tables = stays.tables;
       apart = stays.apart;
+      theirs = stays.theirs;
     }
 
     -- what the machine says of its step
@@ -172,21 +178,22 @@ module _ {D : Type 0} (told : D → Told) (parts : Parts D) (n : ℕ) (a : Desum
         → IsAtWork b.stage → locks_of locks n ≤ held_at b.stage → RightAnswers number n parts.rights righted a.stage (did.Moved point) → StaysReady parts.pages pages
         → StepsSo told parts (with_these parts pages locks righted) n was (stepped.Moved point next)
     moved law alike righted point does work own right ready =
-        let stays = right_left number n parts.rights righted a.stage (did.Moved point) right in
+        let stays = right_left number n parts.rights righted a.stage (did.Moved point) within right in
         moved_so told parts pages locks righted n was a.index task (count_at a.stage) fit is_it (left_by righted stays) next next_task (count_at b.stage) is_then same_statement
-        (left.of, left_then b.stage work) own refl ready alike (inl left.leaves) point (λ names hand_list has tells p shown.
-            let old = old_store told parts pages locks righted n was a.index task (count_at a.stage) fit is_it (left_by righted stays) names hand_list has in
-            let then = new_store told parts pages locks righted n was a.index task (count_at a.stage) fit is_it (left_by righted stays) names hand_list has (Some next) in
-            let it = at_task old n was a.index task (count_at a.stage) is_it has p shown in
-            let shows = here old n was a.index task (count_at a.stage) is_it has p shown in
-            let so = came law righted (did.Moved point) does tells shows.blocks it.0 it.1 in
-            let taken = right_taken number n parts.rights righted a.stage (did.Moved point) right tt within (holds_there old n a is_it has p shown) fits.in_hand.1 in
-            let made = made_by old then n a b is_it has p shown fits.in_hand.1 point so.0 (Some n) so.2 (sym taken) in (
-              made.0,
-              made.1,
-              (λ rests. is_busy parts.pages.layout it.0 b work (sym made.1 ∙ rests)),
-              ap (λ (f : Account → Account). f (counted (count_at a.stage))) made.2 ∙ counts_on a.stage b.stage so.0 so.1,
-            ))
+        (left.of, left_then b.stage work) own refl ready
+        (ap (λ (i : ℕ). right_in (index_at parts.pages.layout i).table b.stage) left.index ∙ right_at_work number b.stage work) alike (inl left.leaves) point (λ names hand_list has tells p shown.
+        let old = old_store told parts pages locks righted n was a.index task (count_at a.stage) fit is_it (left_by righted stays) names hand_list has in
+        let then = new_store told parts pages locks righted n was a.index task (count_at a.stage) fit is_it (left_by righted stays) names hand_list has (Some next) in
+        let it = at_task old n was a.index task (count_at a.stage) is_it has p shown in
+        let shows = here old n was a.index task (count_at a.stage) is_it has p shown in
+        let so = came law righted (did.Moved point) does tells shows.blocks it.0 it.1 in
+        let taken = right_taken number n parts.rights righted a.stage (did.Moved point) right tt within (holds_there old n a is_it has p shown) fits.in_hand.1 in
+        let made = made_by old then n a b is_it has p shown fits.in_hand.1 point so.0 (Some n) so.2 (sym taken) in (
+          made.0,
+          made.1,
+          (λ rests. is_busy parts.pages.layout it.0 b work (sym made.1 ∙ rests)),
+          ap (λ (f : Account → Account). f (counted (count_at a.stage))) made.2 ∙ counts_on a.stage b.stage so.0 so.1,
+        ))
 
     -- it replies, and its table's summarise lock is given
     pub done : StepsInTable → ShowAlike → (righted given : List (Option ℕ)) (point : Point) → Does righted (did.Finished point)
@@ -194,36 +201,37 @@ module _ {D : Type 0} (told : D → Told) (parts : Parts D) (n : ℕ) (a : Desum
         → (right_of righted number ≡ Some n → given ≡ slice_set righted number None) → (right_of righted number ≢ Some n → given ≡ righted)
         → StepsSo told parts (with_these parts pages locks given) n was (stepped.Done (replies.Desummarized (count_at b.stage)))
     done law alike righted given point does over own right ready gives keeps =
-        let first = right_left number n parts.rights righted a.stage (did.Finished point) right in
-        let stays = stays_on number parts.rights righted given first (gives_stay number n righted given gives keeps) in
+        let first = right_left number n parts.rights righted a.stage (did.Finished point) within right in
+        let as_many = first.tables in
+        let still : number < length righted = omega (arith, within, as_many) in
+        let stays = stays_on number n parts.rights righted given first (gives_stay number n righted given still gives keeps) in
         let none : held_at b.stage ≡ 0 = over_free b.stage over in
-        done_so told parts pages locks given n was a.index task (count_at a.stage) fit is_it (left_by given stays) (count_at b.stage) (omega (arith, own, none)) refl ready alike (inl left.leaves) point
+        done_so told parts pages locks given n was a.index task (count_at a.stage) fit is_it (left_by given stays) (count_at b.stage) (omega (arith, own, none)) refl ready (gives_own number n righted given still gives keeps) alike (inl left.leaves) point
         (replies.Desummarized (count_at b.stage)) (λ names hand_list has tells p shown.
-            let old = old_store told parts pages locks given n was a.index task (count_at a.stage) fit is_it (left_by given stays) names hand_list has in
-            let then = new_store told parts pages locks given n was a.index task (count_at a.stage) fit is_it (left_by given stays) names hand_list has None in
-            let it = at_task old n was a.index task (count_at a.stage) is_it has p shown in
-            let shows = here old n was a.index task (count_at a.stage) is_it has p shown in
-            let so = came law righted (did.Finished point) does tells shows.blocks it.0 it.1 in
-            let taken = right_taken number n parts.rights righted a.stage (did.Finished point) right tt within (holds_there old n a is_it has p shown) fits.in_hand.1 in
-            let as_many = first.tables in
-            let free : right_of given number ≡ None = gives_there number n righted given gives keeps (omega (arith, within, as_many)) taken in
-            let made = made_by old then n a b is_it has p shown fits.in_hand.1 point so.0 None so.2 (sym free) in (
-              made.0,
-              made.1 ∙ is_over parts.pages.layout it.0 b over,
-              ap (λ (f : Account → Account). f (counted (count_at a.stage))) made.2 ∙ counts_on a.stage b.stage so.0 so.1,
-              refl,
-            ))
+        let old = old_store told parts pages locks given n was a.index task (count_at a.stage) fit is_it (left_by given stays) names hand_list has in
+        let then = new_store told parts pages locks given n was a.index task (count_at a.stage) fit is_it (left_by given stays) names hand_list has None in
+        let it = at_task old n was a.index task (count_at a.stage) is_it has p shown in
+        let shows = here old n was a.index task (count_at a.stage) is_it has p shown in
+        let so = came law righted (did.Finished point) does tells shows.blocks it.0 it.1 in
+        let taken = right_taken number n parts.rights righted a.stage (did.Finished point) right tt within (holds_there old n a is_it has p shown) fits.in_hand.1 in
+        let free : right_of given number ≡ None = gives_there number n righted given still gives keeps taken in
+        let made = made_by old then n a b is_it has p shown fits.in_hand.1 point so.0 None so.2 (sym free) in (
+          made.0,
+          made.1 ∙ is_over parts.pages.layout it.0 b over,
+          ap (λ (f : Account → Account). f (counted (count_at a.stage))) made.2 ∙ counts_on a.stage b.stage so.0 so.1,
+          refl,
+        ))
 
     -- nothing changed but the statement, which is the same
     module _ (alike : ShowAlike) (righted : List (Option ℕ)) (same_rights : righted ≡ parts.rights) (same : b.stage ≡ a.stage) (own : locks_of locks n ≤ held_at b.stage) (ready : StaysReady parts.pages pages)
         (keeps : Keeps told parts.pages pages) (same_locks : locks ≡ parts.locks) where
-      waits : (what : What) (by : ℕ)
+      waits : (what : What) (by : ℕ) → (by ≢ n) × ((1 ≤ locks_of parts.locks by) ⊎ ((t : ℕ) × (right_of parts.rights t ≡ Some by)))
           → ((names : List (List ℕ)) (hand_list : List (Option Hand)) (has : hand_in hand_list n ≡ Some was) → Tells told parts.pages → (p : Place) (shown : IsPlaceOf (shown_of (store_of parts names hand_list)) p)
           → Steps p n (Waits (refusals.Blocked what (name_of p by))) p)
           → StepsSo told parts (with_these parts pages locks righted) n was (stepped.Blocked what by next)
-      waits what by waiting = waits_so told parts pages locks righted n was a.index task (count_at a.stage) fit is_it (left_by righted (same_stays number parts.rights righted same_rights)) next next_task
-          (subst (λ (c : ℕ). IsUpkeep parts.pages.layout next a.index next_task c) (ap count_at same) is_then) same_statement (left.of, subst IsLeft (sym same) fits.in_hand.1) own refl ready alike (inl left.leaves)
-          keeps same_locks same_rights what by (λ names hand_list has tells p shown. (
+      waits what by holder_is waiting = waits_so told parts pages locks righted n was a.index task (count_at a.stage) fit is_it (left_by righted (same_stays number n parts.rights righted same_rights)) next next_task
+          (subst (λ (c : ℕ). IsUpkeep parts.pages.layout next a.index next_task c) (ap count_at same) is_then) same_statement (left.of, subst IsLeft (sym same) fits.in_hand.1) own refl ready (right_stays same) alike (inl left.leaves)
+          keeps same_locks same_rights what by holder_is (λ names hand_list has tells p shown. (
             (λ place stood. ap (λ (x : DesummariseState). task_of parts.pages.layout place x) (same_state same)),
             waiting names hand_list has tells p shown,
           ))
@@ -235,14 +243,15 @@ module _ {D : Type 0} (told : D → Told) (parts : Parts D) (n : ℕ) (a : Desum
         → (what : What) → ((table at : ℕ) → slice_get (indexes_of parts.pages.layout table) at ≡ Some a.index → what ≡ whats.Page (index_name parts.pages.layout table at) held.page.block)
         → StepsSo told parts (with_these parts pages locks righted) n was (stepped.Blocked what held.by next)
     waits_there law alike righted held does stands blocked own right ready what named =
-        waits alike righted (right_same number n parts.rights righted a.stage (did.Blocked held) (waits_at_work a.stage stands.0) right) stands.1 own ready blocked.2 blocked.1 what held.by (λ names hand_list has tells p shown.
-            let old : ShownStore = shown_of (store_of parts names hand_list) in
-            let it = at_task old n was a.index task (count_at a.stage) is_it has p shown in
-            let shows = here old n was a.index task (count_at a.stage) is_it has p shown in
-            let so = came law righted (did.Blocked held) does tells shows.blocks it.0 it.1 in
-            subst (λ (x : What). Steps p n (Waits (refusals.Blocked x (name_of p held.by))) p) (sym (named number it.0 it.1))
-            (waits_for_page old n was a.index task (count_at a.stage) is_it has p shown fits.entries held.page held.by
-            (so.0 shows.unseen it.2 shows.lock (kept_here old n was a.index task (count_at a.stage) is_it has p shown)) blocked.0.0 blocked.0.1))
+        waits alike righted (right_same number n parts.rights righted a.stage (did.Blocked held) (waits_at_work a.stage stands.0) right) stands.1 own ready blocked.2 blocked.1 what held.by
+        (blocked.0.2, inl (holder_has_lock parts.locks held.page held.by blocked.0.1)) (λ names hand_list has tells p shown.
+        let old : ShownStore = shown_of (store_of parts names hand_list) in
+        let it = at_task old n was a.index task (count_at a.stage) is_it has p shown in
+        let shows = here old n was a.index task (count_at a.stage) is_it has p shown in
+        let so = came law righted (did.Blocked held) does tells shows.blocks it.0 it.1 in
+        subst (λ (x : What). Steps p n (Waits (refusals.Blocked x (name_of p held.by))) p) (sym (named number it.0 it.1))
+        (waits_for_page old n was a.index task (count_at a.stage) is_it has p shown fits.entries held.page held.by
+        (so.0 shows.unseen it.2 shows.lock (kept_here old n was a.index task (count_at a.stage) is_it has p shown)) blocked.0.0 blocked.0.1))
 
     -- another session has its table's summarise lock
     pub lacks_right : StepsInTable → ShowAlike → (righted : List (Option ℕ)) (by : ℕ) → Does righted (did.NoRight by)
@@ -251,14 +260,14 @@ module _ {D : Type 0} (told : D → Told) (parts : Parts D) (n : ℕ) (a : Desum
         → StepsSo told parts (with_these parts pages locks righted) n was (stepped.Blocked what by next)
     lacks_right law alike righted by does stands kept own right ready what named =
         let told_so : (right_of parts.rights number ≡ Some by) × (by ≢ n) × (righted ≡ parts.rights) = subst (λ (q : Stage). RightAnswers number n parts.rights righted q (did.NoRight by)) stands.0 right in
-        waits alike righted told_so.2 stands.1 own ready kept.1 kept.0 what by (λ names hand_list has tells p shown.
-            let old : ShownStore = shown_of (store_of parts names hand_list) in
-            let it = at_task old n was a.index task (count_at a.stage) is_it has p shown in
-            let shows = here old n was a.index task (count_at a.stage) is_it has p shown in
-            let so = came law righted (did.NoRight by) does tells shows.blocks it.0 it.1 in
-            subst (λ (x : What). Steps p n (Waits (refusals.Blocked x (name_of p by))) p) (sym named)
-            (waits_for_lock old n was a.index task (count_at a.stage) is_it has p shown fits.entries by
-            (so.0 shows.unseen it.2 shows.lock (kept_here old n was a.index task (count_at a.stage) is_it has p shown)) told_so.0))
+        waits alike righted told_so.2 stands.1 own ready kept.1 kept.0 what by (told_so.1, inr (number, told_so.0)) (λ names hand_list has tells p shown.
+        let old : ShownStore = shown_of (store_of parts names hand_list) in
+        let it = at_task old n was a.index task (count_at a.stage) is_it has p shown in
+        let shows = here old n was a.index task (count_at a.stage) is_it has p shown in
+        let so = came law righted (did.NoRight by) does tells shows.blocks it.0 it.1 in
+        subst (λ (x : What). Steps p n (Waits (refusals.Blocked x (name_of p by))) p) (sym named)
+        (waits_for_lock old n was a.index task (count_at a.stage) is_it has p shown fits.entries by
+        (so.0 shows.unseen it.2 shows.lock (kept_here old n was a.index task (count_at a.stage) is_it has p shown)) told_so.0))
 
   -- the pages refuse it, and its session gives its locks
   pub refused : (shown : IsShown told parts n (hands.Desummarises a)) → TakesSound → (pages : View D) (locks given : LockState) (b : DesummariseState) (left : MachineLeft pages locks b)
@@ -273,5 +282,7 @@ module _ {D : Type 0} (told : D → Told) (parts : Parts D) (n : ℕ) (a : Desum
         counts = λ m other. others m other ∙ left.counts.adds.others m other;
         tables = refl;
         apart = λ other apart. refl;
-      }) (hands.Desummarises b) (same_statement pages locks b left) (left.of, subst (λ (x : DesummariseState). IsLeft x.stage) (sym same) fits.in_hand.1) (omega (arith, none)) refl error
+        theirs = λ m other apart holds. holds;
+      }) (hands.Desummarises b) (same_statement pages locks b left) (left.of, subst (λ (x : DesummariseState). IsLeft x.stage) (sym same) fits.in_hand.1) (omega (arith, none)) refl
+      (right_stays pages locks b left (ap (λ (x : DesummariseState). x.stage) same)) refl error
       (refused_untold told (Tells told parts.pages → DamageIn parts.pages.layout parts.pages.pages a) parts.pages pages error (λ ready damage tells. is_sound shown tells ready law (damage tells)) refusal)

@@ -1,7 +1,7 @@
 -- a step of a desummarise, in a place that the store shows
-use Rattle.std.proofs.Common.{◌≡◌, ◌≢◌, ◌⊎◌, inl, inr, ℕ, ◌+◌, ◌/◌, ◌<◌, List, [], length, Option, None, Some, refl, sym, ap, subst, ◌∙◌}
+use Rattle.std.proofs.Common.{◌≡◌, ◌≢◌, ◌⊎◌, inl, inr, ℕ, ◌/◌, ◌<◌, List, length, Option, None, Some, refl, sym, ap, subst, ◌∙◌}
 use Rattle.std.specs.Prelude.{slice_get}
-use Rattle.block_model.specs.declared.place.Spot.{Spot}
+use Rattle.std.proofs.lemmas.Option.{none-some, same_Some}
 use Rattle.block_model.specs.declared.reply.Point.{Point}
 use Rattle.block_model.specs.DatabaseState.{OpenTransaction}
 use Rattle.store_layout.specs.DiskLayout.{DiskLayout}
@@ -16,7 +16,7 @@ use Rattle.coverage.specs.Statements.{Phase}
 use Rattle.index_steps.specs.IndexTuples.{index_at}
 use Rattle.index_steps.specs.ShownRows.{shown_by}
 use Rattle.index_steps.specs.ShownTable.{indexes_of, shown_at}
-use Rattle.table_coverage.specs.Accounts.{Account, no_account}
+use Rattle.table_coverage.specs.Accounts.{Account}
 use Rattle.table_coverage.specs.InOneIndex.{DoesAt}
 use Rattle.table_coverage.specs.Machines.{ShownTable, Unseen, table_state}
 use Rattle.table_coverage.specs.Table.{Considers, Desummarising, Job, Maintains, Resting, Task}
@@ -24,11 +24,12 @@ use Rattle.table_coverage.specs.TableCovered.{IsMaintenance}
 use Rattle.table_coverage.proofs.Views.{pick_same}
 use Rattle.brin_desummarise.specs.declared.stage.Stage.{Stage}
 use Rattle.brin_desummarise.specs.declared.stage.Stage.TheVariants as stages
-use Rattle.brin_desummarise.specs.Desummarises.{DesummariseDoes, DesummariseState, IsAtWork, IsDone, IsLeft, RightAnswers, StoreStep, count_at, in_range_of, phase_at, range_of, table_of}
+use Rattle.brin_desummarise.specs.Desummarises.{DesummariseDoes, DesummariseState, IsAtWork, IsDone, IsLeft, RightAnswers, StoreStep, count_at, phase_at, range_of, table_of}
 use Rattle.brin_desummarise.specs.TableSteps.{DesummariseGoes, DoesInTable, HasCounted, IsFirstWithin, LeavesTheRest, account_by, first_task, task_at, task_of}
 use Rattle.line_texts.specs.Beginnings.{Begins, StandsAt}
 use Rattle.line_texts.specs.Place.{Place}
 use Rattle.store_parts.specs.declared.hand.Hand.TheVariants as hands
+use Rattle.store_parts.specs.HandFits.{right_in}
 use Rattle.store_parts.specs.ShowsPlace.{IsLeftToMark, IsPlaceOf}
 use Rattle.store_parts.specs.StoreStates.{ShownStore, hand_in}
 use Rattle.store_upkeep.proofs.SummariseLocks.{OthersStay, same_stays, set_stays, set_there}
@@ -45,6 +46,23 @@ of_any_copy : (copy : Option OpenTransaction) (a : DesummariseState) → IsLeftT
 of_any_copy None a = tt
 of_any_copy (Some x) a = tt
 
+right_of_its : (own table : ℕ) (stage : Stage) → right_in own stage ≡ Some table → table ≡ own
+right_of_its own table stages.Right has = absurd (none-some table has)
+right_of_its own table stages.Map has = sym (same_Some own table has)
+right_of_its own table (stages.Clear x) has = sym (same_Some own table has)
+right_of_its own table (stages.Drop x) has = sym (same_Some own table has)
+right_of_its own table stages.Lacked has = absurd (none-some table has)
+right_of_its own table stages.Cleared has = absurd (none-some table has)
+
+-- at its range it has its table's summarise lock
+pub right_at_work : (own : ℕ) (stage : Stage) → IsAtWork stage → right_in own stage ≡ Some own
+right_at_work own stages.Right work = absurd work
+right_at_work own stages.Map work = refl
+right_at_work own (stages.Clear x) work = refl
+right_at_work own (stages.Drop x) work = refl
+right_at_work own stages.Lacked work = absurd work
+right_at_work own stages.Cleared work = absurd work
+
 pub is_desummarise : (layout : DiskLayout) (a : DesummariseState) → a.index < length layout.schema.indexes → (index_at layout a.index).table < length layout.schema.tables
     → IsUpkeep layout (hands.Desummarises a) a.index (λ at. task_of layout at a) (count_at a.stage)
 is_desummarise layout a within below = record {
@@ -60,6 +78,9 @@ is_desummarise layout a within below = record {
   told = refl;
   own = λ transaction copy. of_any_copy copy a;
   in_table = refl;
+  no_insert = tt;
+  asked = λ asked. tt;
+  right = λ table has. right_of_its (index_at layout a.index).table table a.stage has;
   task_is = λ table blocks tx stored transaction now is. is;
   is_task = λ table blocks tx stored transaction now is. is;
 }
@@ -124,37 +145,37 @@ HasIt (did.Moved point) = Unit {0}
 HasIt (did.Finished point) = Unit {0}
 HasIt answer = ⊥
 
-pub right_left : (table s : ℕ) (rights righted : List (Option ℕ)) (stage : Stage) (answer : Did) → RightAnswers table s rights righted stage answer → OthersStay table rights righted
-right_left table s rights righted stages.Right (did.Moved point) right = set_stays table (Some s) rights righted right.1
-right_left table s rights righted stages.Right (did.Finished point) right = set_stays table (Some s) rights righted right.1
-right_left table s rights righted stages.Right (did.Blocked held) right = set_stays table (Some s) rights righted right.1
-right_left table s rights righted stages.Right (did.NoRight by) right = same_stays table rights righted right.2
-right_left table s rights righted stages.Map answer right = same_stays table rights righted right
-right_left table s rights righted (stages.Clear x) answer right = same_stays table rights righted right
-right_left table s rights righted (stages.Drop x) answer right = same_stays table rights righted right
-right_left table s rights righted stages.Lacked answer right = same_stays table rights righted right
-right_left table s rights righted stages.Cleared answer right = same_stays table rights righted right
+pub right_left : (table s : ℕ) (rights righted : List (Option ℕ)) (stage : Stage) (answer : Did) → table < length rights → RightAnswers table s rights righted stage answer → OthersStay table s rights righted
+right_left own s rights righted stages.Right (did.Moved point) below right = set_stays own s (Some s) rights righted below (λ m is. sym (same_Some s m is)) right.1
+right_left own s rights righted stages.Right (did.Finished point) below right = set_stays own s (Some s) rights righted below (λ m is. sym (same_Some s m is)) right.1
+right_left own s rights righted stages.Right (did.Blocked held) below right = set_stays own s (Some s) rights righted below (λ m is. sym (same_Some s m is)) right.1
+right_left own s rights righted stages.Right (did.NoRight by) below right = same_stays own s rights righted right.2
+right_left own s rights righted stages.Map answer below right = same_stays own s rights righted right
+right_left own s rights righted (stages.Clear x) answer below right = same_stays own s rights righted right
+right_left own s rights righted (stages.Drop x) answer below right = same_stays own s rights righted right
+right_left own s rights righted stages.Lacked answer below right = same_stays own s rights righted right
+right_left own s rights righted stages.Cleared answer below right = same_stays own s rights righted right
 
 -- at its range it is as it was
 pub right_same : (table s : ℕ) (rights righted : List (Option ℕ)) (stage : Stage) (answer : Did) → IsAtWork stage → RightAnswers table s rights righted stage answer → righted ≡ rights
-right_same table s rights righted stages.Right answer work right = absurd work
-right_same table s rights righted stages.Map answer work right = right
-right_same table s rights righted (stages.Clear x) answer work right = right
-right_same table s rights righted (stages.Drop x) answer work right = right
-right_same table s rights righted stages.Lacked answer work right = absurd work
-right_same table s rights righted stages.Cleared answer work right = absurd work
+right_same own s rights righted stages.Right answer work right = absurd work
+right_same own s rights righted stages.Map answer work right = right
+right_same own s rights righted (stages.Clear x) answer work right = right
+right_same own s rights righted (stages.Drop x) answer work right = right
+right_same own s rights righted stages.Lacked answer work right = absurd work
+right_same own s rights righted stages.Cleared answer work right = absurd work
 
 pub right_taken : (table s : ℕ) (rights righted : List (Option ℕ)) (stage : Stage) (answer : Did) → RightAnswers table s rights righted stage answer → HasIt answer → table < length rights
     → (IsAtWork stage → right_of rights table ≡ Some s) → IsLeft stage → right_of righted table ≡ Some s
-right_taken table s rights righted stages.Right (did.Moved point) right has below held left = set_there table (Some s) rights righted below right.1
-right_taken table s rights righted stages.Right (did.Finished point) right has below held left = set_there table (Some s) rights righted below right.1
-right_taken table s rights righted stages.Right (did.Blocked h) right has below held left = absurd has
-right_taken table s rights righted stages.Right (did.NoRight by) right has below held left = absurd has
-right_taken table s rights righted stages.Map answer right has below held left = ap (λ (l : List (Option ℕ)). right_of l table) right ∙ held tt
-right_taken table s rights righted (stages.Clear x) answer right has below held left = ap (λ (l : List (Option ℕ)). right_of l table) right ∙ held tt
-right_taken table s rights righted (stages.Drop x) answer right has below held left = ap (λ (l : List (Option ℕ)). right_of l table) right ∙ held tt
-right_taken table s rights righted stages.Lacked answer right has below held left = absurd left
-right_taken table s rights righted stages.Cleared answer right has below held left = absurd left
+right_taken own s rights righted stages.Right (did.Moved point) right has below held left = set_there own (Some s) rights righted below right.1
+right_taken own s rights righted stages.Right (did.Finished point) right has below held left = set_there own (Some s) rights righted below right.1
+right_taken own s rights righted stages.Right (did.Blocked h) right has below held left = absurd has
+right_taken own s rights righted stages.Right (did.NoRight by) right has below held left = absurd has
+right_taken own s rights righted stages.Map answer right has below held left = ap (λ (l : List (Option ℕ)). right_of l own) right ∙ held tt
+right_taken own s rights righted (stages.Clear x) answer right has below held left = ap (λ (l : List (Option ℕ)). right_of l own) right ∙ held tt
+right_taken own s rights righted (stages.Drop x) answer right has below held left = ap (λ (l : List (Option ℕ)). right_of l own) right ∙ held tt
+right_taken own s rights righted stages.Lacked answer right has below held left = absurd left
+right_taken own s rights righted stages.Cleared answer right has below held left = absurd left
 
 -- ---- its step in the place
 

@@ -15,6 +15,7 @@ use Rattle.page_store.specs.declared.faults.MachineFault.{MachineFault}
 use Rattle.page_store.specs.declared.faults.MachineFault.TheVariants as faults
 use Rattle.page_store.specs.Outcome.{Outcome, Refused}
 use Rattle.page_store.specs.PageMap.{PageMap, View, block_at}
+use Rattle.std.proofs.lemmas.Option.{none-some}
 use Rattle.store_layout.specs.DiskLayout.{DiskLayout}
 use Rattle.tx_table.specs.Kept.{over_kept}
 use Rattle.tx_table.specs.Statuses.{status_relation}
@@ -72,6 +73,7 @@ module _ {D : Type 0} (told : D → Told) (parts : Parts D) (pages : View D) (n 
     in_hand = subst (λ (l : DiskLayout). FitsHand l (transaction_of parts.transactions.opens n) h) (sym keeps.leaves.layout) in_hand;
     limit = fits.limit;
     own = let own = fits.own in omega (arith, own, none);
+    held = λ t holds. absurd (none-some t (fits.held t holds));
     rights = fits.rights ∙ ap (λ (l : DiskLayout). length l.schema.tables) (sym keeps.leaves.layout);
     entries = fits.entries;
     share = let more = fits.share in omega (arith, more, share);
@@ -86,6 +88,7 @@ module _ {D : Type 0} (told : D → Told) (parts : Parts D) (pages : View D) (n 
     leaves = keeps.leaves;
     transactions = λ m apart. refl;
     locks = λ m apart. refl;
+    rights = λ m t apart holds. holds;
     dropped = λ m apart. refl;
     promised = ap (λ (h : Option Hand). parts.journal.promised + share_of h (transaction_of parts.transactions.opens n)) is
         ∙ ap (λ (s : ℕ). parts.journal.promised + s) share

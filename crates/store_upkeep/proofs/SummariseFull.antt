@@ -1,5 +1,5 @@
 -- an index that is full for a summarise
-use Rattle.std.proofs.Common.{◌≡◌, ◌≢◌, inr, ℕ, ◌+◌, ◌<◌, ◌≤◌, Bool, true, false, List, [], ◌++◌, length, Option, None, Some, refl, sym, ap, subst, ◌∙◌, arith}
+use Rattle.std.proofs.Common.{◌≡◌, ◌≢◌, inr, ℕ, ◌<◌, ◌≤◌, Bool, true, false, List, [], ◌++◌, length, Option, None, Some, refl, sym, ap, subst, ◌∙◌}
 use Rattle.std.specs.Prelude.{slice_get, slice_set}
 use Rattle.std.proofs.lemmas.Bool.{false≢true}
 use Rattle.std.proofs.lemmas.List.{append-nil}
@@ -27,18 +27,16 @@ use Rattle.transactions.specs.CountedRows.{counts as counts_of}
 use Rattle.transactions.specs.Laws.{ShowAlike}
 use Rattle.transactions.specs.TransactionsState.{TransactionsState}
 use Rattle.coverage.specs.Statements.{Phase}
-use Rattle.index_steps.specs.IndexTuples.{index_at, shape_of}
+use Rattle.index_steps.specs.IndexTuples.{index_at}
 use Rattle.index_steps.specs.ShownRows.{shown_by}
 use Rattle.index_steps.specs.ShownTable.{indexes_of}
-use Rattle.table_coverage.specs.Machines.{table_state}
 use Rattle.table_coverage.specs.Refusals.{IndexNumber, InsertFull, IsFull, IsTaskFull, MaintainFull, maintain_refusal}
-use Rattle.table_coverage.specs.Table.{Inserts, Job, Maintains, TableState, Task, index_view_at}
+use Rattle.table_coverage.specs.Table.{Job, Maintains, TableState, Task, index_view_at}
 use Rattle.table_coverage.specs.TableSteps.{IndexFull, IsInsertRefused, IsMaintainRefused}
 use Rattle.range_summarise.specs.SummariseHands.{table_of}
-use Rattle.range_summarise.specs.SummariseSteps.{phase_of}
 use Rattle.brin_summarise.specs.declared.course.Standing.TheVariants as standings
-use Rattle.brin_summarise.specs.Summarises.{FullAt, SummariseState, count_of, in_range_of}
-use Rattle.brin_summarise.specs.TableSteps.{IsSummariseFull, job_of, task_of}
+use Rattle.brin_summarise.specs.Summarises.{FullAt, SummariseState, count_of}
+use Rattle.brin_summarise.specs.TableSteps.{IsSummariseFull, task_of}
 use Rattle.line_texts.specs.Names.{index_name}
 use Rattle.line_texts.specs.Place.{Place, new_hand}
 use Rattle.line_texts.specs.StatementSteps.{Ended, IndexIsFull, Steps, StepsTo}
@@ -46,7 +44,8 @@ use Rattle.store_parts.specs.declared.hand.Hand.{Hand}
 use Rattle.store_parts.specs.declared.hand.Hand.TheVariants as hands
 use Rattle.store_parts.specs.declared.hand.Stepped.TheVariants as stepped
 use Rattle.store_parts.specs.declared.parts.Parts.{Parts}
-use Rattle.store_parts.specs.Hands.{HandShows, block_of, statement_of}
+use Rattle.store_parts.specs.Hands.{HandShows, block_of}
+use Rattle.store_parts.specs.HandsAsk.{IsNoInsert}
 use Rattle.store_parts.specs.HandsInTables.{table_in}
 use Rattle.store_parts.specs.PlacesAfter.{place_after}
 use Rattle.store_parts.specs.RefusalLaws.{IsMaintenanceShown}
@@ -57,8 +56,7 @@ use Rattle.store_parts.specs.StoreStates.{ShownStore, hand_in, shown_of, store_o
 use Rattle.store_parts.specs.UndoneLaws.{StepsSo}
 use Rattle.store_parts.proofs.Maintenance.{maintenance_refusal_is_shown}
 use Rattle.store_parts.proofs.Steps.{turn_is_refused}
-use Rattle.store_parts.proofs.Submits.{nothing_is_dropped}
-use Rattle.store_upkeep.proofs.SummariseLocks.{gives_stay, gives_there}
+use Rattle.store_upkeep.proofs.SummariseLocks.{gives_own, gives_stay, gives_there}
 use Rattle.store_upkeep.proofs.SummariseParts.{MachineLeft, is_it, within}
 use Rattle.store_upkeep.proofs.SummariseTurns.{at_range, holds_there}
 use Rattle.store_upkeep.proofs.UpkeepAt.{IsUpkeep, IsUpkeepAt, UpkeepLeft, at_task, hand_is, here, kept_here}
@@ -115,7 +113,7 @@ module _ (old new : ShownStore) (n : ℕ) (a : SummariseState) (is : IsUpkeep ol
 
     it : IsMaintenanceShown new shown.database.stored p n its_table statement (maintain_refusal its_at.0 there.refused)
     it = maintenance_refusal_is_shown old new shown.database.stored p n its_table its_at.0 there.range statement (p.tables its_table) there.job there.phase at_here left.others pages gives free counts_same
-        (λ in_it. none-some its_table (ap (table_in old.layout) (sym now) ∙ in_it)) refl shown.queue is.no_work (is.on p n shown.layout)
+        (λ in_it. none-some its_table (ap (table_in old.layout) (sym now) ∙ in_it)) refl is.no_work (is.on p n shown.layout)
         (ap (λ (x : TableState). x.task n) at_here.shown ∙ its_at.2 ∙ there.is) there.refused
 
     told : Some (maintain_refusal its_at.0 there.refused) ≡ Some (IsFull (IndexNumber its_at.0) number)
@@ -128,9 +126,9 @@ module _ (old new : ShownStore) (n : ℕ) (a : SummariseState) (is : IsUpkeep ol
     is_refused = (
       place_after p n its_table None it.after (p.accounts n) (counts_of new.transactions shown.database.stored) new.entries,
       behind old new n (hands.Summarises a) a.index its_task (count_of a) is left p shown alike None it.after (p.accounts n)
-          (subst (λ (h : Option Hand). HandShows h None (p.accounts n)) (sym now) (refl, nothing_is_dropped (hand_in old.hands n) (p.hands n) (p.accounts n) (shown.hands n)))
+          (subst (λ (h : Option Hand). HandShows h None (p.accounts n)) (sym now) refl)
           (λ h in_it. absurd (none-some h (sym now ∙ in_it)))
-          (λ other in_it. absurd (none-some other (ap (table_in old.layout) (sym now) ∙ in_it))) it.shows,
+          (λ other in_it. absurd (none-some other (ap (table_in old.layout) (sym now) ∙ in_it))) it.shows refl (subst IsNoInsert (sym now) tt),
       record {
         hand = new_hand statement;
         in_hand = hand_is old n (hands.Summarises a) a.index its_task (count_of a) is left.had p shown;
@@ -164,7 +162,8 @@ module _ {D : Type 0} (told : D → Told) (parts : Parts D) (n : ℕ) (a : Summa
       → (reply : Reply) → ((table at : ℕ) → slice_get (indexes_of parts.pages.layout table) at ≡ Some a.index → reply ≡ replies.Refused (refusals.Full (index_name parts.pages.layout table at) room))
       → StepsSo told parts (with_these parts pages given rights) n (hands.Summarises a) (stepped.Done reply)
   full_so law alike pages locks given b left room full same_locks keeps ready gives limit none others rights gave kept reply named =
-      let stays = gives_stay number n parts.rights rights gave kept in
+      let inside = within told parts n a fit below in
+      let stays = gives_stay number n parts.rights rights inside gave kept in
       let all_given : GivesAll (holder parts.locks) (holder given) n = subst (λ (l : LockState). GivesAll (holder l) (holder given) n) same_locks gives in
       refused_so told parts pages given rights n (hands.Summarises a) a.index (λ at. task_of parts.pages.layout at a) (count_of a) fit is_there (record {
         others = left.others;
@@ -173,13 +172,14 @@ module _ {D : Type 0} (told : D → Told) (parts : Parts D) (n : ℕ) (a : Summa
         counts = λ m other. others m other ∙ left.counts.adds.others m other;
         tables = stays.tables;
         apart = stays.apart;
-      }) none refl ready (inr all_given) reply (λ names hand_list has tells p shown so now.
-          let old = shown_of (store_of parts names hand_list) in
-          let it = at_task old n (hands.Summarises a) a.index (λ at. task_of parts.pages.layout at a) (count_of a) is_there has p shown in
-          let shows = here old n (hands.Summarises a) a.index (λ at. task_of parts.pages.layout at a) (count_of a) is_there has p shown in
-          let at = (full tells).0 in
-          let held : right_of parts.rights number ≡ Some n = holds_there old n a is_there has p shown at in
-          let made = is_refused old _ n a is_there so p shown alike (λ place. ap (λ (m : PageMap). page_at m place) (keeps.pages tells)) all_given
-          (gives_there number n parts.rights rights gave kept (within told parts n a fit below) held) now room at
-          (law parts.pages.layout parts.pages.pages parts.locks shows.blocks n it.0 room a it.1 (full tells)) in
-          (made.0, made.1, subst (λ (r : Reply). Steps p n (Ended r) made.0) (sym (named number it.0 it.1)) made.2))
+        theirs = stays.theirs;
+      }) none refl ready (inr all_given) (gives_own number n parts.rights rights inside gave kept) reply (λ names hand_list has tells p shown so now.
+      let old = shown_of (store_of parts names hand_list) in
+      let it = at_task old n (hands.Summarises a) a.index (λ at. task_of parts.pages.layout at a) (count_of a) is_there so.had p shown in
+      let shows = here old n (hands.Summarises a) a.index (λ at. task_of parts.pages.layout at a) (count_of a) is_there so.had p shown in
+      let at = (full tells).0 in
+      let held : right_of parts.rights number ≡ Some n = holds_there old n a is_there so.had p shown at in
+      let made = is_refused old _ n a is_there so p shown alike (λ place. ap (λ (m : PageMap). page_at m place) (keeps.pages tells)) all_given
+      (gives_there number n parts.rights rights inside gave kept held) now room at
+      (law parts.pages.layout parts.pages.pages parts.locks shows.blocks n it.0 room a it.1 (full tells)) in
+      (made.0, made.1, subst (λ (r : Reply). Steps p n (Ended r) made.0) (sym (named number it.0 it.1)) made.2))

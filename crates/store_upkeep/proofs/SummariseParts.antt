@@ -1,5 +1,5 @@
 -- a step of a summarise, over the parts of a store
-use Rattle.std.proofs.Common.{◌≡◌, ◌≢◌, ◌⊎◌, inl, ℕ, ◌+◌, ◌<◌, ◌≤◌, List, length, Option, None, Some, refl, sym, ap, subst, ◌∙◌, arith}
+use Rattle.std.proofs.Common.{◌≡◌, ◌≢◌, inl, inr, ℕ, ◌+◌, ◌<◌, ◌≤◌, List, length, Option, None, Some, refl, sym, ap, subst, ◌∙◌, arith}
 use Rattle.std.specs.Prelude.{slice_get, slice_set}
 use Rattle.disk_trait.specs.Told.{Told}
 use Rattle.block_model.specs.declared.reply.Point.{Point}
@@ -10,7 +10,7 @@ use Rattle.block_model.specs.declared.reply.What.TheVariants as whats
 use Rattle.store_layout.specs.DiskLayout.{DiskLayout}
 use Rattle.page_layout.specs.PageContents.{Slot}
 use Rattle.page_store.specs.declared.faults.StoreError.{StoreError}
-use Rattle.page_store.specs.Keeps.{Keeps, Tells, Untold}
+use Rattle.page_store.specs.Keeps.{Keeps, Tells}
 use Rattle.page_store.specs.Outcome.{Refused}
 use Rattle.page_store.specs.PageMap.{PageMap, View}
 use Rattle.page_locks.specs.declared.did.Did.{Did}
@@ -44,9 +44,8 @@ use Rattle.range_summarise.specs.SummariseHands.{SummariseHand, table_of}
 use Rattle.range_summarise.specs.SummariseSteps.{RestsAt, made_at}
 use Rattle.brin_summarise.specs.declared.course.Standing.{Standing}
 use Rattle.brin_summarise.specs.declared.course.Standing.TheVariants as standings
-use Rattle.brin_summarise.specs.declared.wish.Wish.TheVariants as wishes
-use Rattle.brin_summarise.specs.Summarises.{DamageIn, IsSummariseOf, ReadyAt, RightAnswers, StandsThen, StoreStep, SummariseDoes, SummariseState, count_at, count_of, held_by, held_in, step_of, taken_by, taken_in}
-use Rattle.brin_summarise.specs.TableSteps.{DoesInTable, HasCounted, account_by, held_behind, indexes_left, task_of}
+use Rattle.brin_summarise.specs.Summarises.{DamageIn, IsSummariseOf, ReadyAt, RightAnswers, StandsThen, SummariseDoes, SummariseState, count_at, count_of, held_by, held_in, step_of, taken_by, taken_in}
+use Rattle.brin_summarise.specs.TableSteps.{DoesInTable, held_behind, indexes_left, task_of}
 use Rattle.line_texts.specs.Beginnings.{StandsAt}
 use Rattle.line_texts.specs.Names.{index_name, name_of, table_name}
 use Rattle.line_texts.specs.Place.{Place}
@@ -57,15 +56,16 @@ use Rattle.store_parts.specs.declared.hand.Hand.TheVariants as hands
 use Rattle.store_parts.specs.declared.hand.Stepped.TheVariants as stepped
 use Rattle.store_parts.specs.declared.parts.Parts.{Parts}
 use Rattle.store_parts.specs.Hands.{block_of, statement_of}
-use Rattle.store_parts.specs.HandFits.{IsHandFor}
+use Rattle.store_parts.specs.HandFits.{IsHandFor, right_at, right_held}
 use Rattle.store_parts.specs.ShowsPlace.{IsPlaceOf}
 use Rattle.store_parts.specs.StepAnswers.{StaysReady}
 use Rattle.store_parts.specs.Stepping.{IsFit, IsShown}
 use Rattle.store_parts.specs.StoreFaults.{fault_of}
 use Rattle.store_parts.specs.StoreStates.{ShownStore, hand_in, shown_of, store_of}
 use Rattle.store_parts.specs.UndoneLaws.{FitsParts, StepsSo}
+use Rattle.store_parts.proofs.HeldLocks.{holder_has_lock}
 use Rattle.store_parts.proofs.Undone.{fit_of_parts}
-use Rattle.store_upkeep.proofs.SummariseLocks.{OthersStay, gives_stay, gives_there, same_stays, stays_on}
+use Rattle.store_upkeep.proofs.SummariseLocks.{OthersStay, gives_own, gives_stay, gives_there, same_stays, stays_on}
 use Rattle.store_upkeep.proofs.SummariseTurns.{StepsInTable, counts_on, holds_there, is_busy, is_over, is_summarise, last_gives, made_by, right_left, right_taken}
 use Rattle.store_upkeep.proofs.UpkeepAt.{IsUpkeep, at_task, counted, here, kept_here, unseen_here}
 use Rattle.store_upkeep.proofs.UpkeepParts.{PartsLeft, done_so, moved_so, new_store, old_store, refused_untold, undone_so, waits_so, with_these}
@@ -197,7 +197,11 @@ module _ {D : Type 0} (told : D → Told) (parts : Parts D) (n : ℕ) (a : Summa
     in_hand_then : b.standing ≢ standings.Done → IsHandFor parts.pages.layout (transaction_of parts.transactions.opens n) next
     in_hand_then goes = (left.of, goes, λ complete. fits.in_hand.2 (sym left.wish ∙ complete))
 
-    left_by : (rights : List (Option ℕ)) → OthersStay number parts.rights rights → PartsLeft told parts pages locks rights n a.index
+    -- where it stands where it stood, it has the summarise lock that it had
+    right_same : b.standing ≡ a.standing → right_held parts.pages.layout (Some next) ≡ right_held parts.pages.layout (Some was)
+    right_same same = ap (λ (i : ℕ). right_at (index_at parts.pages.layout i).table b.standing) left.index ∙ ap (right_at number) same
+
+    left_by : (rights : List (Option ℕ)) → OthersStay number n parts.rights rights → PartsLeft told parts pages locks rights n a.index
     left_by rights stays = record {
       others = left.others;
       order = left.order;
@@ -205,6 +209,7 @@ module _ {D : Type 0} (told : D → Told) (parts : Parts D) (n : ℕ) (a : Summa
       counts = λ m other. left.counts.adds.others m other;
       tables = stays.tables;
       apart = stays.apart;
+      theirs = stays.theirs;
     }
 
     module _ (law : StepsInTable) (righted : List (Option ℕ)) (answer : Did)
@@ -221,24 +226,27 @@ module _ {D : Type 0} (told : D → Told) (parts : Parts D) (n : ℕ) (a : Summa
         → b.standing ≡ standings.AtRange → locks_of locks n ≤ held_by b → RightAnswers number n parts.rights righted a.standing (did.Moved point) → StaysReady parts.pages pages
         → StepsSo told parts (with_these parts pages locks righted) n was (stepped.Moved point next)
     moved law alike righted point does at own right ready =
-        let stays = right_left number n parts.rights righted a.standing (did.Moved point) right in
+        let stays = right_left number n parts.rights righted a.standing (did.Moved point) within right in
         moved_so told parts pages locks righted n was a.index task (count_of a) fit is_it (left_by righted stays) next next_task (count_of b) is_then same_statement
-        (in_hand_then (λ done. apart (sym at ∙ done))) own refl ready alike (inl left.leaves) point (λ names hand_list has tells p shown.
-            let old = old_store told parts pages locks righted n was a.index task (count_of a) fit is_it (left_by righted stays) names hand_list has in
-            let then = new_store told parts pages locks righted n was a.index task (count_of a) fit is_it (left_by righted stays) names hand_list has (Some next) in
-            let it = at_task old n was a.index task (count_of a) is_it has p shown in
-            let shows = here old n was a.index task (count_of a) is_it has p shown in
-            let so = came law righted (did.Moved point) does tells shows.blocks shows.has it.0 it.1 in
-            let taken = right_taken number n parts.rights righted a.standing (did.Moved point) right tt within (holds_there old n a is_it has p shown) fits.in_hand.1 in
-            let made = made_by old then n a b is_it has p shown fits.in_hand.1 fits.in_hand.2 point so.0 (Some n) so.2 (sym taken) in (
-              made.0,
-              made.1,
-              (λ rests. is_busy parts.pages.layout it.0 b at (sym made.1 ∙ rests)),
-              ap (λ (f : Account → Account). f (counted (count_of a))) made.2 ∙ counts_on a.wish a.standing (count_of a) so.0 (count_of b) fits.in_hand.2 so.1,
-            ))
+        (in_hand_then (λ done. apart (sym at ∙ done))) own refl ready right_then alike (inl left.leaves) point (λ names hand_list has tells p shown.
+        let old = old_store told parts pages locks righted n was a.index task (count_of a) fit is_it (left_by righted stays) names hand_list has in
+        let then = new_store told parts pages locks righted n was a.index task (count_of a) fit is_it (left_by righted stays) names hand_list has (Some next) in
+        let it = at_task old n was a.index task (count_of a) is_it has p shown in
+        let shows = here old n was a.index task (count_of a) is_it has p shown in
+        let so = came law righted (did.Moved point) does tells shows.blocks shows.has it.0 it.1 in
+        let taken = right_taken number n parts.rights righted a.standing (did.Moved point) right tt within (holds_there old n a is_it has p shown) fits.in_hand.1 in
+        let made = made_by old then n a b is_it has p shown fits.in_hand.1 fits.in_hand.2 point so.0 (Some n) so.2 (sym taken) in (
+          made.0,
+          made.1,
+          (λ rests. is_busy parts.pages.layout it.0 b at (sym made.1 ∙ rests)),
+          ap (λ (f : Account → Account). f (counted (count_of a))) made.2 ∙ counts_on a.wish a.standing (count_of a) so.0 (count_of b) fits.in_hand.2 so.1,
+        ))
       where
         apart : standings.AtRange ≡ standings.Done → ⊥
         apart is = cc
+
+        right_then : right_held parts.pages.layout (Some next) ≡ Some number
+        right_then = ap (λ (i : ℕ). right_at (index_at parts.pages.layout i).table b.standing) left.index ∙ ap (right_at number) at
 
     -- it replies, and its table's summarise lock is given
     pub done : StepsInTable → ShowAlike → (righted given : List (Option ℕ)) (point : Point)
@@ -247,26 +255,27 @@ module _ {D : Type 0} (told : D → Told) (parts : Parts D) (n : ℕ) (a : Summa
         → (right_of righted number ≡ Some n → given ≡ slice_set righted number None) → (right_of righted number ≢ Some n → given ≡ righted)
         → StepsSo told parts (with_these parts pages locks given) n was (stepped.Done (replies.Summarized (count_of b)))
     done law alike righted given point does at own right ready gives keeps =
-        let first = right_left number n parts.rights righted a.standing (did.Finished point) right in
-        let stays = stays_on number parts.rights righted given first (gives_stay number n righted given gives keeps) in
+        let first = right_left number n parts.rights righted a.standing (did.Finished point) within right in
+        let as_many = first.tables in
+        let still : number < length righted = omega (arith, within, as_many) in
+        let stays = stays_on number n parts.rights righted given first (gives_stay number n righted given still gives keeps) in
         let none : held_by b ≡ 0 = ap (λ (q : Standing). held_in b q) at in
-        done_so told parts pages locks given n was a.index task (count_of a) fit is_it (left_by given stays) (count_of b) (omega (arith, own, none)) refl ready alike (inl left.leaves) point (replies.Summarized (count_of b))
+        done_so told parts pages locks given n was a.index task (count_of a) fit is_it (left_by given stays) (count_of b) (omega (arith, own, none)) refl ready (gives_own number n righted given still gives keeps) alike (inl left.leaves) point (replies.Summarized (count_of b))
         (λ names hand_list has tells p shown.
-            let old = old_store told parts pages locks given n was a.index task (count_of a) fit is_it (left_by given stays) names hand_list has in
-            let then = new_store told parts pages locks given n was a.index task (count_of a) fit is_it (left_by given stays) names hand_list has None in
-            let it = at_task old n was a.index task (count_of a) is_it has p shown in
-            let shows = here old n was a.index task (count_of a) is_it has p shown in
-            let so = came law righted (did.Finished point) does tells shows.blocks shows.has it.0 it.1 in
-            let taken = right_taken number n parts.rights righted a.standing (did.Finished point) right tt within (holds_there old n a is_it has p shown) fits.in_hand.1 in
-            let as_many = first.tables in
-            let free : right_of given number ≡ None = gives_there number n righted given gives keeps (omega (arith, within, as_many)) taken in
-            let made = made_by old then n a b is_it has p shown fits.in_hand.1 fits.in_hand.2 point so.0 (held_behind a.wish n (indexes_left parts.pages.layout a.index it.0)) so.2
-            (last_gives a.wish n (indexes_left parts.pages.layout a.index it.0) fits.in_hand.2 ∙ sym free) in (
-              made.0,
-              made.1 ∙ is_over parts.pages.layout it.0 b (λ complete. fits.in_hand.2 (sym left.wish ∙ complete)) at,
-              ap (λ (f : Account → Account). f (counted (count_of a))) made.2 ∙ counts_on a.wish a.standing (count_of a) so.0 (count_of b) fits.in_hand.2 so.1,
-              refl,
-            ))
+        let old = old_store told parts pages locks given n was a.index task (count_of a) fit is_it (left_by given stays) names hand_list has in
+        let then = new_store told parts pages locks given n was a.index task (count_of a) fit is_it (left_by given stays) names hand_list has None in
+        let it = at_task old n was a.index task (count_of a) is_it has p shown in
+        let shows = here old n was a.index task (count_of a) is_it has p shown in
+        let so = came law righted (did.Finished point) does tells shows.blocks shows.has it.0 it.1 in
+        let taken = right_taken number n parts.rights righted a.standing (did.Finished point) right tt within (holds_there old n a is_it has p shown) fits.in_hand.1 in
+        let free : right_of given number ≡ None = gives_there number n righted given still gives keeps taken in
+        let made = made_by old then n a b is_it has p shown fits.in_hand.1 fits.in_hand.2 point so.0 (held_behind a.wish n (indexes_left parts.pages.layout a.index it.0)) so.2
+        (last_gives a.wish n (indexes_left parts.pages.layout a.index it.0) fits.in_hand.2 ∙ sym free) in (
+          made.0,
+          made.1 ∙ is_over parts.pages.layout it.0 b (λ complete. fits.in_hand.2 (sym left.wish ∙ complete)) at,
+          ap (λ (f : Account → Account). f (counted (count_of a))) made.2 ∙ counts_on a.wish a.standing (count_of a) so.0 (count_of b) fits.in_hand.2 so.1,
+          refl,
+        ))
 
     -- it waits for a page of its index
     pub waits_there : StepsInTable → ShowAlike → (righted : List (Option ℕ)) (held : Held)
@@ -277,18 +286,19 @@ module _ {D : Type 0} (told : D → Told) (parts : Parts D) (n : ℕ) (a : Summa
         → StepsSo told parts (with_these parts pages locks righted) n was (stepped.Blocked what held.by next)
     waits_there law alike righted held does stands blocked own right ready what named =
         let same_rights : righted ≡ parts.rights = subst (λ (q : Standing). RightAnswers number n parts.rights righted q (did.Blocked held)) stands.0 right in
-        waits_so told parts pages locks righted n was a.index task (count_of a) fit is_it (left_by righted (same_stays number parts.rights righted same_rights)) next next_task
+        waits_so told parts pages locks righted n was a.index task (count_of a) fit is_it (left_by righted (same_stays number n parts.rights righted same_rights)) next next_task
         (subst (λ (c : ℕ). IsUpkeep parts.pages.layout next a.index next_task c) (same_count a b stands.0 stands.2 stands.3) is_then) same_statement
-        (in_hand_then (λ done. apart (sym stands.0 ∙ sym (ap (λ (x : SummariseState). x.standing) stands.2) ∙ done))) own refl ready alike (inl left.leaves) blocked.2 blocked.1 same_rights what held.by (λ names hand_list has tells p shown.
-            let old = old_store told parts pages locks righted n was a.index task (count_of a) fit is_it (left_by righted (same_stays number parts.rights righted same_rights)) names hand_list has in
-            let it = at_task old n was a.index task (count_of a) is_it has p shown in
-            let shows = here old n was a.index task (count_of a) is_it has p shown in
-            let so = came law righted (did.Blocked held) does tells shows.blocks shows.has in (
-              (λ place stood. (so place stood).1),
-              subst (λ (x : What). Steps p n (Waits (refusals.Blocked x (name_of p held.by))) p) (sym (named number it.0 it.1))
-                  (waits_for_page old n was a.index task (count_of a) is_it has p shown fits.entries held.page held.by
-                  ((so it.0 it.1).0 shows.unseen it.2 shows.lock (kept_here old n was a.index task (count_of a) is_it has p shown)) blocked.0.0 blocked.0.1),
-            ))
+        (in_hand_then (λ done. apart (sym stands.0 ∙ sym (ap (λ (x : SummariseState). x.standing) stands.2) ∙ done))) own refl ready (right_same (ap (λ (x : SummariseState). x.standing) stands.2)) alike (inl left.leaves) blocked.2 blocked.1 same_rights what held.by
+        (blocked.0.2, inl (holder_has_lock parts.locks held.page held.by blocked.0.1)) (λ names hand_list has tells p shown.
+        let old = old_store told parts pages locks righted n was a.index task (count_of a) fit is_it (left_by righted (same_stays number n parts.rights righted same_rights)) names hand_list has in
+        let it = at_task old n was a.index task (count_of a) is_it has p shown in
+        let shows = here old n was a.index task (count_of a) is_it has p shown in
+        let so = came law righted (did.Blocked held) does tells shows.blocks shows.has in (
+          (λ place stood. (so place stood).1),
+          subst (λ (x : What). Steps p n (Waits (refusals.Blocked x (name_of p held.by))) p) (sym (named number it.0 it.1))
+              (waits_for_page old n was a.index task (count_of a) is_it has p shown fits.entries held.page held.by
+              ((so it.0 it.1).0 shows.unseen it.2 shows.lock (kept_here old n was a.index task (count_of a) is_it has p shown)) blocked.0.0 blocked.0.1),
+        ))
       where
         apart : standings.AtRange ≡ standings.Done → ⊥
         apart is = cc
@@ -301,18 +311,19 @@ module _ {D : Type 0} (told : D → Told) (parts : Parts D) (n : ℕ) (a : Summa
         → StepsSo told parts (with_these parts pages locks righted) n was (stepped.Blocked what by next)
     lacks_right law alike righted by does stands kept own right ready what named =
         let told_so : (right_of parts.rights number ≡ Some by) × (by ≢ n) × (righted ≡ parts.rights) = subst (λ (q : Standing). RightAnswers number n parts.rights righted q (did.NoRight by)) stands.0 right in
-        waits_so told parts pages locks righted n was a.index task (count_of a) fit is_it (left_by righted (same_stays number parts.rights righted told_so.2)) next next_task
+        waits_so told parts pages locks righted n was a.index task (count_of a) fit is_it (left_by righted (same_stays number n parts.rights righted told_so.2)) next next_task
         (subst (λ (c : ℕ). IsUpkeep parts.pages.layout next a.index next_task c) (ap count_of stands.1) is_then) same_statement
-        (in_hand_then (λ done. fits.in_hand.1 (sym (ap (λ (x : SummariseState). x.standing) stands.1) ∙ done))) own refl ready alike (inl left.leaves) kept.1 kept.0 told_so.2 what by (λ names hand_list has tells p shown.
-            let old = old_store told parts pages locks righted n was a.index task (count_of a) fit is_it (left_by righted (same_stays number parts.rights righted told_so.2)) names hand_list has in
-            let it = at_task old n was a.index task (count_of a) is_it has p shown in
-            let shows = here old n was a.index task (count_of a) is_it has p shown in
-            let so = came law righted (did.NoRight by) does tells shows.blocks shows.has in (
-              (λ place stood. ap (λ (x : SummariseState). task_of parts.pages.layout place x) stands.1),
-              subst (λ (x : What). Steps p n (Waits (refusals.Blocked x (name_of p by))) p) (sym named)
-                  (waits_for_lock old n was a.index task (count_of a) is_it has p shown fits.entries by
-                  ((so it.0 it.1).0 shows.unseen it.2 shows.lock (kept_here old n was a.index task (count_of a) is_it has p shown)) told_so.0),
-            ))
+        (in_hand_then (λ done. fits.in_hand.1 (sym (ap (λ (x : SummariseState). x.standing) stands.1) ∙ done))) own refl ready (right_same (ap (λ (x : SummariseState). x.standing) stands.1)) alike (inl left.leaves) kept.1 kept.0 told_so.2 what by
+        (told_so.1, inr (number, told_so.0)) (λ names hand_list has tells p shown.
+        let old = old_store told parts pages locks righted n was a.index task (count_of a) fit is_it (left_by righted (same_stays number n parts.rights righted told_so.2)) names hand_list has in
+        let it = at_task old n was a.index task (count_of a) is_it has p shown in
+        let shows = here old n was a.index task (count_of a) is_it has p shown in
+        let so = came law righted (did.NoRight by) does tells shows.blocks shows.has in (
+          (λ place stood. ap (λ (x : SummariseState). task_of parts.pages.layout place x) stands.1),
+          subst (λ (x : What). Steps p n (Waits (refusals.Blocked x (name_of p by))) p) (sym named)
+              (waits_for_lock old n was a.index task (count_of a) is_it has p shown fits.entries by
+              ((so it.0 it.1).0 shows.unseen it.2 shows.lock (kept_here old n was a.index task (count_of a) is_it has p shown)) told_so.0),
+        ))
 
   -- the pages refuse it, and its session gives its locks
   pub refused : (shown : IsShown told parts n (hands.Summarises a)) → TakesSound → (pages : View D) (locks given : LockState) (b : SummariseState) (left : MachineLeft pages locks b)
@@ -327,7 +338,8 @@ module _ {D : Type 0} (told : D → Told) (parts : Parts D) (n : ℕ) (a : Summa
         counts = λ m other. others m other ∙ left.counts.adds.others m other;
         tables = refl;
         apart = λ other apart. refl;
+        theirs = λ m other apart holds. holds;
       }) (hands.Summarises b) (same_statement pages locks b left)
       (left.of, (λ done. fits.in_hand.1 (sym (ap (λ (x : SummariseState). x.standing) same) ∙ done)), (λ complete. fits.in_hand.2 (sym left.wish ∙ complete)))
-      (omega (arith, none)) refl error
+      (omega (arith, none)) refl (right_same pages locks b left (ap (λ (x : SummariseState). x.standing) same)) refl error
       (refused_untold told (Tells told parts.pages → DamageIn parts.pages.layout parts.pages.pages a) parts.pages pages error (λ ready damage tells. is_sound shown tells ready law (damage tells)) refusal)

@@ -1,26 +1,19 @@
 -- a step of a summarise, in a place that the store shows
-use Rattle.std.proofs.Common.{◌≡◌, ◌≢◌, ◌⊎◌, inl, inr, ℕ, ◌+◌, ◌/◌, ◌<◌, Bool, List, [], length, Option, None, Some, refl, sym, ap, subst, ◌∙◌}
+use Rattle.std.proofs.Common.{◌≡◌, ◌≢◌, ◌⊎◌, inl, inr, ℕ, ◌/◌, ◌<◌, Bool, List, length, Option, None, Some, refl, sym, ap, subst, ◌∙◌}
 use Rattle.std.specs.Prelude.{slice_get}
-use Rattle.std.proofs.lemmas.Option.{slice_get_within}
-use Rattle.disk_trait.specs.Told.{Told}
+use Rattle.std.proofs.lemmas.Option.{none-some, same_Some}
 use Rattle.block_model.specs.declared.reply.Point.{Point}
-use Rattle.block_model.specs.declared.reply.Reply.TheVariants as replies
 use Rattle.block_model.specs.DatabaseState.{OpenTransaction}
 use Rattle.block_model.specs.declared.place.Spot.{Spot}
 use Rattle.store_layout.specs.DiskLayout.{DiskLayout}
 use Rattle.page_layout.specs.PageContents.{Slot}
-use Rattle.page_store.specs.Keeps.{Tells}
-use Rattle.page_store.specs.PageMap.{PageMap, View}
+use Rattle.page_store.specs.PageMap.{PageMap}
 use Rattle.page_locks.specs.declared.did.Did.{Did}
 use Rattle.page_locks.specs.declared.did.Did.TheVariants as did
-use Rattle.page_locks.specs.declared.held.Held.{Held}
-use Rattle.page_locks.specs.LockHolders.{LockState, holder}
+use Rattle.page_locks.specs.LockHolders.{LockState}
 use Rattle.page_locks.specs.RightHolders.{right_of}
-use Rattle.heap_rows.specs.HeapBlocks.{HasBlocks, OfBlocks}
-use Rattle.statements.specs.declared.statement.Statement.{Statement}
 use Rattle.statements.specs.declared.statement.Statement.TheVariants as statements
 use Rattle.coverage.specs.Statements.{Phase}
-use Rattle.index_contents.specs.IndexContents.{relation_of as index_relation}
 use Rattle.index_steps.specs.IndexTuples.{index_at, shape_of}
 use Rattle.index_steps.specs.ShownRows.{shown_by}
 use Rattle.index_steps.specs.ShownTable.{indexes_of, shown_at}
@@ -28,9 +21,7 @@ use Rattle.table_coverage.specs.Accounts.{Account, no_account}
 use Rattle.table_coverage.specs.InOneIndex.{DoesAt}
 use Rattle.table_coverage.specs.Machines.{ShownTable, Unseen, table_state}
 use Rattle.table_coverage.specs.Table.{Considers, Job, Maintains, OneRange, Resting, TableState, Task}
-use Rattle.table_coverage.specs.TableCovered.{IsMaintenance, IsTableKept}
-use Rattle.table_coverage.specs.TablePoints.{PageLock, SummariseLock, does_point}
-use Rattle.table_coverage.specs.TableSteps.{Does, Settles}
+use Rattle.table_coverage.specs.TableCovered.{IsMaintenance}
 use Rattle.table_coverage.proofs.Views.{pick_same}
 use Rattle.range_summarise.specs.SummariseHands.{table_of}
 use Rattle.range_summarise.specs.SummariseSteps.{phase_of}
@@ -38,18 +29,19 @@ use Rattle.brin_summarise.specs.declared.course.Standing.{Standing}
 use Rattle.brin_summarise.specs.declared.course.Standing.TheVariants as standings
 use Rattle.brin_summarise.specs.declared.wish.Wish.{Wish}
 use Rattle.brin_summarise.specs.declared.wish.Wish.TheVariants as wishes
-use Rattle.brin_summarise.specs.Summarises.{IsSummariseOf, RightAnswers, StoreStep, SummariseDoes, SummariseState, count_of, first_of, in_range_of, step_of}
-use Rattle.brin_summarise.specs.TableSteps.{DoesInTable, HasCounted, IsFirstWithin, LeavesTheRest, SummariseDid, SummariseGoes, account_by, before_first, behind_last, first_task, held_behind, indexes_left, job_of, task_at, task_of}
+use Rattle.brin_summarise.specs.Summarises.{IsSummariseOf, RightAnswers, StoreStep, SummariseDoes, SummariseState, count_of, first_of, in_range_of}
+use Rattle.brin_summarise.specs.TableSteps.{DoesInTable, HasCounted, IsFirstWithin, LeavesTheRest, SummariseGoes, account_by, before_first, behind_last, first_task, held_behind, indexes_left, job_of, task_at, task_of}
 use Rattle.line_texts.specs.Beginnings.{Begins, StandsAt}
 use Rattle.line_texts.specs.Place.{Place}
 use Rattle.store_parts.specs.declared.hand.Hand.TheVariants as hands
 use Rattle.store_parts.specs.Hands.{block_of}
+use Rattle.store_parts.specs.HandFits.{right_at}
 use Rattle.store_parts.specs.ShowsPlace.{IsLeftToMark, IsPlaceOf}
 use Rattle.store_parts.specs.StoreStates.{ShownStore, hand_in}
 use Rattle.store_upkeep.proofs.SummariseLocks.{OthersStay, same_stays, set_stays, set_there}
 use Rattle.store_upkeep.proofs.UpkeepAt.{IsUpkeep, IsUpkeepAt, at_task, counted, here, kept_here, pages_show, table, unseen_here, w}
 use Rattle.store_upkeep.proofs.UpkeepPoints.{IsPlain, first_point, maintain_point}
-use Rattle.store_upkeep.proofs.UpkeepSteps.{MadeIn, TurnsSo, turned}
+use Rattle.store_upkeep.proofs.UpkeepSteps.{MadeIn, turned}
 
 -- ---- a summarise in hand
 
@@ -59,6 +51,11 @@ not_work index block is = cc
 of_any_copy : (copy : Option OpenTransaction) (a : SummariseState) → IsLeftToMark copy (hands.Summarises a)
 of_any_copy None a = tt
 of_any_copy (Some x) a = tt
+
+right_of_its : (own table : ℕ) (standing : Standing) → right_at own standing ≡ Some table → table ≡ own
+right_of_its own table standings.Begins has = absurd (none-some table has)
+right_of_its own table standings.AtRange has = sym (same_Some own table has)
+right_of_its own table standings.Done has = absurd (none-some table has)
 
 pub is_summarise : (layout : DiskLayout) (a : SummariseState) → a.index < length layout.schema.indexes → (index_at layout a.index).table < length layout.schema.tables
     → IsUpkeep layout (hands.Summarises a) a.index (λ at. task_of layout at a) (count_of a)
@@ -75,6 +72,9 @@ is_summarise layout a within below = record {
   told = refl;
   own = λ transaction copy. of_any_copy copy a;
   in_table = refl;
+  no_insert = tt;
+  asked = λ asked. tt;
+  right = λ table has. right_of_its (index_at layout a.index).table table a.standing has;
   task_is = λ table blocks tx stored transaction now is. is;
   is_task = λ table blocks tx stored transaction now is. is;
 }
@@ -146,22 +146,22 @@ HasIt (did.Moved point) = Unit {0}
 HasIt (did.Finished point) = Unit {0}
 HasIt answer = ⊥
 
-pub right_left : (table s : ℕ) (rights righted : List (Option ℕ)) (standing : Standing) (answer : Did) → RightAnswers table s rights righted standing answer → OthersStay table rights righted
-right_left table s rights righted standings.Begins (did.Moved point) right = set_stays table (Some s) rights righted right.1
-right_left table s rights righted standings.Begins (did.Finished point) right = set_stays table (Some s) rights righted right.1
-right_left table s rights righted standings.Begins (did.Blocked held) right = set_stays table (Some s) rights righted right.1
-right_left table s rights righted standings.Begins (did.NoRight by) right = same_stays table rights righted right.2
-right_left table s rights righted standings.AtRange answer right = same_stays table rights righted right
-right_left table s rights righted standings.Done answer right = same_stays table rights righted right
+pub right_left : (table s : ℕ) (rights righted : List (Option ℕ)) (standing : Standing) (answer : Did) → table < length rights → RightAnswers table s rights righted standing answer → OthersStay table s rights righted
+right_left own s rights righted standings.Begins (did.Moved point) below right = set_stays own s (Some s) rights righted below (λ m is. sym (same_Some s m is)) right.1
+right_left own s rights righted standings.Begins (did.Finished point) below right = set_stays own s (Some s) rights righted below (λ m is. sym (same_Some s m is)) right.1
+right_left own s rights righted standings.Begins (did.Blocked held) below right = set_stays own s (Some s) rights righted below (λ m is. sym (same_Some s m is)) right.1
+right_left own s rights righted standings.Begins (did.NoRight by) below right = same_stays own s rights righted right.2
+right_left own s rights righted standings.AtRange answer below right = same_stays own s rights righted right
+right_left own s rights righted standings.Done answer below right = same_stays own s rights righted right
 
 pub right_taken : (table s : ℕ) (rights righted : List (Option ℕ)) (standing : Standing) (answer : Did) → RightAnswers table s rights righted standing answer → HasIt answer → table < length rights
     → (standing ≡ standings.AtRange → right_of rights table ≡ Some s) → standing ≢ standings.Done → right_of righted table ≡ Some s
-right_taken table s rights righted standings.Begins (did.Moved point) right has below held left = set_there table (Some s) rights righted below right.1
-right_taken table s rights righted standings.Begins (did.Finished point) right has below held left = set_there table (Some s) rights righted below right.1
-right_taken table s rights righted standings.Begins (did.Blocked h) right has below held left = absurd has
-right_taken table s rights righted standings.Begins (did.NoRight by) right has below held left = absurd has
-right_taken table s rights righted standings.AtRange answer right has below held left = ap (λ (l : List (Option ℕ)). right_of l table) right ∙ held refl
-right_taken table s rights righted standings.Done answer right has below held left = absurd (left refl)
+right_taken own s rights righted standings.Begins (did.Moved point) right has below held left = set_there own (Some s) rights righted below right.1
+right_taken own s rights righted standings.Begins (did.Finished point) right has below held left = set_there own (Some s) rights righted below right.1
+right_taken own s rights righted standings.Begins (did.Blocked h) right has below held left = absurd has
+right_taken own s rights righted standings.Begins (did.NoRight by) right has below held left = absurd has
+right_taken own s rights righted standings.AtRange answer right has below held left = ap (λ (l : List (Option ℕ)). right_of l own) right ∙ held refl
+right_taken own s rights righted standings.Done answer right has below held left = absurd (left refl)
 
 -- ---- its step in the place
 

@@ -1,36 +1,34 @@
 -- a maintenance statement in hand, in a place that the store shows
-use Rattle.std.proofs.Common.{◌≡◌, ◌≢◌, inr, ℕ, ◌<◌, List, [], length, Option, None, Some, refl, sym, ap, subst, ◌∙◌}
+use Rattle.std.proofs.Common.{◌≡◌, ◌≢◌, ℕ, ◌<◌, ◌≤◌, List, [], length, Option, None, Some, refl, sym, ap, subst, ◌∙◌}
 use Rattle.std.specs.Prelude.{IsTrue}
-use Rattle.std.specs.FinMap as finite
 use Rattle.block_model.specs.declared.place.Place.{Place as PagePlace}
-use Rattle.block_model.specs.declared.request.Entry.{Entry}
 use Rattle.block_model.specs.DatabaseState.{OpenTransaction}
 use Rattle.block_model.specs.RequestEffect.{Answer}
 use Rattle.store_layout.specs.DiskLayout.{DiskLayout}
 use Rattle.page_layout.specs.PageContents.{Slot}
-use Rattle.page_store.specs.PageMap.{block_at, page_at}
+use Rattle.page_store.specs.PageMap.{page_at}
 use Rattle.page_locks.specs.RightHolders.{right_of}
 use Rattle.opened_pages.specs.PageOrder.{IsIndexInOrder}
-use Rattle.heap_rows.specs.Heaps.{relation_of as heap_of}
 use Rattle.snapshot_core.specs.declared.statuses.Status.{Status}
 use Rattle.row_versions.specs.declared.sessions.Open.{Open}
 use Rattle.row_versions.specs.StoredVersions.{transaction_of}
 use Rattle.statements.specs.declared.limits.TheConstants.{MAX_ENTRIES}
 use Rattle.statements.specs.declared.statement.Statement.TheVariants as statements
 use Rattle.tx_table.specs.TxState.{TxState}
-use Rattle.tx_table.specs.Statuses.{status_relation}
 use Rattle.index_contents.specs.IndexContents.{index_page, relation_of as index_relation}
-use Rattle.table_coverage.specs.Accounts.{Account, no_account}
+use Rattle.table_coverage.specs.Accounts.{Account, Asked, no_account}
 use Rattle.table_coverage.specs.Machines.{ShownTable, Unseen, table_state}
 use Rattle.table_coverage.specs.Table.{TableState, Task}
 use Rattle.table_coverage.specs.TableCovered.{IsTableKept}
 use Rattle.index_steps.specs.IndexTuples.{index_at}
 use Rattle.index_steps.specs.ShownRows.{shown_by}
 use Rattle.line_texts.specs.Beginnings.{IsIn, StandsAt, takes_lock}
-use Rattle.line_texts.specs.Place.{Hand as HandAt, Place, database_at, new_hand}
+use Rattle.line_texts.specs.Place.{Hand as HandAt, Place, new_hand}
 use Rattle.line_texts.specs.Requests.{next_request}
 use Rattle.store_parts.specs.declared.hand.Hand.{Hand}
 use Rattle.store_parts.specs.Hands.{AnswersAre, HandShows, TellsSo, statement_of}
+use Rattle.store_parts.specs.HandFits.{right_held}
+use Rattle.store_parts.specs.HandsAsk.{HandAsked, IsNoInsert}
 use Rattle.store_parts.specs.HandsInTables.{InItsTable, IsTaskOf, table_in}
 use Rattle.store_parts.specs.Leaving.{ChangesLocks, LeavesOthers}
 use Rattle.store_parts.specs.ShowsPlace.{IsOfTransaction, IsPlaceOf, ShowsTable}
@@ -59,6 +57,9 @@ pub record IsUpkeep (layout : DiskLayout) (hand : Hand) (index : ℕ) (task : �
   pub told : TellsSo hand (counted count)
   pub own : (transaction : Option Open) (copy : Option OpenTransaction) → IsOfTransaction transaction copy hand
   pub in_table : table_in layout (Some hand) ≡ Some (index_at layout index).table
+  pub no_insert : IsNoInsert (Some hand)
+  pub asked : (asked : List Asked) → HandAsked layout (Some hand) asked
+  pub right : (table : ℕ) → right_held layout (Some hand) ≡ Some table → table ≡ (index_at layout index).table
   pub task_is : (table : ℕ) (blocks : List (List Slot)) (tx : TxState) (stored : List Status) (transaction : Option Open) (now : Task)
       → IsTaskOf layout table blocks tx stored transaction (Some hand) now → InItsTable (index_at layout index).table table (IsUpkeepAt layout index task now) now
   pub is_task : (table : ℕ) (blocks : List (List Slot)) (tx : TxState) (stored : List Status) (transaction : Option Open) (now : Task)
@@ -75,6 +76,8 @@ pub record UpkeepLeft (old new : ShownStore) (n : ℕ) (was : Hand) (index : ℕ
       → IsIndexInOrder old.layout.sizes.index_blocks (index_page old.layout new.pages i)
   pub transactions : new.transactions ≡ old.transactions
   pub entries : new.entries ≡ old.entries
+  pub queue : new.queue ≡ old.queue
+  pub dropped : new.dropped ≡ old.dropped
   pub few : length old.entries ≤ MAX_ENTRIES
 
 -- what the definition has in hand of it
@@ -133,9 +136,9 @@ module _ (old : ShownStore) (n : ℕ) (was : Hand) (index : ℕ) (task : ℕ →
 pub of_same : (F : DiskLayout → ℕ → Type 0) (layout other : DiskLayout) → other ≡ layout → (index i : ℕ) → i ≡ index → F other i → F layout index
 of_same F layout other same index i is holds = subst (λ (l : DiskLayout). F l index) same (subst (λ (j : ℕ). F other j) is holds)
 
-pub table_is : (layout other : DiskLayout) → other ≡ layout → (index i : ℕ) → i ≡ index → (table : ℕ) → table ≡ (index_at other i).table → table ≡ (index_at layout index).table
-table_is layout other same index i is table number = of_same (λ (l : DiskLayout) (j : ℕ). table ≡ (index_at l j).table) layout other same index i is number
+pub table_is : (layout other : DiskLayout) → other ≡ layout → (index i : ℕ) → i ≡ index → (number : ℕ) → number ≡ (index_at other i).table → number ≡ (index_at layout index).table
+table_is layout other same index i is number there = of_same (λ (l : DiskLayout) (j : ℕ). number ≡ (index_at l j).table) layout other same index i is there
 
-pub table_below : (layout other : DiskLayout) → other ≡ layout → (index i : ℕ) → i ≡ index → (table : ℕ) → table ≡ (index_at other i).table → table < length other.schema.tables → (index_at layout index).table < length layout.schema.tables
-table_below layout other same index i is table number below = of_same (λ (l : DiskLayout) (j : ℕ). (index_at l j).table < length l.schema.tables) layout other same index i is
+pub table_below : (layout other : DiskLayout) → other ≡ layout → (index i : ℕ) → i ≡ index → (it : ℕ) → it ≡ (index_at other i).table → it < length other.schema.tables → (index_at layout index).table < length layout.schema.tables
+table_below layout other same index i is it number below = of_same (λ (l : DiskLayout) (j : ℕ). (index_at l j).table < length l.schema.tables) layout other same index i is
     (subst (λ (t : ℕ). t < length other.schema.tables) number below)

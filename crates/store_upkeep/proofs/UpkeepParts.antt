@@ -2,7 +2,6 @@
 use Rattle.std.proofs.Common.{◌≡◌, ◌≢◌, ◌⊎◌, inl, inr, ⊎_elim, ℕ, ◌+◌, ◌≤◌, List, [], length, Option, None, Some, refl, sym, ap, subst, ◌∙◌, arith}
 use Rattle.std.proofs.lemmas.Bool.{cases_eq}
 use Rattle.disk_trait.specs.Told.{Told}
-use Rattle.block_model.specs.declared.place.Place.{Place as PagePlace}
 use Rattle.block_model.specs.declared.reply.Point.{Point}
 use Rattle.block_model.specs.declared.reply.Refusal.TheVariants as refusals
 use Rattle.block_model.specs.declared.reply.Reply.{Reply}
@@ -29,7 +28,6 @@ use Rattle.index_order.specs.KeepsOrder.{KeepsOrder}
 use Rattle.index_steps.specs.IndexTuples.{index_at}
 use Rattle.index_steps.specs.SwapAnswers.{LeavesLocks}
 use Rattle.table_coverage.specs.Table.{Resting, Task}
-use Rattle.table_coverage.specs.TablePoints.{WaitedFor}
 use Rattle.line_texts.specs.Beginnings.{StandsAt}
 use Rattle.line_texts.specs.Names.{name_of}
 use Rattle.line_texts.specs.Place.{Place}
@@ -39,8 +37,8 @@ use Rattle.store_parts.specs.declared.hand.Stepped.{Stepped}
 use Rattle.store_parts.specs.declared.hand.Stepped.TheVariants as stepped
 use Rattle.store_parts.specs.declared.parts.Parts.{Parts}
 use Rattle.store_parts.specs.Hands.{statement_of}
-use Rattle.store_parts.specs.HandFits.{FitsHand, IsHandFor, locks_held}
-use Rattle.store_parts.specs.Leaving.{ChangesLocks, GivesLocks, LeavesOthers, LocksIn}
+use Rattle.store_parts.specs.HandFits.{FitsHand, IsHandFor, locks_held, right_held}
+use Rattle.store_parts.specs.Leaving.{ChangesLocks, GivesLocks, LocksIn}
 use Rattle.store_parts.specs.Shares.{hand_share, share_of}
 use Rattle.store_parts.specs.ShowsPlace.{IsPlaceOf}
 use Rattle.store_parts.specs.StepAnswers.{HasFaultCause, StaysReady, StaysWhereUndone}
@@ -53,7 +51,7 @@ use Rattle.store_parts.proofs.Stores.{hand_changes}
 use Rattle.store_parts.proofs.Undone.{fit_of_parts, fit_of_stores}
 use Rattle.std.proofs.lemmas.Option.{none-some}
 use Rattle.store_upkeep.proofs.UpkeepAt.{IsUpkeep, UpkeepLeft, at_task, counted, table}
-use Rattle.store_upkeep.proofs.UpkeepStays.{UpkeepStays, stays_shown}
+use Rattle.store_upkeep.proofs.UpkeepStays.{stays_shown}
 use Rattle.store_upkeep.proofs.UpkeepSteps.{MadeIn, goes_on, is_done}
 
 -- what a step left of the parts: pages of its index alone changed, and of the locks its session's own, and of the summarise locks that of its table
@@ -64,6 +62,7 @@ pub record PartsLeft {D : Type 0} (told : D → Told) (parts : Parts D) (pages :
   pub counts : (m : ℕ) → m ≢ n → locks_of locks m ≡ locks_of parts.locks m
   pub tables : length rights ≡ length parts.rights
   pub apart : (other : ℕ) → other ≢ (index_at parts.pages.layout index).table → right_of rights other ≡ right_of parts.rights other
+  pub theirs : (m other : ℕ) → m ≢ n → right_of rights other ≡ Some m → right_of parts.rights other ≡ Some m
 
 -- its session's locks changed in its index, or it gave them
 abbrev pub LocksLeft : DiskLayout → (old new : LockState) → (n index : ℕ) → Type 0
@@ -87,11 +86,11 @@ has_cause told old now errors.Disk refused = refused
 has_cause told old now (errors.Reopen faults) refused = refused
 has_cause told old now (errors.Damaged at) refused = refused
 
-enters_none : {D : Type 0} (told : D → Told) (old new : StoreState D) (was hand : Hand) (error : StoreError) → new.journal.entries ≡ old.journal.entries → statement_of hand ≡ statement_of was
-    → StaysWhereUndone told old new was (stepped.Undone (fault_of error) hand)
-enters_none told old now was hand errors.Disk same statement = (same, statement)
-enters_none told old now was hand (errors.Reopen faults) same statement = (same, statement)
-enters_none told old now was hand (errors.Damaged at) same statement = (same, statement)
+enters_none : {D : Type 0} (told : D → Told) (old new : StoreState D) (n : ℕ) (was hand : Hand) (error : StoreError) → new.journal.entries ≡ old.journal.entries → statement_of hand ≡ statement_of was
+    → StaysWhereUndone told old new n was (stepped.Undone (fault_of error) hand)
+enters_none told old now n was hand errors.Disk same statement = (same, statement)
+enters_none told old now n was hand (errors.Reopen faults) same statement = (same, statement)
+enters_none told old now n was hand (errors.Damaged at) same statement = (same, statement)
 
 -- damage is found only where the disk doesn't tell its contents
 pub refused_untold : {D : Type 0} (told : D → Told) (Cause : Type 0) (old new : View D) (error : StoreError) → (old.failed ≡ None → Cause → Untold told old) → Refused told Cause old new error → Refused told (Untold told old) old new error
@@ -111,17 +110,39 @@ module _ {D : Type 0} (told : D → Told) (parts : Parts D) (pages : View D) (lo
   over = over_kept told parts.transactions.tx parts.pages pages fits.over left.others.leaves
       (λ tells block. left.others.pages tells (record { relation = status_relation; block = block }) (λ (same : status_relation ≡ index_relation parts.pages.layout index). absurd (omega (arith, same))))
 
-  fits_then : (h : Option Hand) → FitsHand parts.pages.layout (transaction_of parts.transactions.opens n) h → locks_of locks n ≤ locks_held h → hand_share h ≡ hand_share (Some was) → FitsParts told new n h
-  fits_then h in_hand own share = record {
+  fits_then : (h : Option Hand) → FitsHand parts.pages.layout (transaction_of parts.transactions.opens n) h → locks_of locks n ≤ locks_held h → hand_share h ≡ hand_share (Some was)
+      → ((t : ℕ) → right_of rights t ≡ Some n → right_held parts.pages.layout h ≡ Some t) → FitsParts told new n h
+  fits_then h in_hand own share held = record {
     session = fits.session;
     over = over;
     in_hand = subst (λ (l : DiskLayout). FitsHand l (transaction_of parts.transactions.opens n) h) (sym left.others.leaves.layout) in_hand;
     limit = left.limit ∙ fits.limit;
     own = own;
+    held = λ t holds. ap (λ (l : DiskLayout). right_held l h) left.others.leaves.layout ∙ held t holds;
     rights = left.tables ∙ fits.rights ∙ ap (λ (l : DiskLayout). length l.schema.tables) (sym left.others.leaves.layout);
     entries = fits.entries;
     share = let more = fits.share in omega (arith, more, share);
   }
+
+  -- its session holds no summarise lock of another table
+  apart_free : (t : ℕ) → t ≢ (index_at parts.pages.layout index).table → right_of rights t ≡ Some n → ⊥
+  apart_free t away holds = away (is.right t (fits.held t (sym (left.apart t away) ∙ holds)))
+
+  -- and of its own only what it has in hand
+  held_by : (h : Option Hand) → right_held parts.pages.layout h ≡ Some (index_at parts.pages.layout index).table → (t : ℕ) → right_of rights t ≡ Some n → right_held parts.pages.layout h ≡ Some t
+  held_by h has t holds = elim (cases_eq t (index_at parts.pages.layout index).table) [
+    | inl same ↦ has ∙ ap Some (sym same)
+    | inr away ↦ absurd (apart_free t away holds)
+  ]
+
+  held_none : right_of rights (index_at parts.pages.layout index).table ≢ Some n → (t : ℕ) → right_of rights t ≡ Some n → right_held parts.pages.layout None ≡ Some t
+  held_none lacks t holds = elim (cases_eq t (index_at parts.pages.layout index).table) [
+    | inl same ↦ absurd (lacks (ap (λ (x : ℕ). right_of rights x) (sym same) ∙ holds))
+    | inr away ↦ absurd (apart_free t away holds)
+  ]
+
+  held_same : (h : Option Hand) → right_held parts.pages.layout h ≡ right_held parts.pages.layout (Some was) → rights ≡ parts.rights → (t : ℕ) → right_of rights t ≡ Some n → right_held parts.pages.layout h ≡ Some t
+  held_same h same same_rights t holds = same ∙ fits.held t (ap (λ (r : List (Option ℕ)). right_of r t) (sym same_rights) ∙ holds)
 
   stays_fit : (answer : Stepped) → FitsParts told new n (hand_after answer) → StaysFit told parts new n was answer
   stays_fit answer fits_so names hand_list has = fit_of_stores told new n (hand_after answer) names (with_hand hand_list n (hand_after answer)) fits_so (hand_changes hand_list n was (hand_after answer) has).own
@@ -131,6 +152,8 @@ module _ {D : Type 0} (told : D → Told) (parts : Parts D) (pages : View D) (lo
     leaves = left.others.leaves;
     transactions = λ m apart. refl;
     locks = λ m apart. left.counts m apart;
+    rights = λ m other apart holds. left.theirs m other apart holds;
+    dropped = λ m apart. refl;
     promised = ap (λ (h : Option Hand). parts.journal.promised + share_of h (transaction_of parts.transactions.opens n)) has
         ∙ ap (λ (s : ℕ). parts.journal.promised + s) same
         ∙ ap (λ (h : Option Hand). parts.journal.promised + share_of h (transaction_of parts.transactions.opens n)) (sym (hand_changes hand_list n was (hand_after answer) has).own);
@@ -179,12 +202,15 @@ module _ {D : Type 0} (told : D → Told) (parts : Parts D) (pages : View D) (lo
       order = λ i below ordered. order_so tells i ordered;
       transactions = refl;
       entries = refl;
+      queue = refl;
+      dropped = refl;
       few = fits.entries;
     }
 
   -- it goes on
   module _ (next : Hand) (next_task : ℕ → Task) (next_count : ℕ) (stays : IsUpkeep parts.pages.layout next index next_task next_count) (same : statement_of next ≡ statement_of was)
-      (in_hand : IsHandFor parts.pages.layout (transaction_of parts.transactions.opens n) next) (own : locks_of locks n ≤ locks_held (Some next)) (share : hand_share (Some next) ≡ hand_share (Some was)) (ready : StaysReady parts.pages pages) where
+      (in_hand : IsHandFor parts.pages.layout (transaction_of parts.transactions.opens n) next) (own : locks_of locks n ≤ locks_held (Some next)) (share : hand_share (Some next) ≡ hand_share (Some was)) (ready : StaysReady parts.pages pages)
+      (right : right_held parts.pages.layout (Some next) ≡ Some (index_at parts.pages.layout index).table) where
     -- its step in each place that is shown
     abbrev pub Goes : Point → Type 0
     Goes point = (names : List (List ℕ)) (hand_list : List (Option Hand)) (has : hand_in hand_list n ≡ Some was) → Tells told parts.pages → (p : Place) (shown : IsPlaceOf (old_store names hand_list has) p)
@@ -198,14 +224,14 @@ module _ {D : Type 0} (told : D → Told) (parts : Parts D) (pages : View D) (lo
           let it = makes names hand_list has tells p shown in
           goes_on (old_store names hand_list has) (new_store names hand_list has (Some next)) n was index task count is (left_so names hand_list has leaves tells (Some next)) p shown alike point it.0
           next next_task next_count stays same (hand_changes hand_list n was (Some next) has).own it.1 it.2 it.3;
-      fit = stays_fit (stepped.Moved point next) (fits_then (Some next) in_hand own share);
+      fit = stays_fit (stepped.Moved point next) (fits_then (Some next) in_hand own share (held_by (Some next) right));
       others = leaves_others (stepped.Moved point next) share;
       stays = λ names hand_list has. same;
       cause = ready;
     }
 
   -- it replies
-  module _ (next_count : ℕ) (none : locks_of locks n ≡ 0) (free : hand_share (Some was) ≡ 0) (ready : StaysReady parts.pages pages) where
+  module _ (next_count : ℕ) (none : locks_of locks n ≡ 0) (free : hand_share (Some was) ≡ 0) (ready : StaysReady parts.pages pages) (lacks : right_of rights (index_at parts.pages.layout index).table ≢ Some n) where
     abbrev pub Ends : Point → Reply → Type 0
     Ends point reply = (names : List (List ℕ)) (hand_list : List (Option Hand)) (has : hand_in hand_list n ≡ Some was) → Tells told parts.pages → (p : Place) (shown : IsPlaceOf (old_store names hand_list has) p)
         → (made : MadeIn (old_store names hand_list has) (new_store names hand_list has None) n was index task count is has p shown point)
@@ -219,14 +245,15 @@ module _ {D : Type 0} (told : D → Told) (parts : Parts D) (pages : View D) (lo
           let it = makes names hand_list has tells p shown in
           is_done (old_store names hand_list has) (new_store names hand_list has None) n was index task count is (left_so names hand_list has leaves tells None) p shown alike point it.0
           (hand_changes hand_list n was None has).own it.1 next_count it.2 reply it.3;
-      fit = stays_fit (stepped.Done reply) (fits_then None tt (omega (arith, none)) (sym free));
+      fit = stays_fit (stepped.Done reply) (fits_then None tt (omega (arith, none)) (sym free) (held_none lacks));
       others = leaves_others (stepped.Done reply) (sym free);
       stays = λ names hand_list has. tt;
       cause = ready;
     }
 
   -- it is refused
-  module _ (none : locks_of locks n ≡ 0) (free : hand_share (Some was) ≡ 0) (ready : StaysReady parts.pages pages) (leaves : LocksLeft parts.pages.layout parts.locks locks n index) where
+  module _ (none : locks_of locks n ≡ 0) (free : hand_share (Some was) ≡ 0) (ready : StaysReady parts.pages pages) (leaves : LocksLeft parts.pages.layout parts.locks locks n index)
+      (lacks : right_of rights (index_at parts.pages.layout index).table ≢ Some n) where
     abbrev pub IsRefusal : Reply → Type 0
     IsRefusal reply = (names : List (List ℕ)) (hand_list : List (Option Hand)) (has : hand_in hand_list n ≡ Some was) → Tells told parts.pages → (p : Place) (shown : IsPlaceOf (old_store names hand_list has) p)
         → UpkeepLeft (old_store names hand_list has) (new_store names hand_list has None) n was index → hand_in (with_hand hand_list n None) n ≡ None
@@ -235,7 +262,7 @@ module _ {D : Type 0} (told : D → Told) (parts : Parts D) (pages : View D) (lo
     pub refused_so : (reply : Reply) → IsRefusal reply → StepsSo told parts new n was (stepped.Done reply)
     refused_so reply makes = record {
       steps = λ names hand_list has tells first then p shown. makes names hand_list has tells p shown (left_so names hand_list has leaves tells None) (hand_changes hand_list n was None has).own;
-      fit = stays_fit (stepped.Done reply) (fits_then None tt (omega (arith, none)) (sym free));
+      fit = stays_fit (stepped.Done reply) (fits_then None tt (omega (arith, none)) (sym free) (held_none lacks));
       others = leaves_others (stepped.Done reply) (sym free);
       stays = λ names hand_list has. tt;
       cause = ready;
@@ -243,14 +270,16 @@ module _ {D : Type 0} (told : D → Told) (parts : Parts D) (pages : View D) (lo
 
   -- nothing changed but the statement, which is at the same task
   module _ (next : Hand) (next_task : ℕ → Task) (stays : IsUpkeep parts.pages.layout next index next_task count) (same : statement_of next ≡ statement_of was)
-      (in_hand : IsHandFor parts.pages.layout (transaction_of parts.transactions.opens n) next) (own : locks_of locks n ≤ locks_held (Some next)) (share : hand_share (Some next) ≡ hand_share (Some was)) (ready : StaysReady parts.pages pages) where
+      (in_hand : IsHandFor parts.pages.layout (transaction_of parts.transactions.opens n) next) (own : locks_of locks n ≤ locks_held (Some next)) (share : hand_share (Some next) ≡ hand_share (Some was)) (ready : StaysReady parts.pages pages)
+      (right : right_held parts.pages.layout (Some next) ≡ right_held parts.pages.layout (Some was)) where
     abbrev pub IsWaiting : What → ℕ → Type 0
     IsWaiting what by = (names : List (List ℕ)) (hand_list : List (Option Hand)) (has : hand_in hand_list n ≡ Some was) → Tells told parts.pages → (p : Place) (shown : IsPlaceOf (old_store names hand_list has) p)
         → ((place : ℕ) → StandsAt parts.pages.layout index place → next_task place ≡ task place) × Steps p n (Waits (refusals.Blocked what (name_of p by))) p
 
-    pub waits_so : ShowAlike → LocksLeft parts.pages.layout parts.locks locks n index → Keeps told parts.pages pages → locks ≡ parts.locks → rights ≡ parts.rights → (what : What) (by : ℕ) → IsWaiting what by → StepsSo told parts new n was (stepped.Blocked what by next)
+    pub waits_so : ShowAlike → LocksLeft parts.pages.layout parts.locks locks n index → Keeps told parts.pages pages → locks ≡ parts.locks → rights ≡ parts.rights → (what : What) (by : ℕ)
+        → (by ≢ n) × ((1 ≤ locks_of parts.locks by) ⊎ ((t : ℕ) × (right_of parts.rights t ≡ Some by))) → IsWaiting what by → StepsSo told parts new n was (stepped.Blocked what by next)
     unfolding left_so
-    waits_so alike leaves keeps same_locks same_rights what by waits = record {
+    waits_so alike leaves keeps same_locks same_rights what by holder_is waits = record {
       steps = λ names hand_list has tells first then p shown. (
         p,
         stays_shown (old_store names hand_list has) (new_store names hand_list has (Some next)) n was next index task next_task count is (record {
@@ -265,20 +294,20 @@ module _ {D : Type 0} (told : D → Told) (parts : Parts D) (pages : View D) (lo
         }) p shown alike,
         (waits names hand_list has tells p shown).1,
       );
-      fit = stays_fit (stepped.Blocked what by next) (fits_then (Some next) in_hand own share);
+      fit = stays_fit (stepped.Blocked what by next) (fits_then (Some next) in_hand own share (held_same (Some next) right same_rights));
       others = leaves_others (stepped.Blocked what by next) share;
-      stays = λ names hand_list has. (record { pages = keeps; transactions = refl; locks = same_locks; rights = same_rights; journal = refl }, same);
+      stays = λ names hand_list has. (record { pages = keeps; transactions = refl; locks = same_locks; rights = same_rights; journal = refl; queue = refl; dropped = refl }, same, holder_is);
       cause = ready;
     }
 
   -- the pages refuse it
   module _ (next : Hand) (same : statement_of next ≡ statement_of was) (in_hand : IsHandFor parts.pages.layout (transaction_of parts.transactions.opens n) next) (own : locks_of locks n ≤ locks_held (Some next))
-      (share : hand_share (Some next) ≡ hand_share (Some was)) where
+      (share : hand_share (Some next) ≡ hand_share (Some was)) (right : right_held parts.pages.layout (Some next) ≡ right_held parts.pages.layout (Some was)) (same_rights : rights ≡ parts.rights) where
     pub undone_so : (error : StoreError) → Refused told (Untold told parts.pages) parts.pages pages error → StepsSo told parts new n was (stepped.Undone (fault_of error) next)
     undone_so error refused = record {
       steps = λ names hand_list has tells first then p shown. absurd (never_shown told parts.pages pages error refused tells first then);
-      fit = stays_fit (stepped.Undone (fault_of error) next) (fits_then (Some next) in_hand own share);
+      fit = stays_fit (stepped.Undone (fault_of error) next) (fits_then (Some next) in_hand own share (held_same (Some next) right same_rights));
       others = leaves_others (stepped.Undone (fault_of error) next) share;
-      stays = λ names hand_list has. enters_none told _ _ was next error refl same;
+      stays = λ names hand_list has. enters_none told _ _ n was next error refl same;
       cause = has_cause told parts.pages pages error refused;
     }

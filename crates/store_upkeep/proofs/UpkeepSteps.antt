@@ -1,5 +1,5 @@
 -- a step of a maintenance statement, as a step of the place that the store shows
-use Rattle.std.proofs.Common.{◌≡◌, ◌≢◌, ◌⊎◌, inl, inr, ⊎_elim, ℕ, ◌+◌, ◌<◌, ◌≤◌, Bool, List, [], length, Option, None, Some, refl, sym, ap, subst, ◌∙◌, arith}
+use Rattle.std.proofs.Common.{◌≡◌, ◌≢◌, ◌⊎◌, inr, ℕ, ◌<◌, ◌≤◌, Bool, List, [], length, Option, None, Some, refl, sym, ap, subst, ◌∙◌, arith}
 use Rattle.std.specs.FinMap as finite
 use Rattle.std.proofs.lemmas.Option.{none-some, same_Some}
 use Rattle.block_model.specs.declared.place.Spot.{Spot}
@@ -7,7 +7,6 @@ use Rattle.block_model.specs.declared.reply.Point.{Point}
 use Rattle.block_model.specs.declared.reply.Point.TheVariants as points
 use Rattle.block_model.specs.declared.reply.Reply.{Reply}
 use Rattle.block_model.specs.declared.request.Entry.{Entry}
-use Rattle.page_layout.specs.PageContents.{Slot}
 use Rattle.page_store.specs.PageMap.{block_at}
 use Rattle.page_locks.specs.RightHolders.{right_of}
 use Rattle.heap_rows.specs.HeapBlocks.{HasBlocks}
@@ -35,6 +34,7 @@ use Rattle.line_texts.specs.Requests.{NoneLeft}
 use Rattle.line_texts.specs.StatementSteps.{Ended, MakesAt, Moved, Steps, StepsTo, course_of, reply_after}
 use Rattle.store_parts.specs.declared.hand.Hand.{Hand}
 use Rattle.store_parts.specs.Hands.{HandShows, statement_of}
+use Rattle.store_parts.specs.HandsAsk.{IsNoInsert}
 use Rattle.store_parts.specs.HandsInTables.{IsTaskOf, table_in}
 use Rattle.store_parts.specs.Leaving.{LeadsTo, StepsInTable}
 use Rattle.store_parts.specs.PlacesAfter.{TurnsIn, place_after, point_in}
@@ -135,9 +135,10 @@ module _ (old new : ShownStore) (n : ℕ) (was : Hand) (index : ℕ) (task : ℕ
   pub behind : (at : Option HandAt) (v : TableState) (account : Account) → HandShows (hand_in new.hands n) at account
       → ((hand : Hand) → hand_in new.hands n ≡ Some hand → IsOfTransaction (transaction_of new.transactions.opens n) (finite.get (database_at p).sessions n) hand)
       → ((other : ℕ) → table_in old.layout (hand_in new.hands n) ≡ Some other → other ≡ number) → ShowsTable new stored number v
+      → account.dropped ≡ (p.accounts n).dropped → IsNoInsert (hand_in new.hands n)
       → IsPlaceOf new (place_after p n number at v account (counts_of new.transactions stored) new.entries)
-  behind at v account hand own there shows = table_step_is_shown old new p n number at v account shown left.others (steps_in there) (same_counts_few old new stored stored counts_same)
-      (leads_so at account hand own) shows
+  behind at v account hand own there shows told asks = table_step_is_shown old new p n number at v account shown left.others (steps_in there) (same_counts_few old new stored stored counts_same)
+      (leads_so at account hand own) shows (record { queue = left.queue; dropped = left.dropped; told = told; hand = asks })
 
   module _ (point : Point) (made : MadeIn old new n was index task count is left.had p shown point) where
     abbrev between : Task
@@ -162,7 +163,7 @@ module _ (old new : ShownStore) (n : ℕ) (was : Hand) (index : ℕ) (task : ℕ
     account_then = made.account (p.accounts n)
 
     turns : (turns : TurnsIn p n statement number v account_then) × (point_in turns ≡ Some point) × (turns.step.between ≡ within)
-    turns = machine_turns p n number statement (w old n was index task count is left.had p shown) within v point made.account at_here.shown shown.queue is.no_work (is.on p n shown.layout) made.turns.does
+    turns = machine_turns p n number statement (w old n was index task count is left.had p shown) within v point made.account at_here.shown is.no_work (is.on p n shown.layout) made.turns.does
         (not_pruned point made.turns.plain) made.turns.settles own
       where
         own : (u.task n ≢ Resting) ⊎ Begins p n (w old n was index task count is left.had p shown) statement (within.task n)
@@ -176,6 +177,10 @@ module _ (old new : ShownStore) (n : ℕ) (was : Hand) (index : ℕ) (task : ℕ
 
     told_then : account_then ≡ made.account (counted count)
     told_then = ap made.account (told_is old n was index task count is left.had p shown)
+
+    -- it asks for no summary
+    none_asked : (next_count : ℕ) → made.account (counted count) ≡ counted next_count → account_then.dropped ≡ (p.accounts n).dropped
+    none_asked next_count counts_on = ap (λ (a : Account). a.dropped) (told_then ∙ counts_on) ∙ sym (ap (λ (a : Account). a.dropped) (told_is old n was index task count is left.had p shown))
 
     -- it goes on
     module _ (next : Hand) (next_task : ℕ → Task) (next_count : ℕ) (stays : IsUpkeep old.layout next index next_task next_count) (same : statement_of next ≡ statement_of was) (now : hand_in new.hands n ≡ Some next)
@@ -194,7 +199,7 @@ module _ (old new : ShownStore) (n : ℕ) (was : Hand) (index : ℕ) (task : ℕ
         place_after p n number (Some (new_hand statement)) v account_then (counts_of new.transactions stored) new.entries,
         behind (Some (new_hand statement)) v account_then next_shows
             (λ h there. subst (λ (x : Hand). IsOfTransaction (transaction_of new.transactions.opens n) (finite.get (database_at p).sessions n) x) (same_Some next h (sym now ∙ there)) (stays.own (transaction_of new.transactions.opens n) (finite.get (database_at p).sessions n)))
-            (λ other there. same_Some other number (sym there ∙ ap (table_in old.layout) now ∙ stays.in_table)) (table_then next_at),
+            (λ other there. same_Some other number (sym there ∙ ap (table_in old.layout) now ∙ stays.in_table)) (table_then next_at) (none_asked next_count counts_on) (subst IsNoInsert (sym now) stays.no_insert),
         record {
           hand = new_hand statement;
           in_hand = hand_is old n was index task count is left.had p shown;
@@ -212,10 +217,10 @@ module _ (old new : ShownStore) (n : ℕ) (was : Hand) (index : ℕ) (task : ℕ
       is_done = (
         place_after p n number None v account_then (counts_of new.transactions stored) new.entries,
         behind None v account_then
-            (subst (λ (h : Option Hand). HandShows h None account_then) (sym now) (refl, ap (λ (a : Account). a.dropped) (told_then ∙ counts_on)))
+            (subst (λ (h : Option Hand). HandShows h None account_then) (sym now) refl)
             (λ h there. absurd (none-some h (sym now ∙ there)))
             (λ other there. absurd (none-some other (ap (table_in old.layout) (sym now) ∙ there)))
-            (table_then (subst (λ (h : Option Hand). IsTaskOf old.layout number at_here.blocks new.transactions.tx stored (transaction_of new.transactions.opens n) h after) (sym now) rests)),
+            (table_then (subst (λ (h : Option Hand). IsTaskOf old.layout number at_here.blocks new.transactions.tx stored (transaction_of new.transactions.opens n) h after) (sym now) rests)) (none_asked next_count counts_on) (subst IsNoInsert (sym now) tt),
         record {
           hand = new_hand statement;
           in_hand = hand_is old n was index task count is left.had p shown;

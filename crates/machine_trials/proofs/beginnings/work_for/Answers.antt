@@ -1,6 +1,6 @@
 use Rattle.std.proofs.Common.{subst}
 use Rattle.query_words.specs.LineFits.{FitsStatement}
-use Rattle.machine_trials.proofs.Declared.{index_below, insert_kinds, query_below}
+use Rattle.machine_trials.proofs.Declared.{index_below, insert_kinds, query_below, table_below}
 use Rattle.machine_trials.proofs.beginnings.work_for.Goals as goal
 
 pub insert_of-requires-clause-kinds : goal.insert_of-requires-clause-kinds
@@ -14,3 +14,9 @@ explain_of-requires c = let schema = c.args.layout.now.schema in record { table 
 
 pub summarise_of-requires : goal.summarise_of-requires
 summarise_of-requires c = let schema = c.args.layout.now.schema in record { index = index_below schema c.in-Summarize.index (subst (FitsStatement schema) c.in-Summarize.is c.requires) }
+
+pub delete_of-requires : goal.delete_of-requires
+delete_of-requires c = let schema = c.args.layout.now.schema in record { table = query_below schema c.in-Delete.query (subst (FitsStatement schema) c.in-Delete.is c.requires) }
+
+pub vacuum_of-requires : goal.vacuum_of-requires
+vacuum_of-requires c = let schema = c.args.layout.now.schema in record { table = table_below schema c.in-Vacuum.table (subst (FitsStatement schema) c.in-Vacuum.is c.requires) }

@@ -1,4 +1,4 @@
-use Rattle.std.proofs.Common.{◌≡◌, ℕ, [], ◌∷◌, ◌++◌, ◌+◌, ◌<◌, ◌≤◌, length, Option, None, Some, refl, sym, ap, subst, ◌∙◌, arith}
+use Rattle.std.proofs.Common.{◌≡◌, ℕ, List, [], ◌∷◌, ◌++◌, ◌+◌, ◌≤◌, length, Option, Some, refl, sym, ap, subst, ◌∙◌, arith}
 use Rattle.std.specs.Prelude.{IfSome, IsSome, slice_get}
 use Rattle.block_model.specs.declared.reply.Reply.{Reply}
 use Rattle.block_model.specs.declared.reply.Reply.TheVariants as replies
@@ -11,9 +11,10 @@ use Rattle.row_versions.specs.StoredVersions.{transaction_of}
 use Rattle.statements.specs.StatementRequests.{tagged_entry}
 use Rattle.store_layout.specs.DiskLayout.{DiskLayout}
 use Rattle.brin_insert.specs.declared.insert.Insert.{Insert}
+use Rattle.block_model.specs.declared.reply.Point.TheVariants as points
+use Rattle.brin_insert.specs.AskedFor.{InsertAsks}
 use Rattle.brin_insert.specs.InsertHands.{InsertHand}
 use Rattle.brin_insert.specs.Inserts.{IsInsertFor}
-use Rattle.brin_insert.proofs.Numbers.{number_within}
 use Rattle.store_parts.specs.declared.hand.Hand.TheVariants as hands
 use Rattle.store_parts.specs.declared.hand.Stepped.{Stepped}
 use Rattle.store_parts.specs.declared.hand.Stepped.TheVariants as stepped
@@ -32,11 +33,13 @@ use Rattle.line_texts.specs.Names.{index_name}
 use Rattle.brin_insert.proofs.Tasks.{number_there}
 use Rattle.store_parts.specs.declared.parts.Parts.{Parts}
 use Rattle.store_parts.specs.HandFits.{IsOwnRow}
+use Rattle.store_parts.specs.HandsAsk.{named_requests}
 use Rattle.logged_pages.specs.Survives.{Survives}
 use Rattle.tx_table.specs.Durable.{IsBefore}
 use Rattle.tx_table.proofs.Parts.{passed_none}
 use Rattle.store_inserts.proofs.AtIndex.{insert_of, kept_at_index}
 use Rattle.store_inserts.proofs.Beside.{at_no_status, at_work_of, over_beside, own_of, past_room, under_way}
+use Rattle.store_inserts.proofs.FewDropped.{dropped_named, dropped_within, silent_end, silent_step, stands_still}
 use Rattle.store_inserts.proofs.OnParts.{done_so, full_so, moved_so, none_left, number_at, spent_so, waited_there, waits_so}
 use Rattle.store_inserts.proofs.Refusing.{LeftRefused, LeftUndone, leaves_same, share_whole, undone_so}
 use Rattle.store_inserts.proofs.in_index.insert_on.Goals as goal
@@ -82,7 +85,7 @@ pub page_waited_for-requires : goal.page_waited_for-requires
 page_waited_for-requires g c =
     let parts = c.args.parts.now in
     let fits = c.an_undone_step_changes_nothing.ensures.parts parts c.args.session (hands.Inserts c.args.insert) c.requires.fit in
-    number_at parts.pages.layout c.layout.result.now c.args.insert fits.in_hand.1 fits.in_hand.2 fits.in_hand.3 c.index-index.result c.index-index.ensures (c.layout.ensures ∙ c.step.ensures.others.leaves.layout)
+    number_at parts.pages.layout c.layout-in-Ok-Blocked.result.now c.args.insert fits.in_hand.1 fits.in_hand.2 fits.in_hand.3 c.index-index.result c.index-index.ensures (c.layout-in-Ok-Blocked.ensures ∙ c.step.ensures.others.leaves.layout)
 
 -- it goes on
 
@@ -94,7 +97,7 @@ set-requires-clause-few g c =
     let parts = c.args.parts.now in
     let after = c.step.new.self in
     let fits = c.an_undone_step_changes_nothing.ensures.parts parts c.args.session (hands.Inserts c.args.insert) c.requires.fit in
-    let some = placed_still c.args.insert.place after.place fits.in_hand.3 c.in-Ok-Moved.ensures.placed in
+    let some = stands_still c.args.insert.place after.place fits.in_hand.3 c.in-Ok-Moved.ensures.placed in
     dropped_within parts.pages.layout c.layout.result.now (c.layout.ensures ∙ c.step.ensures.others.leaves.layout) after c.dropped.result.now c.dropped.ensures c.step.ensures.made (rw c.in-Ok-Moved.field-0-is at c.in-Ok-Moved.ensures.left) some
 
 pub set-requires-clause-named : goal.set-requires-clause-named
@@ -110,9 +113,9 @@ returns-in-Ok-Moved g c =
     let named = c.set.ensures.own ∙ ap (λ (l : DiskLayout). named_requests l c.dropped.result.now) (c.layout.ensures ∙ c.step.ensures.others.leaves.layout) ∙ ap (λ (l : List (ℕ × ℕ)). named_requests parts.pages.layout l) c.dropped.ensures in
     let so = moved_so g.D.Disk.told c.one_hand_changes.ensures laws.parts laws.stores parts c.step.new.pages c.step.new.locks c.args.session c.step.new.queue c.set.new.self c.args.insert after c.requires.fit
     (record { others = c.step.ensures.others; order = c.step.ensures.order; leaves = c.step.ensures.locks; counts = c.step.ensures.counts; made = c.step.ensures.made; row = c.step.ensures.same_row; ready = (outcome.0, outcome.1) })
-    (record { asks = c.in-Ok-Moved.ensures.asked; others = c.set.ensures.others })
+    c.set.ensures.others
     c.steps_of_an_insert.ensures.index c.in-Ok-Moved.point (rw c.in-Ok-Moved.field-0-is at c.in-Ok-Moved.ensures.stepped) (rw c.in-Ok-Moved.field-0-is at c.in-Ok-Moved.ensures.left) c.in-Ok-Moved.ensures.placed
-    (c.in-Ok-Moved.ensures.own (laws.parts parts c.args.session hand c.requires.fit).own) named in
+    (c.in-Ok-Moved.ensures.own (laws.parts parts c.args.session hand c.requires.fit).own) named c.in-Ok-Moved.ensures.asked in
     record { steps = so.steps; fit = so.fit; others = so.others; stays = so.stays; cause = so.cause; spare = c.requires.spare; survives = c.step.ensures.survives }
 
 -- it is done
@@ -129,15 +132,15 @@ returns-in-Ok-Finished g c =
     let quiet = silent_step c.args.insert.asking parts.queue c.step.new.queue c.args.insert.dropped.items after.dropped.items silent c.step.ensures.plain in
     let then : Parts _ = record parts { pages = c.step.new.pages; locks = c.step.new.locks } in
     let new : Parts _ = record then { queue = c.step.new.queue } in
-    let new_is : new ≡ then = ap (λ (l : List (ℕ × ℕ)). record then { queue = l }) quiet.0 in
     let so : StepsSo g.D.Disk.told parts new c.args.session hand (stepped.Done c.answered.result) =
-    subst (λ (q : Parts _). StepsSo g.D.Disk.told parts q c.args.session hand (stepped.Done c.answered.result)) (sym new_is)
+    subst (λ (l : List (ℕ × ℕ)). StepsSo g.D.Disk.told parts (record then { queue = l }) c.args.session hand (stepped.Done c.answered.result)) (sym quiet.0)
     (subst (λ (r : Reply). StepsSo g.D.Disk.told parts then c.args.session hand (stepped.Done r)) (sym is)
     (done_so g.D.Disk.told c.one_hand_changes.ensures laws.parts laws.stores parts c.step.new.pages c.step.new.locks c.args.session parts.queue parts.dropped c.args.insert after c.requires.fit
     (record { others = c.step.ensures.others; order = c.step.ensures.order; leaves = c.step.ensures.locks; counts = c.step.ensures.counts; made = c.step.ensures.made; row = c.step.ensures.same_row; ready = (outcome.0, outcome.1) })
-    (asks_none g.D.Disk.told parts c.args.session c.args.insert after (λ tells. subst (λ (l : List (ℕ × ℕ)). InsertAsks parts.pages.layout parts.pages.pages c.args.insert after parts.queue l) quiet.0 (c.in-Ok-Finished.ensures.asked tells)))
+    (λ m apart. refl)
     c.steps_of_an_insert.ensures.index c.in-Ok-Finished.field-0-0 (rw c.in-Ok-Finished.field-0-is at c.in-Ok-Finished.ensures.stepped) c.in-Ok-Finished.ensures.placed
-    (none_left after (rw c.in-Ok-Finished.field-0-is at c.in-Ok-Finished.ensures.left) c.step.new.locks c.args.session (c.in-Ok-Finished.ensures.own (laws.parts parts c.args.session hand c.requires.fit).own)) silent refl)) in
+    (none_left after (rw c.in-Ok-Finished.field-0-is at c.in-Ok-Finished.ensures.left) c.step.new.locks c.args.session (c.in-Ok-Finished.ensures.own (laws.parts parts c.args.session hand c.requires.fit).own)) silent refl
+    (λ tells. subst (λ (l : List (ℕ × ℕ)). InsertAsks parts.pages.layout parts.pages.pages c.args.insert after parts.queue l) quiet.0 (c.in-Ok-Finished.ensures.asked tells)))) in
     record { steps = so.steps; fit = so.fit; others = so.others; stays = so.stays; cause = so.cause; spare = subst (λ (o : Option Insert). IfSome o (IsInsertFor parts.pages.layout)) (sym c.answered.ensures.spare) c.step.ensures.made; survives = c.step.ensures.survives }
 
 -- it waits
@@ -154,11 +157,11 @@ returns-in-Ok-Blocked g c =
     let quiet = silent_step c.args.insert.asking parts.queue c.step.new.queue c.args.insert.dropped.items after.dropped.items silent c.step.ensures.plain in
     let so = waits_so g.D.Disk.told c.one_hand_changes.ensures laws.parts laws.stores parts c.step.new.pages c.step.new.locks c.args.session c.step.new.queue parts.dropped c.args.insert after c.requires.fit
     (record { others = c.step.ensures.others; order = c.step.ensures.order; leaves = c.step.ensures.locks; counts = c.step.ensures.counts; made = c.step.ensures.made; row = c.step.ensures.same_row; ready = (outcome.0, outcome.1) })
-    (record { asks = c.in-Ok-Blocked.ensures.asked; others = λ m apart. refl })
+    (λ m apart. refl)
     c.steps_of_an_insert.ensures.index.waits c.steps_of_an_insert.ensures.index.stays c.steps_of_an_insert.ensures.index.leads c.steps_of_an_insert.ensures.index.alike c.in-Ok-Blocked.held
     (rw c.in-Ok-Blocked.field-0-is at c.in-Ok-Blocked.ensures.stepped) (rw c.in-Ok-Blocked.field-0-is at c.in-Ok-Blocked.ensures.left) c.in-Ok-Blocked.ensures.placed (rw c.in-Ok-Blocked.field-0-is at c.in-Ok-Blocked.ensures.blocked)
     (c.in-Ok-Blocked.ensures.own fits.own) quiet.0 refl quiet.1 c.index-index.result c.index-index.ensures c.page_waited_for.result
-    (waited_there parts.pages.layout c.layout.result.now (c.layout.ensures ∙ c.step.ensures.others.leaves.layout) c.index-index.result c.in-Ok-Blocked.held.page.block c.page_waited_for.result c.page_waited_for.ensures.among) in
+    (waited_there parts.pages.layout c.layout-in-Ok-Blocked.result.now (c.layout-in-Ok-Blocked.ensures ∙ c.step.ensures.others.leaves.layout) c.index-index.result c.in-Ok-Blocked.held.page.block c.page_waited_for.result c.page_waited_for.ensures.among) in
     record { steps = so.steps; fit = so.fit; others = so.others; stays = so.stays; cause = so.cause; spare = c.requires.spare; survives = c.step.ensures.survives }
 
 pub unreachable-requires : goal.unreachable-requires
@@ -189,9 +192,10 @@ returns-then-not-fits g c =
     subst (λ (a : Stepped). StepsSo g.D.Disk.told parts new c.args.session hand a) (sym is)
     (spent_so g.D.Disk.told c.one_hand_changes.ensures laws.parts laws.stores parts c.step.new.pages c.step.new.locks c.args.session c.step.new.queue parts.dropped c.args.insert after c.requires.fit
     (record { others = c.step.ensures.others; order = c.step.ensures.order; leaves = c.step.ensures.locks; counts = c.step.ensures.counts; made = c.step.ensures.made; row = c.step.ensures.same_row; ready = (outcome.0, outcome.1) })
+    (λ m apart. refl)
     c.steps_of_an_insert.ensures.index c.steps_of_an_insert.ensures.refusal c.in-Err-Full.field-0-0 c.in-Err-Full.number (rw c.in-Err-Full.field-0-is at c.in-Err-Full.ensures.full)
     c.in-Err-Full.ensures.same_place c.in-Err-Full.ensures.still_left c.in-Err-Full.ensures.stays c.in-Err-Full.ensures.same_stage (rw c.in-Err-Full.field-0-is at c.in-Err-Full.ensures.at_full) c.in-Err-Full.ensures.kept
-    (length parts.journal.entries) refl full) in
+    c.in-Err-Full.ensures.queue refl c.in-Err-Full.ensures.dropped (length parts.journal.entries) refl full) in
     record { steps = so.steps; fit = so.fit; others = so.others; stays = so.stays; cause = so.cause; spare = c.requires.spare; survives = c.step.ensures.survives }
 
 -- it has room, and the insert is refused
@@ -256,11 +260,13 @@ returns-else-not-fits g c =
     } in
     let so : StepsSo g.D.Disk.told parts later c.args.session hand (stepped.Done c.full_index-reply.result) =
     subst (λ (q : Parts _). StepsSo g.D.Disk.told parts q c.args.session hand (stepped.Done c.full_index-reply.result)) (sym c.full_index-reply.ensures.rest)
-    (full_so g.D.Disk.told c.one_hand_changes.ensures laws.parts laws.stores parts c.step.new.pages c.step.new.locks c.args.session c.args.insert after c.requires.fit
+    (subst (λ (l : List (ℕ × ℕ)). StepsSo g.D.Disk.told parts (record parts { pages = c.step.new.pages; transactions = later.transactions; locks = later.locks; journal = later.journal; queue = l }) c.args.session hand (stepped.Done c.full_index-reply.result)) (sym c.in-Err-Full.ensures.queue)
+    (full_so g.D.Disk.told c.one_hand_changes.ensures laws.parts laws.stores parts c.step.new.pages c.step.new.locks c.args.session parts.queue parts.dropped c.args.insert after c.requires.fit
     (record { others = c.step.ensures.others; order = c.step.ensures.order; leaves = c.step.ensures.locks; counts = c.step.ensures.counts; made = c.step.ensures.made; row = c.step.ensures.same_row; ready = (outcome.0, outcome.1) })
+    (λ m apart. refl)
     c.steps_of_an_insert.ensures.refusal c.in-Err-Full.field-0-0 c.in-Err-Full.number (rw c.in-Err-Full.field-0-is at c.in-Err-Full.ensures.full) c.in-Err-Full.ensures.kept
     later.transactions later.locks later.journal own.own refused (subst (λ (l : LockState). GivesAll (holder l) (holder later.locks) c.args.session) same_locks c.full_index-reply.ensures.given)
-    (own_of (transaction_of parts.transactions.opens c.args.session) fits.in_hand.0 c.args.insert.row.id.t fits.in_hand.4 own.own own.is) c.full_index-reply.result reply_is) in
+    (own_of (transaction_of parts.transactions.opens c.args.session) fits.in_hand.0 c.args.insert.row.id.t fits.in_hand.4 own.own own.is) c.full_index-reply.result reply_is)) in
     record { steps = so.steps; fit = so.fit; others = so.others; stays = so.stays; cause = so.cause; spare = c.step.ensures.made; survives = subst (λ (q : Parts _). Survives g.D.Disk.told (IsBefore c.args.parts.now.pages) c.args.parts.now.pages q.pages) (sym c.full_index-reply.ensures.rest) c.step.ensures.survives }
 
 -- the pages refuse it
@@ -287,8 +293,10 @@ returns-in-Err-Store g c =
       entries = refl;
       promised = refl;
     } in
-    let so : StepsSo g.D.Disk.told parts (record parts { pages = c.step.new.pages; locks = c.drop_all.new.self }) c.args.session hand c.undone-in-Err-Store.result =
-    subst (λ (a : Stepped). StepsSo g.D.Disk.told parts (record parts { pages = c.step.new.pages; locks = c.drop_all.new.self }) c.args.session hand a) (sym is)
+    let then : Parts _ = record parts { pages = c.step.new.pages; locks = c.drop_all.new.self } in
+    let so : StepsSo g.D.Disk.told parts (record then { queue = c.step.new.queue }) c.args.session hand c.undone-in-Err-Store.result =
+    subst (λ (l : List (ℕ × ℕ)). StepsSo g.D.Disk.told parts (record then { queue = l }) c.args.session hand c.undone-in-Err-Store.result) (sym c.in-Err-Store.ensures.queue)
+    (subst (λ (a : Stepped). StepsSo g.D.Disk.told parts then c.args.session hand a) (sym is)
     (undone_so g.D.Disk.told c.one_hand_changes.ensures laws.stores parts c.step.new.pages c.drop_all.new.self parts.journal c.args.session hand (hands.Inserts after) undone c.in-Err-Store.error
-    (rw c.in-Err-Store.field-0-is at c.in-Err-Store.ensures.outcome)) in
+    (rw c.in-Err-Store.field-0-is at c.in-Err-Store.ensures.outcome))) in
     record { steps = so.steps; fit = so.fit; others = so.others; stays = so.stays; cause = so.cause; spare = c.requires.spare; survives = c.step.ensures.survives }

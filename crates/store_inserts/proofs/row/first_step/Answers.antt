@@ -1,4 +1,4 @@
-use Rattle.std.proofs.Common.{◌≡◌, ℕ, [], ◌∷◌, ◌++◌, ◌+◌, ◌-◌, ◌<◌, ◌≤◌, List, length, Option, None, Some, refl, sym, ap, subst, ◌∙◌, arith}
+use Rattle.std.proofs.Common.{◌≡◌, ℕ, [], ◌∷◌, ◌++◌, ◌<◌, ◌≤◌, List, length, Option, Some, refl, sym, ap, subst, ◌∙◌, arith}
 use Rattle.std.specs.Prelude.{IfSome, IsSome}
 use Rattle.std.proofs.lemmas.Option.{none-some}
 use Rattle.block_model.specs.declared.place.Spot.{Spot}
@@ -9,7 +9,6 @@ use Rattle.block_model.specs.declared.request.Request.TheVariants as requests
 use Rattle.block_model.specs.declared.request.Tag.TheVariants as tags
 use Rattle.block_model.specs.declared.row.Row.{Row}
 use Rattle.block_model.specs.declared.request.Entry.{Entry}
-use Rattle.page_layout.specs.PageContents.{Slot}
 use Rattle.page_locks.specs.declared.did.Did.TheVariants as did
 use Rattle.page_locks.specs.LockChanges.{GivesAll}
 use Rattle.page_locks.specs.LockHolders.{LockState, holder}
@@ -23,7 +22,7 @@ use Rattle.table_coverage.specs.Table.{Task}
 use Rattle.brin_insert.specs.declared.insert.Insert.{Insert}
 use Rattle.brin_insert.specs.InsertAnswers.{IsInsertFull, WaitsForNoRow}
 use Rattle.brin_insert.specs.InsertLocks.{held_by, stage_of}
-use Rattle.brin_insert.specs.Inserts.{HasStepAt, IsInsertFor, task_at, task_of, work_of}
+use Rattle.brin_insert.specs.Inserts.{HasStepAt, IsInsertFor, task_at, work_of}
 use Rattle.brin_insert.proofs.OwnLocks.{no_stage}
 use Rattle.page_locks.specs.LockCounts.{locks_of}
 use Rattle.store_parts.specs.declared.faults.StoreFault.{StoreFault}
@@ -131,10 +130,9 @@ returns-in-Ok-Moved g c =
     let row_is : c.row.result.now ≡ c.args.insert.row = c.row.ensures ∙ c.step.ensures.same_row in
     let none : locks_of parts.locks c.args.session ≤ held_by (stage_of c.args.insert) = let few = fits.own in omega (arith, few) in
     let quiet = silent_step c.args.insert.asking parts.queue c.step.new.queue c.args.insert.dropped.items after.dropped.items (silent_nowhere parts.pages.layout c.args.insert c.requires.made c.requires.nowhere) c.step.ensures.plain in
-    let later_is : later ≡ record parts { pages = c.step.new.pages; locks = c.step.new.locks; transactions = later.transactions; journal = later.journal } =
-    c.enter_row.ensures.rest ∙ ap (λ (l : List (ℕ × ℕ)). record parts { pages = c.step.new.pages; locks = c.step.new.locks; transactions = later.transactions; journal = later.journal; queue = l }) quiet.0 in
     let so : StepsSo g.D.Disk.told (unpromised parts) later c.args.session hand (stepped.Moved c.in-Ok-Moved.point (hands.Inserts after)) =
-    subst (λ (q : Parts _). StepsSo g.D.Disk.told (unpromised parts) q c.args.session hand (stepped.Moved c.in-Ok-Moved.point (hands.Inserts after))) (sym later_is)
+    subst (λ (q : Parts _). StepsSo g.D.Disk.told (unpromised parts) q c.args.session hand (stepped.Moved c.in-Ok-Moved.point (hands.Inserts after))) (sym c.enter_row.ensures.rest)
+    (subst (λ (l : List (ℕ × ℕ)). StepsSo g.D.Disk.told (unpromised parts) (record parts { pages = c.step.new.pages; locks = c.step.new.locks; transactions = later.transactions; journal = later.journal; queue = l }) c.args.session hand (stepped.Moved c.in-Ok-Moved.point (hands.Inserts after))) (sym quiet.0)
     (row_moved_so g.D.Disk.told c.one_hand_changes.ensures laws.parts laws.stores parts c.step.new.pages c.step.new.locks later.transactions later.journal c.args.session c.args.insert after c.requires.fit
     (record { others = c.step.ensures.others; order = c.step.ensures.order; leaves = c.step.ensures.locks; counts = c.step.ensures.counts; made = c.step.ensures.made; row = c.step.ensures.same_row; ready = (outcome.0, outcome.1) })
     own.own
@@ -148,7 +146,7 @@ returns-in-Ok-Moved g c =
       promised = c.enter_row.ensures.promised;
       room = let room = c.requires.fits in omega (arith, room);
     })
-    c.steps_of_an_insert.ensures.row c.in-Ok-Moved.point (rw c.in-Ok-Moved.field-0-is at c.in-Ok-Moved.ensures.stepped) (rw c.in-Ok-Moved.field-0-is at c.in-Ok-Moved.ensures.left) c.in-Ok-Moved.ensures.placed (c.in-Ok-Moved.ensures.own none)) in
+    c.steps_of_an_insert.ensures.row c.in-Ok-Moved.point (rw c.in-Ok-Moved.field-0-is at c.in-Ok-Moved.ensures.stepped) (rw c.in-Ok-Moved.field-0-is at c.in-Ok-Moved.ensures.left) c.in-Ok-Moved.ensures.placed (c.in-Ok-Moved.ensures.own none))) in
     record { steps = so.steps; fit = so.fit; others = so.others; stays = so.stays; cause = so.cause; spare = c.requires.spare; survives = subst (λ (q : Parts _). Survives g.D.Disk.told (IsBefore c.args.parts.now.pages) c.args.parts.now.pages q.pages) (sym c.enter_row.ensures.rest) c.step.ensures.survives }
 
 -- it is done
@@ -166,12 +164,11 @@ returns-in-Ok-Finished g c =
     let row_is : c.row-in-Ok-Finished.result.now ≡ c.args.insert.row = c.row-in-Ok-Finished.ensures ∙ c.step.ensures.same_row in
     let none : locks_of parts.locks c.args.session ≤ held_by (stage_of c.args.insert) = let few = fits.own in omega (arith, few) in
     let quiet = silent_step c.args.insert.asking parts.queue c.step.new.queue c.args.insert.dropped.items after.dropped.items (silent_nowhere parts.pages.layout c.args.insert c.requires.made c.requires.nowhere) c.step.ensures.plain in
-    let later_is : later ≡ record parts { pages = c.step.new.pages; locks = c.step.new.locks; transactions = later.transactions; journal = later.journal } =
-    c.enter_row-in-Ok-Finished.ensures.rest ∙ ap (λ (l : List (ℕ × ℕ)). record parts { pages = c.step.new.pages; locks = c.step.new.locks; transactions = later.transactions; journal = later.journal; queue = l }) quiet.0 in
     let is : c.answered.result ≡ replies.Inserted c.args.insert.row.id = c.answered.ensures.reply ∙ ap (λ (r : Row). replies.Inserted r.id) c.step.ensures.same_row in
     let so : StepsSo g.D.Disk.told (unpromised parts) later c.args.session hand (stepped.Done c.answered.result) =
     subst (λ (r : Reply). StepsSo g.D.Disk.told (unpromised parts) later c.args.session hand (stepped.Done r)) (sym is)
-    (subst (λ (q : Parts _). StepsSo g.D.Disk.told (unpromised parts) q c.args.session hand (stepped.Done (replies.Inserted c.args.insert.row.id))) (sym later_is)
+    (subst (λ (q : Parts _). StepsSo g.D.Disk.told (unpromised parts) q c.args.session hand (stepped.Done (replies.Inserted c.args.insert.row.id))) (sym c.enter_row-in-Ok-Finished.ensures.rest)
+    (subst (λ (l : List (ℕ × ℕ)). StepsSo g.D.Disk.told (unpromised parts) (record parts { pages = c.step.new.pages; locks = c.step.new.locks; transactions = later.transactions; journal = later.journal; queue = l }) c.args.session hand (stepped.Done (replies.Inserted c.args.insert.row.id))) (sym quiet.0)
     (row_done_so g.D.Disk.told c.one_hand_changes.ensures laws.parts laws.stores parts c.step.new.pages c.step.new.locks later.transactions later.journal c.args.session c.args.insert after c.requires.fit
     (record { others = c.step.ensures.others; order = c.step.ensures.order; leaves = c.step.ensures.locks; counts = c.step.ensures.counts; made = c.step.ensures.made; row = c.step.ensures.same_row; ready = (outcome.0, outcome.1) })
     own.own
@@ -186,7 +183,7 @@ returns-in-Ok-Finished g c =
       room = let room = c.requires.fits in omega (arith, room);
     })
     c.steps_of_an_insert.ensures.row c.in-Ok-Finished.field-0-0 (rw c.in-Ok-Finished.field-0-is at c.in-Ok-Finished.ensures.stepped) c.in-Ok-Finished.ensures.placed
-    (none_left after (rw c.in-Ok-Finished.field-0-is at c.in-Ok-Finished.ensures.left) c.step.new.locks c.args.session (c.in-Ok-Finished.ensures.own none)))) in
+    (none_left after (rw c.in-Ok-Finished.field-0-is at c.in-Ok-Finished.ensures.left) c.step.new.locks c.args.session (c.in-Ok-Finished.ensures.own none))))) in
     record { steps = so.steps; fit = so.fit; others = so.others; stays = so.stays; cause = so.cause; spare = subst (λ (o : Option Insert). IfSome o (IsInsertFor parts.pages.layout)) (sym c.answered.ensures.spare) c.step.ensures.made; survives = subst (λ (q : Parts _). Survives g.D.Disk.told (IsBefore c.args.parts.now.pages) c.args.parts.now.pages q.pages) (sym c.enter_row-in-Ok-Finished.ensures.rest) c.step.ensures.survives }
 
 -- no place is left
@@ -206,8 +203,6 @@ returns-in-Err-Full g c =
     let reply_is : c.full_table-reply.result ≡ replies.Refused (refusals.Full (table_name parts.pages.layout c.args.insert.row.table) c.in-Err-Full.number) =
     c.full_table-reply.ensures.reply ∙ ap (λ (l : DiskLayout). replies.Refused (refusals.Full (table_name l c.row-in-Err-Full.result.now.table) c.in-Err-Full.number)) c.step.ensures.others.leaves.layout
     ∙ ap (λ (r : Row). replies.Refused (refusals.Full (table_name parts.pages.layout r.table) c.in-Err-Full.number)) row_is in
-    let later_is : later ≡ record (unpromised parts) { pages = c.step.new.pages; transactions = later.transactions; locks = later.locks; journal = later.journal } =
-    c.full_table-reply.ensures.rest ∙ ap (λ (l : List (ℕ × ℕ)). record (unpromised parts) { pages = c.step.new.pages; transactions = later.transactions; locks = later.locks; journal = later.journal; queue = l }) c.in-Err-Full.ensures.queue in
     let refused : LeftRefused g.D.Disk.told (unpromised parts) c.step.new.pages later.transactions later.locks later.journal c.args.session hand own.own (tagged_entry c.args.session c.args.insert.row.table (requests.Put c.args.insert.row.values) tags.Full) = record {
       fits = fits;
       free = refl;
@@ -226,11 +221,12 @@ returns-in-Err-Full g c =
       room = let room = c.requires.fits in omega (arith, room);
     } in
     let so : StepsSo g.D.Disk.told (unpromised parts) later c.args.session hand (stepped.Done c.full_table-reply.result) =
-    subst (λ (q : Parts _). StepsSo g.D.Disk.told (unpromised parts) q c.args.session hand (stepped.Done c.full_table-reply.result)) (sym later_is)
+    subst (λ (q : Parts _). StepsSo g.D.Disk.told (unpromised parts) q c.args.session hand (stepped.Done c.full_table-reply.result)) (sym c.full_table-reply.ensures.rest)
+    (subst (λ (l : List (ℕ × ℕ)). StepsSo g.D.Disk.told (unpromised parts) (record (unpromised parts) { pages = c.step.new.pages; transactions = later.transactions; locks = later.locks; journal = later.journal; queue = l }) c.args.session hand (stepped.Done c.full_table-reply.result)) (sym c.in-Err-Full.ensures.queue)
     (full_heap_so g.D.Disk.told c.one_hand_changes.ensures laws.stores c.steps_of_an_insert.ensures.refusal (unpromised parts) c.step.new.pages later.locks later.transactions later.journal c.args.session c.args.insert.row.table c.args.insert.row.values tags.Full tt own.own
     refused (subst (λ (l : LockState). GivesAll (holder l) (holder later.locks) c.args.session) same_locks c.full_table-reply.ensures.given) c.in-Err-Full.ensures.kept (outcome.0, outcome.1) refl c.in-Err-Full.number
     (λ tells blocks has. subst (λ (t : Task). IsInsertFull c.args.session c.args.insert.at (shown_by parts.pages.layout parts.pages.pages parts.locks c.args.insert.row.table blocks) t c.in-Err-Full.number) (ap (λ (place : Option Spot). task_at parts.pages.layout c.args.insert place) c.requires.nowhere) (says.1 tells blocks has))
-    c.full_table-reply.result reply_is) in
+    c.full_table-reply.result reply_is)) in
     record { steps = so.steps; fit = so.fit; others = so.others; stays = so.stays; cause = so.cause; spare = c.step.ensures.made; survives = subst (λ (q : Parts _). Survives g.D.Disk.told (IsBefore c.args.parts.now.pages) c.args.parts.now.pages q.pages) (sym c.full_table-reply.ensures.rest) c.step.ensures.survives }
 
 -- the pages refuse it
@@ -259,9 +255,8 @@ returns-in-Err-Store g c =
     } in
     let then : Parts _ = record parts { pages = c.step.new.pages; locks = c.drop_all.new.self; journal = c.release-in-Err-Store.new.self } in
     let new : Parts _ = record then { queue = c.step.new.queue } in
-    let new_is : new ≡ then = ap (λ (l : List (ℕ × ℕ)). record then { queue = l }) c.in-Err-Store.ensures.queue in
     let so : StepsSo g.D.Disk.told (unpromised parts) new c.args.session hand (stepped.Undone c.fault_of.result c.hand_again-hand.result) =
-    subst (λ (q : Parts _). StepsSo g.D.Disk.told (unpromised parts) q c.args.session hand (stepped.Undone c.fault_of.result c.hand_again-hand.result)) (sym new_is)
+    subst (λ (l : List (ℕ × ℕ)). StepsSo g.D.Disk.told (unpromised parts) (record then { queue = l }) c.args.session hand (stepped.Undone c.fault_of.result c.hand_again-hand.result)) (sym c.in-Err-Store.ensures.queue)
     (subst (λ (a : Stepped). StepsSo g.D.Disk.told (unpromised parts) then c.args.session hand a) (sym is)
     (undone_so g.D.Disk.told c.one_hand_changes.ensures laws.stores (unpromised parts) c.step.new.pages c.drop_all.new.self c.release-in-Err-Store.new.self c.args.session hand hand undone c.in-Err-Store.error
     (rw c.in-Err-Store.field-0-is at c.in-Err-Store.ensures.outcome))) in

@@ -4,7 +4,7 @@ use Rattle.heap_rows.specs.RowPlaces.{IsInUse}
 use Rattle.logged_pages.specs.Survives.{Survives}
 use Rattle.page_store.specs.PageMap.{View}
 use Rattle.tx_table.specs.Durable.{IsBefore}
-use Rattle.tx_table.proofs.Parts.{before_then, passed_none}
+use Rattle.tx_table.proofs.Parts.{before_then}
 use Rattle.store_parts.specs.declared.hand.Hand.TheVariants as hands
 use Rattle.store_parts.specs.declared.hand.Hit.{Hit}
 use Rattle.store_parts.specs.declared.parts.Parts.{Parts}
