@@ -16,7 +16,8 @@ const ROOM: usize = 4096;
 const PIECE: usize = 65536;
 
 /// A small store: pages of four rows, and an index with ranges of one page.
-const WORDS: &str = "run|--heap-blocks|8|--index-blocks|4|--status-blocks|1|--log-pages|16|table t(a int8) rows_per_page 4|index i on t(a minmax) pages_per_range 1";
+const WORDS: &str =
+    "run|--heap-blocks|8|--index-blocks|4|--status-blocks|1|--log-pages|16|table t(a int8) rows_per_page 4|index i on t(a minmax) pages_per_range 1";
 
 /// A session's statement: the lines that start it, step it and finish it, and how many steps it is given before it is finished.
 #[derive(Clone, Copy, Debug)]
