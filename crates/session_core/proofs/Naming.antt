@@ -1,28 +1,26 @@
 -- a store in which a session is made
-use Rattle.std.proofs.Common.{◌≡◌, inl, inr, ℕ, zero, ◌+◌, ◌<◌, ◌≤◌, Bool, true, false, List, [], ◌∷◌, ◌++◌, length, Option, None, Some, Ok, IfSome, if◌then◌else◌, refl, sym, ap, subst, ◌∙◌, arith, length-append}
+use Rattle.std.proofs.Common.{◌≡◌, inl, inr, ℕ, ◌+◌, ◌<◌, ◌≤◌, Bool, true, false, List, [], ◌∷◌, ◌++◌, length, Option, None, Ok, IfSome, if◌then◌else◌, refl, sym, ap, subst, ◌∙◌, arith, length-append}
 use Rattle.std.specs.Prelude.{nat_lt}
 use Rattle.std.proofs.lemmas.Bool.{cases_lt, le-leb, le-ltb, lt-leb, lt-ltb}
 use Rattle.disk_trait.specs.Told.{Told}
 use Rattle.statements.specs.declared.limits.TheConstants.{MAX_SESSIONS}
 use Rattle.statements.specs.SessionNumbers.{is_past_sessions, session_number, with_session}
-use Rattle.page_store.specs.Keeps.{Tells}
 use Rattle.page_locks.specs.LockCounts.{locks_of}
 use Rattle.row_versions.specs.StoredVersions.{transaction_of}
 use Rattle.brin_insert.specs.declared.insert.Insert.{Insert}
 use Rattle.brin_insert.specs.Inserts.{IsInsertFor}
 use Rattle.line_texts.specs.LineTexts.{named}
-use Rattle.line_texts.specs.Place.{Place}
 use Rattle.store_parts.specs.declared.hand.Hand.{Hand}
 use Rattle.store_parts.specs.declared.parts.Parts.{Parts}
 use Rattle.store_parts.specs.HandFits.{FitsHand, FitsStore, locks_held, right_held}
 use Rattle.store_parts.specs.ShareLaws.{shares_below}
 use Rattle.store_parts.specs.Shares.{share_of}
-use Rattle.store_parts.specs.ShowsPlace.{IsPlaceOf, ShowsPlace}
+use Rattle.store_parts.specs.ShowsPlace.{IsPlaceOf}
 use Rattle.store_parts.specs.StepIs.{LeadsOn}
 use Rattle.store_parts.specs.StoreStates.{StoreState, hand_in, shown_of, store_of}
 use Rattle.session_core.specs.SessionLaws.{SessionLaws}
 use Rattle.session_core.specs.declared.sessions.Session.{Session}
-use Rattle.session_core.specs.SessionLists.{names_of, spare_in}
+use Rattle.session_core.specs.SessionLists.{names_of}
 use Rattle.session_core.specs.Sessions.{HasSession, with_name}
 use Rattle.session_core.specs.StoreKept.{HoldsNothing, IsStoreKept}
 use Rattle.session_core.proofs.Lists.{nothing_more}
@@ -78,10 +76,12 @@ same_hands false hands m = nothing_more hands m
 
 pub leads_named : {D : Type 0} (told : D → Told) → SessionLaws told → (old new : StoreState D) (name : List ℕ) → new ≡ with_name old name → LeadsOn told old new (λ p q. q ≡ named p name)
 leads_named told laws old new name is = subst (λ (s : StoreState _). LeadsOn told old s (λ p q. q ≡ named p name)) (sym is)
-    (λ tells before after p shows. (named p name,
+    (λ tells before after p shows. (
+      named p name,
       subst (λ (names : List (List ℕ)). IsPlaceOf (shown_of (with_name old name)) (record p { names = with_session names name })) (sym shows.names)
-      (laws.named (shown_of old) p (with_session old.names name) (with_name old name).hands shows (same_hands (nat_lt (session_number old.names name) (length old.names)) old.hands)),
-      refl))
+          (laws.named (shown_of old) p (with_session old.names name) (with_name old name).hands shows (same_hands (nat_lt (session_number old.names name) (length old.names)) old.hands)),
+      refl,
+    ))
 
 -- with or without a session more
 abbrev with_or_without : {D : Type 0} → StoreState D → List ℕ → (there : Bool) → StoreState D
@@ -114,10 +114,11 @@ past_sessions names name n is high = le-leb MAX_SESSIONS (session_number names n
 pub has_session : {D : Type 0} (s new : StoreState D) (name : List ℕ) (n : ℕ) → n ≡ session_number s.names name → n ≤ length s.names → n < MAX_SESSIONS → new ≡ with_name s name
     → HasSession s name new (Ok n)
 has_session s new name n is most few made = (
-    lt-leb MAX_SESSIONS (session_number s.names name) (omega (arith, is, few)),
-    is,
-    made,
-    subst (λ (t : StoreState _). n < length t.names) (sym made) (number_within s.names name n is most))
+  lt-leb MAX_SESSIONS (session_number s.names name) (omega (arith, is, few)),
+  is,
+  made,
+  subst (λ (t : StoreState _). n < length t.names) (sym made) (number_within s.names name n is most),
+)
 
 -- the number that was found is that of the store's names
 pub number_named : (sessions items : List Session) (names : List (List ℕ)) (name : List ℕ) (n : ℕ) → n ≡ session_number (names_of sessions) name → sessions ≡ items → names_of items ≡ names

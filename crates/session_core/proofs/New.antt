@@ -1,5 +1,5 @@
 -- a store without sessions
-use Rattle.std.proofs.Common.{◌≡◌, ℕ, zero, suc, ◌+◌, ◌<◌, List, [], get_or, Option, None, sym, refl, ◌∙◌, arith}
+use Rattle.std.proofs.Common.{◌≡◌, ℕ, zero, suc, ◌<◌, List, [], get_or, Option, None, sym, refl, ◌∙◌, arith}
 use Rattle.std.proofs.lemmas.Option.{none-some}
 use Rattle.disk_trait.specs.Told.{Told}
 use Rattle.statements.specs.declared.limits.TheConstants.{MAX_SESSIONS}

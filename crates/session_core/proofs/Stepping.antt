@@ -1,10 +1,9 @@
 -- a store behind a step of a session's statement
-use Rattle.std.proofs.Common.{◌≡◌, ◌≢◌, inl, inr, ℕ, ◌<◌, ◌≤◌, List, length, set, Option, None, Some, IfSome, IsSome, OnOk, OnErr, IfOk, IfErr, Result, refl, sym, ap, subst, ◌∙◌, arith, length-set}
+use Rattle.std.proofs.Common.{◌≡◌, inl, inr, ℕ, ◌<◌, List, length, set, Option, None, Some, IfSome, OnOk, OnErr, IfOk, IfErr, Result, refl, sym, subst, ◌∙◌, arith, length-set}
 use Rattle.std.proofs.lemmas.Bool.{cases_lt}
 use Rattle.std.proofs.lemmas.Option.{none-some}
 use Rattle.disk_trait.specs.Told.{Told}
 use Rattle.page_store.specs.Keeps.{Leaves, Tells}
-use Rattle.page_store.specs.PageMap.{View}
 use Rattle.brin_insert.specs.declared.insert.Insert.{Insert}
 use Rattle.brin_insert.specs.Inserts.{IsInsertFor}
 use Rattle.line_texts.specs.Place.{Place}
@@ -120,9 +119,9 @@ module _ {D : Type 0} (told : D → Told) (laws : SessionLaws told) (parts : Par
   is_session m holds = elim (cases_lt m (length names)) [
     | inl low ↦ low
     | inr high ↦ absurd (elim holds.1 [
-        | inl locks ↦ omega (arith, locks, (kept.nobody m high).locks)
-        | inr right ↦ (kept.nobody m high).rights right.0 right.1
-      ])
+      | inl locks ↦ omega (arith, locks, (kept.nobody m high).locks)
+      | inr right ↦ (kept.nobody m high).rights right.0 right.1
+    ])
   ]
 
   pub kept_behind : (spare : Option Insert) → IfSome spare (IsInsertFor parts.pages.layout) → IsStoreKept told after (set spares n spare)

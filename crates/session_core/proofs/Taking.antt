@@ -1,12 +1,12 @@
 -- a store in which a session's statement is taken, or isn't
-use Rattle.std.proofs.Common.{◌≡◌, ◌≢◌, ℕ, ◌+◌, ◌<◌, ◌≤◌, true, false, Bool, List, length, set, Option, None, Some, IsSome, if◌then◌else◌, refl, sym, ap, subst, ◌∙◌, arith, length-set}
+use Rattle.std.proofs.Common.{◌≡◌, ℕ, ◌+◌, ◌<◌, ◌≤◌, true, false, Bool, List, length, Option, None, Some, IsSome, if◌then◌else◌, refl, sym, ap, subst, ◌∙◌, arith, length-set}
 use Rattle.std.proofs.lemmas.Option.{none-some}
 use Rattle.block_model.specs.declared.reply.Refusal.{Refusal}
 use Rattle.block_model.specs.declared.reply.Refusal.TheVariants as refusals
 use Rattle.block_model.specs.declared.request.Entry.{Entry}
 use Rattle.block_model.specs.DatabaseState.{OpenTransaction}
 use Rattle.disk_trait.specs.Told.{Told}
-use Rattle.statements.specs.declared.limits.TheConstants.{MAX_ENTRIES, MAX_SESSIONS}
+use Rattle.statements.specs.declared.limits.TheConstants.{MAX_ENTRIES}
 use Rattle.statements.specs.declared.statement.Statement.{Statement}
 use Rattle.statements.specs.declared.statement.Statement.TheVariants as statements
 use Rattle.statements.specs.StatementRequests.{refusal_at, submission_refusal}
@@ -87,10 +87,10 @@ pub refusal_shown : {D : Type 0} (told : D → Told) → SessionLaws told → (s
 refusal_shown told laws s p n statement shows =
     let hand : in_hand_refusal (hand_at s n) ≡ in_hand_refusal (p.hands n) = in_hand_shown (hand_at s n) (p.hands n) (p.accounts n) (shows.hands n) in
     let block : block_refusal s.pages.layout.sizes.heap_blocks statement ≡ block_refusal p.layout.sizes.heap_blocks statement =
-        ap (λ (layout : DiskLayout). block_refusal layout.sizes.heap_blocks statement) (sym shows.layout) in
+    ap (λ (layout : DiskLayout). block_refusal layout.sizes.heap_blocks statement) (sym shows.layout) in
     let have = laws.sessions s.pages.layout s.pages.pages s.transactions (database_at p) shows.database in
     let standing : standing_refusal (open_standing (transaction_of s.transactions.opens n)) statement ≡ refusal_at (database_at p) n statement =
-        ap (λ (standing : Standing). standing_refusal standing statement) (sym (have.stands n)) ∙ standing_shown _ statement in
+    ap (λ (standing : Standing). standing_refusal standing statement) (sym (have.stands n)) ∙ standing_shown _ statement in
     λ i. or_else (hand i) (or_else (block i) (standing i))
 
 -- ---- what holds where nothing speaks against it

@@ -8,7 +8,6 @@ use Rattle.page_store.specs.PageMap.{View}
 use Rattle.row_versions.specs.contracts.sessions.Open as open_contract
 use Rattle.store_layout.specs.DiskLayout.{DiskLayout}
 use Rattle.transactions.specs.TransactionsState.{TransactionsState}
-use Rattle.tx_table.specs.TxState.{TxState}
 use Rattle.reply_texts.specs.contracts.dropped.Dropped as dropped_contract
 use Rattle.store_parts.specs.contracts.hand.Hand as hand_contract
 use Rattle.reply_texts.specs.declared.dropped.Dropped.{Dropped}

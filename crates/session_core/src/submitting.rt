@@ -1,6 +1,6 @@
 //! Which statements are taken, and what they are in hand then.
 
-ghost use Rattle.std.specs.Prelude.{◌≡◌, ◌≢◌, ◌+◌, ◌<◌, [], length, true, None, Some, IfOk, OnOk, OnErr, if◌then◌else◌, nat_le};
+ghost use Rattle.std.specs.Prelude.{◌≡◌, ◌+◌, ◌<◌, length, true, None, Some, IfOk, OnErr, if◌then◌else◌, nat_le};
 ghost use Rattle.block_model.specs.declared.reply.Refusal.TheVariants as refusals;
 ghost use Rattle.line_texts.specs.LineTexts.{block_refusal, may_want_memory};
 ghost use Rattle.statements.specs.StatementFits.{IsQueryFor, IsStatementFor};
@@ -23,7 +23,8 @@ pub(crate) fn block_refusal(layout: &Layout, statement: &Statement) -> Option<Re
     let limit = layout.sizes().heap_blocks;
     match statement {
         Statement::Summarize {
-            block: Some(block), ..
+            block: Some(block),
+            ..
         } => past_limit(limit, *block),
         Statement::Desummarize { block, .. } => past_limit(limit, *block),
         _ => None,

@@ -1,6 +1,5 @@
 -- a step of which the look ahead says that another one is left isn't the last one
-use Rattle.std.proofs.Common.{◌≡◌, ◌≢◌, ◌⊎◌, inl, inr, ℕ, ◌*◌, ◌<◌, Bool, true, false, Option, None, refl, sym, ap, subst, ◌∙◌, arith}
-use Rattle.std.specs.Prelude.{IsTrue}
+use Rattle.std.proofs.Common.{◌≡◌, ◌≢◌, inl, inr, ℕ, ◌*◌, ◌<◌, false, refl, sym, ap, subst, ◌∙◌, arith}
 use Rattle.std.proofs.lemmas.Bool.{false≢true}
 use Rattle.block_model.specs.declared.reply.Point.{Point}
 use Rattle.page_locks.specs.declared.did.Did.TheVariants as did
@@ -8,7 +7,7 @@ use Rattle.row_versions.specs.declared.sessions.Open.{Open}
 use Rattle.table_coverage.specs.Accounts.{Account}
 use Rattle.table_coverage.specs.Machines.{ShownTable, Unseen, table_state, task_turned}
 use Rattle.table_coverage.specs.Table.{Resting, Scans, TableScan, TableState, Task}
-use Rattle.table_coverage.specs.TableSteps.{Does, IsScanRead, Onward, ScanBegins, ScanHasStep, Scanned, Stays}
+use Rattle.table_coverage.specs.TableSteps.{IsScanRead, Onward, ScanBegins, ScanHasStep, Scanned, Stays}
 use Rattle.table_coverage.proofs.Onward.{onward_once}
 use Rattle.table_coverage.proofs.ScanComes.{ScanBegan, ScanComes, ScanJudged, ScanRead, ScanStayed, scan_comes}
 use Rattle.table_coverage.proofs.TableOnePoint.{table_one_next}

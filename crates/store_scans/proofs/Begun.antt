@@ -1,5 +1,5 @@
 -- a first step, or a later one, behind its readiness and the memory for its scan
-use Rattle.std.proofs.Common.{◌≡◌, ℕ, ◌+◌, None, Some, refl, sym, ap, ◌∙◌, subst}
+use Rattle.std.proofs.Common.{◌≡◌, ℕ, ◌+◌, refl, sym, ap, ◌∙◌, subst}
 use Rattle.disk_trait.specs.Told.{Told}
 use Rattle.block_model.specs.declared.row.Query.{Query}
 use Rattle.page_store.specs.declared.faults.StoreError.{StoreError}
@@ -28,7 +28,7 @@ module _ {D : Type 0} (told : D → Told) (parts : Parts D) (n : ℕ) where
       → (fault : StoreFault) → fault ≡ fault_of error → (other : Hand) → other ≡ hand → StepsSo told parts parts n hand (stepped.Undone fault other)
   refused_at_once hand fit error refused fault is other other_is =
       subst (λ (a : Stepped). StepsSo told parts parts n hand a) (λ i. stepped.Undone (sym is i) (sym other_is i))
-      (refused_is_undone told parts parts n hand error fit (fit_of_parts told parts n hand fit).over (keeps_same told parts.pages).leaves (record { transactions = refl; locks = refl; rights = refl; journal = refl }) refused)
+      (refused_is_undone told parts parts n hand error fit (fit_of_parts told parts n hand fit).over (keeps_same told parts.pages).leaves (record { transactions = refl; locks = refl; rights = refl; journal = refl; queue = refl; dropped = refl }) refused)
 
   module _ (looking : Looking) (query : Query) (fit : IsFit told parts n (first_hand_of looking query)) (mid : Parts D) (entries : mid.journal.entries ≡ parts.journal.entries)
       (rest : mid ≡ record parts { journal = mid.journal }) where

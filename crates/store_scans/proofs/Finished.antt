@@ -1,5 +1,5 @@
 -- what comes of the last step of a scan, as a step of its session
-use Rattle.std.proofs.Common.{◌≡◌, ℕ, ◌+◌, ◌<◌, ◌≤◌, ◌++◌, ◌∷◌, [], List, length, Option, None, Some, All, refl, sym, ap, ◌∙◌, subst, arith}
+use Rattle.std.proofs.Common.{◌≡◌, ℕ, ◌+◌, ◌<◌, ◌++◌, ◌∷◌, [], List, length, Option, None, Some, All, sym, ap, ◌∙◌, subst, arith}
 use Rattle.disk_trait.specs.Told.{Told}
 use Rattle.block_model.specs.declared.place.Spot.{Spot}
 use Rattle.block_model.specs.declared.reply.Point.{Point}
@@ -27,7 +27,6 @@ use Rattle.store_parts.specs.declared.hand.Stepped.TheVariants as stepped
 use Rattle.store_parts.specs.declared.parts.Parts.{Parts}
 use Rattle.store_parts.specs.JournalState.{JournalState}
 use Rattle.store_parts.specs.Shares.{hand_share, share_of}
-use Rattle.store_parts.specs.UndoneLaws.{StepsSo}
 use Rattle.store_scans.specs.declared.looking.Looking.{Looking}
 use Rattle.store_scans.specs.Finishes.{BeginsAnew, Finishes, GoesToMarks, LacksMemory, Tells as TellsRows}
 use Rattle.store_scans.specs.LookLaws.{LookLaws}

@@ -1,5 +1,5 @@
 -- what a scan has found with its last step
-use Rattle.std.proofs.Common.{◌≡◌, ◌⊎◌, inl, inr, ℕ, zero, suc, ◌+◌, ◌<◌, ◌≤◌, ◌==◌, Bool, true, false, ◌&&◌, ◌||◌, List, [], ◌∷◌, length, map, get_or, Option, None, Some, All, IsPermutation, IsSorted, refl, sym, ap, subst, ◌∙◌, arith}
+use Rattle.std.proofs.Common.{◌≡◌, inl, inr, ℕ, zero, suc, ◌+◌, ◌<◌, ◌≤◌, ◌==◌, Bool, true, false, ◌&&◌, ◌||◌, List, [], ◌∷◌, length, map, get_or, Option, Some, All, IsSorted, refl, sym, ap, ◌∙◌, arith}
 use Rattle.std.specs.Prelude.{IsTrue}
 use Rattle.std.specs.List.{IsDistinct}
 use Rattle.std.specs.Ordering.{eq_by_cmp, is_lt}
@@ -38,9 +38,9 @@ use Rattle.store_scans.specs.FoundLists.{ListsRows, rows_of}
 use Rattle.store_scans.specs.LookLaws.{LookLaws}
 use Rattle.store_scans.specs.Looks.{deletes_of}
 use Rattle.store_scans.proofs.Stepped.{MakesStep, stepped}
-use Rattle.store_scans.proofs.Standing.{LooksThere, ScansAt, pages_show, scans_at, shows, sight, table, w}
+use Rattle.store_scans.proofs.Standing.{LooksThere, ScansAt, pages_show, scans_at, shows, sight, w}
 use Rattle.store_scans.proofs.Stands.{IsThere}
-use Rattle.store_scans.proofs.Turns.{between, between_kept, copy, done, done_there, matches_there, scan_after}
+use Rattle.store_scans.proofs.Turns.{between_kept, copy, done, done_there, matches_there, scan_after}
 
 or_right : (a b : Bool) → IsTrue b → IsTrue (a || b)
 or_right true b h = refl

@@ -1,5 +1,5 @@
 -- what a step of a scan leaves of the parts of a store
-use Rattle.std.proofs.Common.{◌≡◌, ◌≢◌, ℕ, zero, suc, ◌+◌, ◌<◌, ◌≤◌, Bool, false, List, [], ◌∷◌, length, set, Option, None, Some, refl, sym, ap, ◌∙◌, subst, arith}
+use Rattle.std.proofs.Common.{◌≡◌, ◌≢◌, ℕ, zero, suc, ◌+◌, ◌≤◌, Bool, false, List, [], ◌∷◌, length, set, Option, None, Some, refl, sym, ap, ◌∙◌, subst, arith}
 use Rattle.std.specs.Prelude.{if◌then◌else◌}
 use Rattle.std.proofs.lemmas.Option.{none-some}
 use Rattle.std.proofs.lemmas.List.{get_or-set_other}
@@ -16,14 +16,16 @@ use Rattle.row_versions.specs.StoredVersions.{transaction_of}
 use Rattle.tx_table.specs.Kept.{over_kept}
 use Rattle.tx_table.specs.Statuses.{status_relation}
 use Rattle.tx_table.specs.TxState.{IsOver, TxState}
+use Rattle.page_locks.specs.RightHolders.{right_of}
+use Rattle.reply_texts.specs.declared.dropped.Dropped.{Dropped}
 use Rattle.store_parts.specs.declared.hand.Hand.{Hand}
 use Rattle.store_parts.specs.declared.hand.Stepped.{Stepped}
 use Rattle.store_parts.specs.declared.parts.Parts.{Parts}
-use Rattle.store_parts.specs.HandFits.{FitsHand, IsUnderWay, locks_held}
+use Rattle.store_parts.specs.HandFits.{FitsHand, IsUnderWay, locks_held, right_held}
 use Rattle.store_parts.specs.Shares.{hand_share, open_share, share_of}
 use Rattle.store_parts.specs.StepIs.{hand_after}
 use Rattle.store_parts.specs.Stepping.{IsFit, LeavesTheOthers, StaysFit}
-use Rattle.store_parts.specs.StoreStates.{with_hand}
+use Rattle.store_parts.specs.StoreStates.{with_hand, dropped_in}
 use Rattle.store_parts.specs.UndoneLaws.{FitsParts}
 use Rattle.store_parts.proofs.Stores.{hand_changes}
 use Rattle.store_parts.proofs.Undone.{fit_of_parts, fit_of_stores}
@@ -38,6 +40,8 @@ pub record LeavesParts {D : Type 0} (told : D → Told) (old new : Parts D) (n :
   pub was_held : locks_held (Some was) ≡ 0
   pub locks : new.locks ≡ old.locks
   pub rights : new.rights ≡ old.rights
+  pub was_right : right_held old.pages.layout (Some was) ≡ None
+  pub dropped : new.dropped ≡ old.dropped
   pub entries : length new.journal.entries ≤ MAX_ENTRIES
   pub promised : new.journal.promised + share_of (Some was) (transaction_of old.transactions.opens n) ≡ old.journal.promised + share_of now (transaction_of new.transactions.opens n)
   pub opens : (m : ℕ) → m ≢ n → transaction_of new.transactions.opens m ≡ transaction_of old.transactions.opens m
@@ -56,6 +60,7 @@ module _ {D : Type 0} (told : D → Told) (old new : Parts D) (n : ℕ) (was : H
     in_hand = left.in_hand;
     limit = ap (λ (l : LockState). l.limit) left.locks ∙ fitted.limit;
     own = subst (λ (l : LockState). locks_of l n ≤ locks_held now) (sym left.locks) (subst (λ (count : ℕ). locks_of old.locks n ≤ count) (left.was_held ∙ sym left.held) fitted.own);
+    held = λ table holds. absurd (none-some table (sym left.was_right ∙ fitted.held table (ap (λ (r : List (Option ℕ)). right_of r table) (sym left.rights) ∙ holds)));
     rights = ap length left.rights ∙ fitted.rights ∙ ap (λ (layout : DiskLayout). length layout.schema.tables) (sym left.leaves.layout);
     entries = left.entries;
     share = less_share new.journal.promised old.journal.promised _ _ left.promised fitted.share;
@@ -70,6 +75,8 @@ module _ {D : Type 0} (told : D → Told) (old new : Parts D) (n : ℕ) (was : H
       leaves = left.leaves;
       transactions = left.opens;
       locks = λ m apart. ap (λ (l : LockState). locks_of l m) left.locks;
+      dropped = λ m apart. ap (λ (l : List (List Dropped)). dropped_in l m) left.dropped;
+      rights = λ m table apart holds. ap (λ (r : List (Option ℕ)). right_of r table) (sym left.rights) ∙ holds;
       promised = ap (λ (h : Option Hand). new.journal.promised + share_of h (transaction_of old.transactions.opens n)) is ∙ left.promised
           ∙ ap (λ (h : Option Hand). old.journal.promised + share_of h (transaction_of new.transactions.opens n)) (sym ((hand_changes hands_ n was (hand_after answer) is).own ∙ after));
     }

@@ -1,19 +1,13 @@
 -- a step of a scan that goes on
-use Rattle.std.proofs.Common.{◌≡◌, ◌≢◌, ℕ, ◌≤◌, Bool, List, [], length, Option, None, Some, All, refl, sym, ap, subst, ◌∙◌}
+use Rattle.std.proofs.Common.{◌≡◌, ◌≢◌, ℕ, ◌≤◌, Bool, List, length, Option, Some, All, refl, sym, ap, subst, ◌∙◌}
 use Rattle.std.specs.FinMap as finite
 use Rattle.std.proofs.lemmas.Option.{same_Some}
-use Rattle.block_model.specs.declared.place.Spot.{Spot}
 use Rattle.block_model.specs.declared.reply.Point.{Point}
-use Rattle.block_model.specs.declared.reply.Point.TheVariants as points
 use Rattle.block_model.specs.declared.request.Entry.{Entry}
 use Rattle.block_model.specs.declared.row.Query.{Query}
-use Rattle.block_model.specs.declared.row.Row.{Row}
 use Rattle.store_layout.specs.DiskLayout.{DiskLayout}
 use Rattle.page_layout.specs.PageContents.{Slot}
-use Rattle.page_layout.specs.RowBytes.{StoredRow}
-use Rattle.page_locks.specs.declared.did.Did.{Did}
 use Rattle.page_locks.specs.declared.did.Did.TheVariants as did
-use Rattle.heap_rows.specs.RowPlaces.{slot_at}
 use Rattle.snapshot_core.specs.declared.statuses.Status.{Status}
 use Rattle.statements.specs.declared.limits.TheConstants.{MAX_ENTRIES}
 use Rattle.row_versions.specs.declared.sessions.Open.{Open}
@@ -28,14 +22,14 @@ use Rattle.table_coverage.specs.TableSteps.{Stays}
 use Rattle.table_coverage.proofs.Views.{pick_same}
 use Rattle.brin_scan.specs.declared.stage.Stage.{Stage}
 use Rattle.brin_scan.specs.declared.stage.Stage.TheVariants as stages
-use Rattle.brin_scan.specs.Finds.{FindHand, FindSteps, SeesThere, Sight, scanning, sees_stored}
+use Rattle.brin_scan.specs.Finds.{FindHand, scanning}
 use Rattle.brin_scan.specs.LastStatuses.{Remembers}
-use Rattle.brin_scan.specs.ScanAnswers.{ScanStepped}
 use Rattle.brin_scan.specs.ScanHands.{ScanHand}
 use Rattle.brin_scan.specs.ScanSteps.{ScanGoes, account_at, point_at}
 use Rattle.brin_scan.specs.TableScans.{Beside, table_scan, task_of}
 use Rattle.line_texts.specs.Place.{Hand as HandAt, Place, database_at, new_hand}
 use Rattle.line_texts.specs.StatementSteps.{MakesAt, Moved, Steps, StepsTo, course_of}
+use Rattle.store_parts.specs.HandsAsk.{IsNoInsert}
 use Rattle.store_parts.specs.declared.hand.Hand.{Hand}
 use Rattle.store_parts.specs.Hands.{HandShows}
 use Rattle.store_parts.specs.HandsInTables.{IsScanAt, IsTaskOf, sight_of, table_in}
@@ -53,7 +47,7 @@ use Rattle.store_scans.proofs.Standing.{LooksThere, ScansAt, account_is, in_hand
 use Rattle.store_scans.proofs.Stands.{IsThere}
 use Rattle.store_scans.proofs.Stepped.{MakesStep, stepped}
 use Rattle.store_scans.proofs.Turns.{reads, scan_after, tells_nothing, turns_there}
-use Rattle.store_scans.proofs.Words.{scan_in, scan_is_own, scan_is_shown}
+use Rattle.store_scans.proofs.Words.{scan_in, scan_is_own, scan_is_shown, scan_no_insert}
 
 -- one that has begun scans
 pub begun_task : (layout : DiskLayout) (stage : Stage) (hand : ScanHand) (beside : Beside) → stage ≢ stages.Extent → task_of layout stage hand beside ≡ Scans (table_scan layout hand beside)
@@ -124,6 +118,7 @@ module _ (laws : LookLaws) (old new : ShownStore) (n : ℕ) (looking : Looking) 
 
     in_hand_then : IsInHand old new n number (shows laws old n looking before o there p shown).blocks shown.database.stored next
     in_hand_then = record {
+      asks = subst IsNoInsert (sym is) (scan_no_insert looking after);
       is_in = λ other there_is. scan_in old.layout other looking after (sym (ap (table_in old.layout) is) ∙ there_is) ∙ ap (λ (q : Query). q.table) same;
       task = task_then;
     }
@@ -151,7 +146,7 @@ module _ (laws : LookLaws) (old new : ShownStore) (n : ℕ) (looking : Looking) 
         let v : TableState = table_state (pages_show laws old n looking before o there p shown) (task_turned n next (shows laws old n looking before o there p shown).unseen) in
         let counts : ℕ → Bool = counts_of new.transactions shown.database.stored in (
           place_after p n number (Some hand) v account counts new.entries,
-          place_shown laws old new n looking before o there p shown left next (Some hand) account in_hand_then leads turns.0,
+          place_shown laws old new n looking before o there p shown left next (Some hand) account in_hand_then leads turns.0 empty,
           record {
             hand = hand;
             in_hand = in_hand laws old n looking before o there p shown;

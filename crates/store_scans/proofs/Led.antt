@@ -1,8 +1,7 @@
 -- the place that a store shows behind a step of a scan that is made
-use Rattle.std.proofs.Common.{◌≡◌, ◌≢◌, ℕ, Bool, List, Option, None, Some, refl, sym, ap, subst, ◌∙◌}
+use Rattle.std.proofs.Common.{◌≡◌, ℕ, List, Option, Some, sym, ap, subst, ◌∙◌}
 use Rattle.std.specs.FinMap as finite
 use Rattle.block_model.specs.declared.request.Entry.{Entry}
-use Rattle.block_model.specs.DatabaseState.{OpenTransaction}
 use Rattle.block_model.specs.SerialRun.{IsLegal, serial_run}
 use Rattle.page_layout.specs.PageContents.{Slot}
 use Rattle.page_locks.specs.RightHolders.{right_of}
@@ -17,12 +16,13 @@ use Rattle.transactions.specs.CountedRows.{counts as counts_of}
 use Rattle.transactions.specs.ShowsDatabase.{ShowsDatabase}
 use Rattle.transactions.specs.TransactionsState.{TransactionsState}
 use Rattle.index_steps.specs.ShownRows.{shown_by}
-use Rattle.table_coverage.specs.Accounts.{Account}
+use Rattle.table_coverage.specs.Accounts.{Account, no_account}
 use Rattle.table_coverage.specs.Machines.{Unseen, table_state, task_turned}
 use Rattle.table_coverage.specs.Table.{TableState, Task}
 use Rattle.table_coverage.proofs.Views.{pick_other, pick_same}
 use Rattle.brin_scan.specs.Finds.{FindHand}
 use Rattle.line_texts.specs.Place.{Hand as HandAt, Place, database_at}
+use Rattle.store_parts.specs.HandsAsk.{IsNoInsert}
 use Rattle.store_parts.specs.declared.hand.Hand.{Hand}
 use Rattle.store_parts.specs.Hands.{HandShows}
 use Rattle.store_parts.specs.HandsInTables.{IsTaskOf, table_in}
@@ -36,7 +36,7 @@ use Rattle.store_parts.proofs.Tables.{own_table_goes_on}
 use Rattle.store_scans.specs.declared.looking.Looking.{Looking}
 use Rattle.store_scans.specs.LookLaws.{LookLaws}
 use Rattle.store_scans.specs.Looks.{statement_for}
-use Rattle.store_scans.proofs.Standing.{LooksThere, shows}
+use Rattle.store_scans.proofs.Standing.{LooksThere, shows, account_is}
 use Rattle.store_scans.proofs.Words.{in_table}
 
 -- a step of the scan changed nothing but the journal and what the session has in hand
@@ -46,10 +46,13 @@ pub record ScanLeft (old new : ShownStore) (n : ℕ) : Type 0 where
   pub transactions : new.transactions ≡ old.transactions
   pub locks : new.locks ≡ old.locks
   pub rights : new.rights ≡ old.rights
+  pub queue : new.queue ≡ old.queue
+  pub dropped : new.dropped ≡ old.dropped
 
 -- what the session has in hand then, in its table
 pub record IsInHand (old new : ShownStore) (n table : ℕ) (blocks : List (List Slot)) (stored : List Status) (next : Task) : Type 0 where
   pub is_in : (other : ℕ) → table_in old.layout (hand_in new.hands n) ≡ Some other → other ≡ table
+  pub asks : IsNoInsert (hand_in new.hands n)
   pub task : IsTaskOf old.layout table blocks new.transactions.tx stored (transaction_of new.transactions.opens n) (hand_in new.hands n) next
 
 -- the indexes' pages stay in their order
@@ -114,6 +117,7 @@ module _ (laws : LookLaws) (old new : ShownStore) (n : ℕ) (looking : Looking) 
     abbrev pub led : Place
     led = place_after p n number at after account (counts_of new.transactions stored) new.entries
 
-    pub place_shown : IsPlaceOf new led
-    place_shown = table_step_is_shown old new p n number at after account shown left.others steps_in
+    pub place_shown : account ≡ no_account → IsPlaceOf new led
+    place_shown empty = table_step_is_shown old new p n number at after account shown left.others steps_in
         (same_counts_few old new stored stored (λ t. ap (λ (x : TransactionsState). counts_of x stored t) left.transactions)) leads own_table
+        (record { queue = left.queue; dropped = left.dropped; told = ap (λ (a : Account). a.dropped) (empty ∙ sym (account_is laws old n looking before o there p shown)); hand = in_hand.asks })

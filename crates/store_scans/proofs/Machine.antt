@@ -1,5 +1,5 @@
 -- what a call of the scan's machine did, and what comes of it
-use Rattle.std.proofs.Common.{◌≡◌, ◌≢◌, ℕ, ◌+◌, ◌<◌, Bool, List, [], length, Option, None, Some, Result, Ok, Err, refl, sym, ap, ◌∙◌, subst}
+use Rattle.std.proofs.Common.{◌≡◌, ◌≢◌, ℕ, ◌+◌, ◌<◌, Bool, List, length, Option, None, Some, Ok, Err, refl, sym, ap, ◌∙◌, subst}
 use Rattle.disk_trait.specs.Told.{Told}
 use Rattle.block_model.specs.declared.reply.Point.{Point}
 use Rattle.page_locks.specs.declared.did.Did.{Did}
@@ -34,7 +34,6 @@ use Rattle.store_parts.specs.declared.parts.Parts.{Parts}
 use Rattle.store_parts.specs.HandsInTables.{sight_of}
 use Rattle.store_parts.specs.StoreFaults.{fault_of}
 use Rattle.store_parts.specs.StoreStates.{ShownStore, shown_of, store_of}
-use Rattle.store_parts.specs.UndoneLaws.{StepsSo}
 use Rattle.store_scans.specs.declared.looking.Looking.{Looking}
 use Rattle.store_scans.specs.LookLaws.{LookLaws}
 use Rattle.store_scans.specs.Looks.{hand_before, scan_hand_of}

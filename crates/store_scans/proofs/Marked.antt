@@ -1,5 +1,5 @@
 -- a delete that goes on to mark what its scan found, over the parts of a store
-use Rattle.std.proofs.Common.{◌≡◌, ℕ, ◌+◌, ◌<◌, List, length, Option, None, Some, All, refl, sym, ap, ◌∙◌, subst}
+use Rattle.std.proofs.Common.{◌≡◌, ℕ, ◌+◌, ◌<◌, length, Some, All, refl, sym, ap, ◌∙◌, subst}
 use Rattle.std.specs.Global.{Vec}
 use Rattle.std.proofs.lemmas.List.Elements.{All-map}
 use Rattle.std.proofs.lemmas.List.Sorted.{All-permutation}
@@ -21,7 +21,6 @@ use Rattle.brin_scan.specs.Finds.{FindHand, IsFindOf}
 use Rattle.store_parts.specs.declared.hand.Hand.TheVariants as hands
 use Rattle.store_parts.specs.declared.hand.Hit.{Hit}
 use Rattle.store_parts.specs.declared.hand.Marking.{Marking}
-use Rattle.store_parts.specs.declared.hand.Stepped.{Stepped}
 use Rattle.store_parts.specs.declared.hand.Stepped.TheVariants as stepped
 use Rattle.store_parts.specs.declared.parts.Parts.{Parts}
 use Rattle.store_parts.specs.HandFits.{IsHandFor}
@@ -38,7 +37,7 @@ use Rattle.store_scans.specs.Looks.{hand_before}
 use Rattle.store_scans.specs.ScanSteps.{IsFresh}
 use Rattle.store_scans.proofs.Frames.{LeavesParts, leaves_others, stays_fit}
 use Rattle.store_scans.proofs.Marking.{goes_to_marks}
-use Rattle.store_scans.proofs.Steps.{DidScan, few, fits, left, left_parts, look, stand_there, steps_there, store, store_then, then, there}
+use Rattle.store_scans.proofs.Steps.{DidScan, few, fits, left, left_parts, look, stand_there, steps_there, store, store_then, there}
 use Rattle.store_scans.proofs.Words.{statement_is}
 
 module _ {D : Type 0} (told : D → Told) (laws : LookLaws) (old : Parts D) (pages : View D) (n : ℕ) (before : FindHand) (find : IsFindOf old.pages.layout before)

@@ -1,10 +1,9 @@
 -- the last step of a delete's scan, behind which it goes on to mark what it found
-use Rattle.std.proofs.Common.{◌≡◌, ◌≢◌, inl, inr, ℕ, ◌+◌, ◌<◌, ◌≤◌, Bool, true, false, List, [], ◌∷◌, length, drop, map, get_or, Option, None, Some, All, refl, sym, ap, subst, ◌∙◌, arith}
+use Rattle.std.proofs.Common.{◌≡◌, ℕ, ◌<◌, ◌≤◌, Bool, List, [], ◌∷◌, length, Option, Some, All, refl, sym, ap, subst, ◌∙◌, arith}
 use Rattle.std.specs.Prelude.{IsTrue}
 use Rattle.std.specs.Global.{Vec}
 use Rattle.std.specs.Cmp.{eq_by_cmp_equiv}
 use Rattle.std.specs.FinMap as finite
-use Rattle.std.specs.List.{IsDistinct}
 use Rattle.std.specs.Ordering.{eq_by_cmp}
 use Rattle.std.proofs.lemmas.List.Elements.{All-contains, All-map, All-weaker, recursion_from_All}
 use Rattle.std.proofs.lemmas.List.Sorted.{All-permutation, Contains-permutation, IsPermutation-map}
@@ -27,7 +26,6 @@ use Rattle.statements.specs.declared.statement.Statement.TheVariants as statemen
 use Rattle.row_versions.specs.declared.sessions.Open.{Open}
 use Rattle.row_versions.specs.StoredVersions.{transaction_of}
 use Rattle.transactions.specs.CountedRows.{counts as counts_of}
-use Rattle.index_steps.specs.ShownRows.{row_in}
 use Rattle.table_coverage.specs.Accounts.{Account, no_account}
 use Rattle.table_coverage.specs.Machines.{table_state, task_turned}
 use Rattle.table_coverage.specs.RowOrder.{AreInOrder, IsAmong}
@@ -41,6 +39,7 @@ use Rattle.brin_scan.proofs.FoundRows.{slot_of_row}
 use Rattle.brin_scan.proofs.Stepping.{onward_turned}
 use Rattle.line_texts.specs.Place.{Hand as HandAt, Place, database_at, new_hand}
 use Rattle.line_texts.specs.StatementSteps.{MakesAt, Moved, Steps, StepsTo, course_of}
+use Rattle.store_parts.specs.HandsAsk.{IsNoInsert}
 use Rattle.store_parts.specs.declared.hand.Hand.{Hand}
 use Rattle.store_parts.specs.declared.hand.Hand.TheVariants as hands
 use Rattle.store_parts.specs.declared.hand.Hit.{Hit}
@@ -53,14 +52,14 @@ use Rattle.store_parts.specs.ShowsPlace.{IsLeftToMark, IsOfTransaction, IsPlaceO
 use Rattle.store_parts.specs.StoreStates.{ShownStore, hand_in}
 use Rattle.store_parts.proofs.Steps.{turn_goes_on}
 use Rattle.store_scans.specs.declared.looking.Looking.TheVariants as lookings
-use Rattle.store_scans.specs.FoundLists.{ListsHits, hit_of, hits_of, rows_of}
+use Rattle.store_scans.specs.FoundLists.{ListsHits, hit_of, rows_of}
 use Rattle.store_scans.specs.LookLaws.{LookLaws}
 use Rattle.store_scans.proofs.Found.{found_here, goes, ids_distinct, now, read, rows_are, rows_sorted, scan_then, sees_found}
 use Rattle.store_scans.proofs.GoesOn.{enters_nothing}
 use Rattle.store_scans.proofs.Stepped.{MakesStep}
 use Rattle.store_scans.proofs.Led.{IsInHand, ScanLeft, nothing_entered, place_shown}
 use Rattle.store_scans.proofs.Ordered.{among_them, one_among, one_at, row_ids, rows_in_order, same_ids}
-use Rattle.store_scans.proofs.Standing.{LooksThere, account_is, in_hand, pages_show, scans_at, shows, w}
+use Rattle.store_scans.proofs.Standing.{LooksThere, account_is, in_hand, pages_show, shows, w}
 use Rattle.store_scans.proofs.Stands.{IsThere}
 use Rattle.store_scans.proofs.Turns.{copy, reads, tells_nothing, turns_there}
 
@@ -151,6 +150,7 @@ module _ (laws : LookLaws) (old new : ShownStore) (n : ℕ) (before after : Find
 
     in_hand_then : IsInHand old new n number (shows laws old n lookings.Delete before o there p shown).blocks shown.database.stored next
     in_hand_then = record {
+      asks = subst IsNoInsert (sym is) tt;
       is_in = λ other there_is. sym (same_Some after.judging.query.table other (sym (ap (table_in old.layout) is) ∙ there_is)) ∙ ap (λ (q : Query). q.table) same;
       task = subst (λ (h : Option Hand). IsTaskOf old.layout number (shows laws old n lookings.Delete before o there p shown).blocks new.transactions.tx shown.database.stored (transaction_of new.transactions.opens n) h next) (sym is)
           ((λ own. marking_at), (λ away. absurd (away (ap (λ (q : Query). q.table) same))));
@@ -185,7 +185,7 @@ module _ (laws : LookLaws) (old new : ShownStore) (n : ℕ) (before after : Find
         let v : TableState = table_state (pages_show laws old n lookings.Delete before o there p shown) (task_turned n next (shows laws old n lookings.Delete before o there p shown).unseen) in
         let counts : ℕ → Bool = counts_of new.transactions shown.database.stored in (
           place_after p n number (Some hand) v account counts new.entries,
-          place_shown laws old new n lookings.Delete before o there p shown left next (Some hand) account in_hand_then leads turns.0,
+          place_shown laws old new n lookings.Delete before o there p shown left next (Some hand) account in_hand_then leads turns.0 empty,
           record {
             hand = hand;
             in_hand = in_hand laws old n lookings.Delete before o there p shown;

@@ -1,5 +1,5 @@
 -- when a step of a scan may be made
-use Rattle.std.proofs.Common.{◌≡◌, ◌≢◌, ℕ, ◌+◌, ◌-◌, ◌<◌, ◌≤◌, List, length, Option, None, Some, refl, sym, ap, ◌∙◌, subst, arith}
+use Rattle.std.proofs.Common.{◌≡◌, ◌≢◌, ℕ, ◌+◌, ◌-◌, ◌<◌, List, length, Option, None, Some, refl, sym, ap, ◌∙◌, subst, arith}
 use Rattle.std.proofs.lemmas.List.{length-replicate}
 use Rattle.disk_trait.specs.Told.{Told}
 use Rattle.block_model.specs.declared.row.Query.{Query}
@@ -8,14 +8,13 @@ use Rattle.page_store.specs.Keeps.{Keeps, Tells}
 use Rattle.page_store.specs.PageMap.{View}
 use Rattle.store_layout.specs.DiskLayout.{DiskLayout}
 use Rattle.row_versions.specs.StoredVersions.{transaction_of}
-use Rattle.brin_scan.specs.declared.stage.Stage.{Stage}
 use Rattle.brin_scan.specs.declared.stage.Stage.TheVariants as stages
 use Rattle.brin_scan.specs.Finds.{FindHand, IsFindOf, first_find}
 use Rattle.brin_scan.specs.ScanHands.{first_hand as judging_first}
 use Rattle.store_parts.specs.declared.hand.Hand.{Hand}
 use Rattle.store_parts.specs.declared.hand.Stepped.{Stepped}
 use Rattle.store_parts.specs.declared.parts.Parts.{Parts}
-use Rattle.store_parts.specs.HandFits.{FitsHand}
+use Rattle.store_parts.specs.HandFits.{FitsHand, right_held}
 use Rattle.store_parts.specs.JournalState.{JournalState}
 use Rattle.store_parts.specs.ShowsPlace.{IsPlaceOf}
 use Rattle.store_parts.specs.Stepping.{IsFit, IsShown}
@@ -42,6 +41,7 @@ module _ {D : Type 0} (told : D → Told) where
       in_hand = subst (λ (l : DiskLayout). FitsHand l (transaction_of old.transactions.opens n) (Some hand)) (sym keeps.leaves.layout) fits.in_hand;
       limit = fits.limit;
       own = fits.own;
+      held = λ table holds. subst (λ (l : DiskLayout). right_held l (Some hand) ≡ Some table) (sym keeps.leaves.layout) (fits.held table holds);
       rights = fits.rights ∙ ap (λ (l : DiskLayout). length l.schema.tables) (sym keeps.leaves.layout);
       entries = fits.entries;
       share = fits.share;
@@ -58,6 +58,8 @@ module _ {D : Type 0} (told : D → Told) where
       locks = old.locks;
       rights = old.rights;
       entries = old.journal.entries;
+      queue = old.queue;
+      dropped = old.dropped;
       names = names;
       hands = hands;
     }
@@ -81,7 +83,7 @@ module _ {D : Type 0} (told : D → Told) where
 
     pub behind : pages.failed ≡ None → (new : Parts D) (answer : Stepped) → ScanStepsSo told (record parts { pages = pages }) new n looking scan answer → ScanStepsSo told parts new n looking scan answer
     behind still new answer so = steps_behind told (parts_before scan.judging.stage parts) (parts_before scan.judging.stage (record parts { pages = pages })) new n (hand_before looking scan scan.judging.stage) answer keeps ready still
-        (record { transactions = refl; locks = refl; rights = refl; journal = refl }) so
+        (record { transactions = refl; locks = refl; rights = refl; journal = refl; queue = refl; dropped = refl }) so
 
   -- ---- before the first step
 

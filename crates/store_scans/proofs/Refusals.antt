@@ -1,70 +1,41 @@
 -- which step a look is for which memory is short
-use Rattle.std.proofs.Common.{◌≡◌, ◌≢◌, ◌⊎◌, inl, inr, ℕ, ◌+◌, ◌<◌, ◌≤◌, ◌==◌, Bool, true, false, not, ◌&&◌, List, [], ◌∷◌, ◌++◌, length, length-append, Option, None, Some, refl, sym, ap, subst, ◌∙◌, arith}
-use Rattle.std.specs.Prelude.{IsTrue}
-use Rattle.std.specs.FinMap as finite
+use Rattle.std.proofs.Common.{◌≡◌, ◌≢◌, ◌⊎◌, inl, inr, ℕ, ◌+◌, ◌<◌, Bool, false, List, [], ◌∷◌, ◌++◌, length, length-append, None, Some, refl, sym, ap, subst, ◌∙◌, arith}
 use Rattle.std.proofs.lemmas.Bool.{true≢false}
-use Rattle.std.proofs.lemmas.Option.{none-some}
 use Rattle.block_model.specs.declared.reply.Refusal.TheVariants as refusals
 use Rattle.block_model.specs.declared.reply.Reply.TheVariants as replies
 use Rattle.block_model.specs.declared.request.Entry.{Entry}
 use Rattle.block_model.specs.declared.request.Request.TheVariants as requests
 use Rattle.block_model.specs.declared.request.Tag.TheVariants as tags
 use Rattle.block_model.specs.declared.row.Query.{Query}
-use Rattle.block_model.specs.DatabaseState.{DatabaseState, OpenTransaction}
-use Rattle.block_model.specs.RequestEffect.{IsLegalRequest, NoMemory, after_failure, after_request}
 use Rattle.store_layout.specs.DiskLayout.{DiskLayout}
-use Rattle.page_locks.specs.RightHolders.{right_of}
-use Rattle.page_store.specs.PageMap.{PageMap, page_at}
-use Rattle.heap_rows.specs.HeapBlocks.{HasBlocks}
-use Rattle.index_steps.specs.ShownRows.{shown_by}
 use Rattle.statements.specs.declared.limits.TheConstants.{MAX_ENTRIES}
 use Rattle.statements.specs.StatementRequests.{tagged_entry}
-use Rattle.snapshot_core.specs.declared.statuses.Status.{Status}
 use Rattle.row_versions.specs.declared.sessions.Open.{Open}
 use Rattle.row_versions.specs.StoredVersions.{transaction_of}
-use Rattle.tx_table.specs.Statuses.{HasStatuses}
-use Rattle.transactions.specs.CountedRows.{counts as counts_of}
-use Rattle.transactions.specs.Sessions.{IsCopyOf}
-use Rattle.transactions.specs.ShowsDatabase.{DoesRequest, ShowsDatabase}
-use Rattle.transactions.specs.TransactionsState.{TransactionsState, with_failed}
-use Rattle.table_coverage.specs.Accounts.{Account}
-use Rattle.table_coverage.specs.Machines.{Unseen, table_state, task_turned}
 use Rattle.table_coverage.specs.Refusals.{LacksMemory}
-use Rattle.table_coverage.specs.Table.{Resting, Scans, TableScan, TableState, Task}
-use Rattle.table_coverage.proofs.Views.{pick_other, pick_same}
+use Rattle.table_coverage.specs.Table.{Scans, TableScan, TableState}
 use Rattle.brin_scan.specs.declared.stage.Stage.{Stage}
 use Rattle.brin_scan.specs.declared.stage.Stage.TheVariants as stages
 use Rattle.brin_scan.specs.Finds.{FindHand, scanning}
 use Rattle.brin_scan.specs.TableScans.{table_scan}
 use Rattle.line_texts.specs.Beginnings.{IsAtRest}
-use Rattle.line_texts.specs.Place.{Hand as HandAt, Place, database_at, new_hand}
+use Rattle.line_texts.specs.Place.{Hand as HandAt, Place, new_hand}
 use Rattle.line_texts.specs.Requests.{refused_request}
-use Rattle.line_texts.specs.StatementSteps.{Ended, ForMemory, LacksRoom, Steps, StepsTo}
-use Rattle.store_parts.specs.declared.hand.Hand.{Hand}
-use Rattle.store_parts.specs.Hands.{HandShows}
-use Rattle.store_parts.specs.HandsInTables.{IsTaskOf, table_in}
-use Rattle.store_parts.specs.LeadLaws.{HasInHand}
-use Rattle.store_parts.specs.Leaving.{CountsFew, LeadsTo, LeavesOthers, SameLocks, StepsAtOnce, StepsInTable}
+use Rattle.line_texts.specs.StatementSteps.{Ended, ForMemory, LacksRoom, StepsTo}
+use Rattle.store_parts.specs.HandsInTables.{table_in}
 use Rattle.store_parts.specs.PlacesAfter.{TurnsIn, place_after, place_at_once, refusal_in}
 use Rattle.store_parts.specs.RefusalLaws.{CountsNoMore, refused_in}
 use Rattle.store_parts.specs.ShowsPlace.{IsPlaceOf, ShowsTable}
 use Rattle.store_parts.specs.StoreStates.{ShownStore, hand_in}
-use Rattle.store_parts.proofs.Leads.{failure_counts_no_more, fewer_counts_few, nothing_leaves_slots, request_leads, same_sees_alike}
-use Rattle.store_parts.proofs.Places.{step_at_once_is_shown, table_step_is_shown}
 use Rattle.store_parts.proofs.Refusals.{scan_is_refused}
-use Rattle.store_parts.proofs.Requests.{look_is_legal}
 use Rattle.store_parts.proofs.Seeing.{task_elsewhere}
 use Rattle.store_parts.proofs.Steps.{lacks_memory, turn_is_refused}
-use Rattle.store_parts.proofs.Tables.{own_table_goes_on}
 use Rattle.store_scans.specs.declared.looking.Looking.{Looking}
 use Rattle.store_scans.specs.LookLaws.{LookLaws}
 use Rattle.store_scans.specs.Looks.{deletes_of, hand_before, statement_for}
 use Rattle.store_scans.proofs.GoesOn.{begun_task}
-use Rattle.store_scans.proofs.Led.{order_stays}
-use Rattle.store_scans.proofs.Standing.{LooksThere, account_is, in_hand, scans_at, shows}
-use Rattle.store_scans.proofs.Tells.{none_in_hand}
-use Rattle.store_scans.proofs.Turns.{copy}
-use Rattle.store_scans.proofs.Words.{first_in_none, in_table, looks, not_work, on_table, refused_is, takes_memory}
+use Rattle.store_scans.proofs.Standing.{LooksThere, in_hand, scans_at, shows}
+use Rattle.store_scans.proofs.Words.{first_in_none, looks, not_work, on_table, refused_is, takes_memory}
 
 -- a scan is before its first step, or has begun
 pub begun_or_not : (stage : Stage) → (stage ≡ stages.Extent) ⊎ (stage ≢ stages.Extent)
@@ -120,7 +91,7 @@ module _ (laws : LookLaws) (old : ShownStore) (n : ℕ) (looking : Looking) (bef
 
     module _ (t : ℕ) (counts : ℕ → Bool) (no_more : CountsNoMore (p.tables number) counts t) where
       pub turns : (turns : TurnsIn p n (statement_for looking query) number (refused_in n counts (p.tables number)) (p.accounts n)) × (refusal_in turns ≡ Some LacksMemory)
-      turns = scan_is_refused p n number t (statement_for looking query) (p.tables number) its_scan counts refl shown.queue (not_work looking query) (on_table looking query p n) scans_there refl no_more
+      turns = scan_is_refused p n number t (statement_for looking query) (p.tables number) its_scan counts refl (not_work looking query) (on_table looking query p n) scans_there refl no_more
 
       pub later_step : (others : ℕ → Bool)
           → StepsTo p n hand (Ended (replies.Refused refusals.Memory)) (place_after p n number None (refused_in n counts (p.tables number)) (p.accounts n) others entries_then)

@@ -1,24 +1,19 @@
 -- a look for which memory is short, in a place that the store shows
-use Rattle.std.proofs.Common.{◌≡◌, ◌≢◌, ◌⊎◌, inl, inr, ℕ, ◌+◌, ◌<◌, ◌≤◌, ◌==◌, Bool, true, false, not, ◌&&◌, List, [], ◌∷◌, ◌++◌, length, length-append, Option, None, Some, refl, sym, ap, subst, ◌∙◌, arith}
-use Rattle.std.specs.Prelude.{IsTrue}
+use Rattle.std.proofs.Common.{◌≡◌, ◌≢◌, inl, inr, ℕ, ◌≤◌, ◌==◌, Bool, not, ◌&&◌, List, [], ◌∷◌, ◌++◌, length, Option, None, Some, refl, sym, ap, subst, ◌∙◌}
 use Rattle.std.specs.FinMap as finite
-use Rattle.std.proofs.lemmas.Bool.{true≢false}
 use Rattle.std.proofs.lemmas.Option.{none-some}
 use Rattle.block_model.specs.declared.reply.Refusal.TheVariants as refusals
 use Rattle.block_model.specs.declared.reply.Reply.TheVariants as replies
 use Rattle.block_model.specs.declared.request.Entry.{Entry}
-use Rattle.block_model.specs.declared.request.Request.TheVariants as requests
 use Rattle.block_model.specs.declared.request.Tag.TheVariants as tags
 use Rattle.block_model.specs.declared.row.Query.{Query}
 use Rattle.block_model.specs.DatabaseState.{DatabaseState, OpenTransaction}
 use Rattle.block_model.specs.RequestEffect.{IsLegalRequest, NoMemory, after_failure, after_request}
-use Rattle.store_layout.specs.DiskLayout.{DiskLayout}
 use Rattle.page_locks.specs.RightHolders.{right_of}
 use Rattle.page_store.specs.PageMap.{PageMap, page_at}
 use Rattle.heap_rows.specs.HeapBlocks.{HasBlocks}
 use Rattle.index_steps.specs.ShownRows.{shown_by}
 use Rattle.statements.specs.declared.limits.TheConstants.{MAX_ENTRIES}
-use Rattle.statements.specs.StatementRequests.{tagged_entry}
 use Rattle.snapshot_core.specs.declared.statuses.Status.{Status}
 use Rattle.row_versions.specs.declared.sessions.Open.{Open}
 use Rattle.row_versions.specs.StoredVersions.{transaction_of}
@@ -27,45 +22,35 @@ use Rattle.transactions.specs.CountedRows.{counts as counts_of}
 use Rattle.transactions.specs.Sessions.{IsCopyOf}
 use Rattle.transactions.specs.ShowsDatabase.{DoesRequest, ShowsDatabase}
 use Rattle.transactions.specs.TransactionsState.{TransactionsState, with_failed}
-use Rattle.table_coverage.specs.Accounts.{Account}
 use Rattle.table_coverage.specs.Machines.{Unseen, table_state, task_turned}
-use Rattle.table_coverage.specs.Refusals.{LacksMemory}
-use Rattle.table_coverage.specs.Table.{Resting, Scans, TableScan, TableState, Task}
+use Rattle.table_coverage.specs.Table.{Resting, TableState, Task}
 use Rattle.table_coverage.proofs.Views.{pick_other, pick_same}
-use Rattle.brin_scan.specs.declared.stage.Stage.{Stage}
 use Rattle.brin_scan.specs.declared.stage.Stage.TheVariants as stages
-use Rattle.brin_scan.specs.Finds.{FindHand, scanning}
-use Rattle.brin_scan.specs.TableScans.{table_scan}
-use Rattle.line_texts.specs.Beginnings.{IsAtRest}
+use Rattle.brin_scan.specs.Finds.{FindHand}
 use Rattle.line_texts.specs.Place.{Hand as HandAt, Place, database_at, new_hand}
-use Rattle.line_texts.specs.Requests.{refused_request}
-use Rattle.line_texts.specs.StatementSteps.{Ended, ForMemory, LacksRoom, Steps, StepsTo}
+use Rattle.line_texts.specs.StatementSteps.{Ended, Steps, StepsTo}
+use Rattle.store_parts.specs.HandsAsk.{IsNoInsert}
 use Rattle.store_parts.specs.declared.hand.Hand.{Hand}
 use Rattle.store_parts.specs.Hands.{HandShows}
 use Rattle.store_parts.specs.HandsInTables.{IsTaskOf, table_in}
 use Rattle.store_parts.specs.LeadLaws.{HasInHand}
-use Rattle.store_parts.specs.Leaving.{CountsFew, LeadsTo, LeavesOthers, SameLocks, StepsAtOnce, StepsInTable}
-use Rattle.store_parts.specs.PlacesAfter.{TurnsIn, place_after, place_at_once, refusal_in}
+use Rattle.store_parts.specs.Leaving.{CountsFew, LeadsTo, LeavesOthers, SameLocks, StepsAtOnce, StepsInTable, AsksForNone}
+use Rattle.store_parts.specs.PlacesAfter.{place_after, place_at_once}
 use Rattle.store_parts.specs.RefusalLaws.{CountsNoMore, refused_in}
 use Rattle.store_parts.specs.ShowsPlace.{IsPlaceOf, ShowsTable}
 use Rattle.store_parts.specs.StoreStates.{ShownStore, hand_in}
 use Rattle.store_parts.proofs.Leads.{failure_counts_no_more, fewer_counts_few, nothing_leaves_slots, request_leads, same_sees_alike}
 use Rattle.store_parts.proofs.Places.{step_at_once_is_shown, table_step_is_shown}
-use Rattle.store_parts.proofs.Refusals.{scan_is_refused}
 use Rattle.store_parts.proofs.Requests.{look_is_legal}
-use Rattle.store_parts.proofs.Seeing.{task_elsewhere}
-use Rattle.store_parts.proofs.Steps.{lacks_memory, turn_is_refused}
 use Rattle.store_parts.proofs.Tables.{own_table_goes_on}
 use Rattle.store_scans.specs.declared.looking.Looking.{Looking}
 use Rattle.store_scans.specs.LookLaws.{LookLaws}
-use Rattle.store_scans.specs.Looks.{deletes_of, hand_before, statement_for}
-use Rattle.store_scans.proofs.GoesOn.{begun_task}
+use Rattle.store_scans.specs.Looks.{statement_for}
 use Rattle.store_scans.proofs.Led.{order_stays}
-use Rattle.store_scans.proofs.Standing.{LooksThere, account_is, in_hand, scans_at, shows}
+use Rattle.store_scans.proofs.Standing.{LooksThere, in_hand, shows}
 use Rattle.store_scans.proofs.Tells.{none_in_hand}
 use Rattle.store_scans.proofs.Turns.{copy}
-use Rattle.store_scans.proofs.Words.{first_in_none, in_table, looks, not_work, on_table, refused_is, takes_memory}
-
+use Rattle.store_scans.proofs.Words.{in_table}
 use Rattle.store_scans.proofs.Refusals.{begun_or_not, entries_then, first_step, later_step, none_before, refused_entry, turns}
 
 -- ---- the place then
@@ -77,6 +62,8 @@ pub record RefusedLeft (old new : ShownStore) (n : ℕ) (o : Open) (query : Quer
   pub transactions : new.transactions ≡ with_failed old.transactions n o
   pub locks : new.locks ≡ old.locks
   pub rights : new.rights ≡ old.rights
+  pub queue : new.queue ≡ old.queue
+  pub dropped : new.dropped ≡ old.dropped
   pub entries : new.entries ≡ old.entries ++ refused_entry n query ∷ []
   pub none : hand_in new.hands n ≡ None
   pub fits : length new.entries ≤ MAX_ENTRIES
@@ -121,10 +108,13 @@ module _ (laws : LookLaws) (old new : ShownStore) (n : ℕ) (looking : Looking) 
 
   has_none : HasInHand old new n None (p.accounts n) (after_request d e)
   has_none = record {
-    hand = subst (λ (h : Option Hand). HandShows h None (p.accounts n)) (sym left.none) (refl, ap (λ (a : Account). a.dropped) (account_is laws old n looking before o there p shown));
+    hand = subst (λ (h : Option Hand). HandShows h None (p.accounts n)) (sym left.none) refl;
     own = λ h is. absurd (none-some h (sym left.none ∙ is));
     order = λ index below ordered. order_stays old new left.pages index ordered;
   }
+
+  asks_none : AsksForNone n old new p (p.accounts n)
+  asks_none = record { queue = left.queue; dropped = left.dropped; told = refl; hand = subst IsNoInsert (sym left.none) tt }
 
   leads : LeadsTo old new p n None (p.accounts n)
   leads = request_leads old new p n None (p.accounts n) e NoMemory shown refl legal left.entries does has_none
@@ -159,7 +149,7 @@ module _ (laws : LookLaws) (old new : ShownStore) (n : ℕ) (looking : Looking) 
     first_refused = (
       place_at_once p n counts new.entries,
       step_at_once_is_shown old new p n stored shown left.others at_once (subst (λ (m : PageMap). HasStatuses old.layout m stored) (sym left.pages) shown.database.has)
-          (same_sees_alike old new stored n left.others.first) few left.none leads,
+          (same_sees_alike old new stored n left.others.first) few left.none leads asks_none,
       record {
         hand = hand;
         in_hand = in_hand laws old n looking before o there p shown;
@@ -203,7 +193,7 @@ module _ (laws : LookLaws) (old new : ShownStore) (n : ℕ) (looking : Looking) 
     later_refused : (q : Place) × IsPlaceOf new q × Steps p n (Ended (replies.Refused refusals.Memory)) q
     later_refused = (
       place_after p n number None v (p.accounts n) counts new.entries,
-      table_step_is_shown old new p n number None v (p.accounts n) shown left.others steps_in few leads own_table,
+      table_step_is_shown old new p n number None v (p.accounts n) shown left.others steps_in few leads own_table asks_none,
       record {
         hand = hand;
         in_hand = in_hand laws old n looking before o there p shown;

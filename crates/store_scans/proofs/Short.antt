@@ -16,7 +16,6 @@ use Rattle.store_parts.specs.declared.hand.Hand.{Hand}
 use Rattle.store_parts.specs.declared.hand.Stepped.{Stepped}
 use Rattle.store_parts.specs.declared.hand.Stepped.TheVariants as stepped
 use Rattle.store_parts.specs.declared.parts.Parts.{Parts}
-use Rattle.store_parts.specs.HandFits.{IsUnderWay}
 use Rattle.store_parts.specs.Shares.{hand_share}
 use Rattle.store_parts.specs.Stepping.{IsFit}
 use Rattle.store_parts.specs.UndoneLaws.{StepsSo}

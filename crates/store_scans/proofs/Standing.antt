@@ -1,5 +1,5 @@
 -- where a session's scan stands, as the parts of a store show it
-use Rattle.std.proofs.Common.{◌≡◌, ◌≢◌, inl, inr, ℕ, ◌<◌, Bool, true, false, List, [], length, Option, None, Some, All, refl, sym, ap, subst, ◌∙◌, arith}
+use Rattle.std.proofs.Common.{◌≡◌, ◌≢◌, inl, inr, ℕ, Bool, true, false, List, Option, None, Some, All, refl, sym, ap, subst, ◌∙◌}
 use Rattle.std.specs.Prelude.{IsTrue}
 use Rattle.std.proofs.lemmas.Bool.{cases_eq, false≢true}
 use Rattle.std.proofs.lemmas.List.Elements.{All-nil}
@@ -121,7 +121,7 @@ module _ (laws : LookLaws) (s : ShownStore) (n : ℕ) (looking : Looking) (befor
     put_by_another : (m : ℕ) → m ≢ n → IsPutBy (hand_in s.hands m) b k (shows.unseen.task m) → ⊥
     put_by_another m apart put =
         let own : IsRowOf (transaction_of s.transactions.opens m) (is_put put.insert.place) put.insert.row.id.t put.insert.row.id.k = shown.own m (hands.Inserts put.insert) put.hand_is in
-        let same : put.insert.row ≡ its_row = same_Some put.insert.row its_row (sym (put_stands w m b k put.at put.insert.row put.on kept put.is) ∙ stands) in
+        let same : put.insert.row ≡ its_row = same_Some put.insert.row its_row (sym (put_stands w m b k put.at put.insert.row kept put.is) ∙ stands) in
         let unseen : sees_stored sight row ≡ false = laws.unseen s.layout s.pages s.transactions _ stored m n own.own o row shown.database own.is there.opened (λ is. apart (sym is))
         (sym (ap (λ (r : Row). r.id.t) same) ∙ own.number) in
         false≢true (sym unseen ∙ seen)

@@ -1,7 +1,6 @@
 -- what a step of a scan promises, by what its calls ensure
-use Rattle.std.proofs.Common.{◌≡◌, ◌≢◌, inl, inr, ℕ, ◌+◌, ◌<◌, ◌≤◌, Bool, false, List, [], ◌∷◌, ◌++◌, length, length-append, Option, None, Some, All, refl, sym, ap, ◌∙◌, subst, arith}
+use Rattle.std.proofs.Common.{◌≡◌, ◌≢◌, ℕ, ◌+◌, ◌<◌, ◌≤◌, false, List, [], ◌∷◌, ◌++◌, length, length-append, Option, None, Some, All, refl, sym, ap, ◌∙◌, subst, arith}
 use Rattle.disk_trait.specs.Told.{Told}
-use Rattle.block_model.specs.declared.place.Spot.{Spot}
 use Rattle.block_model.specs.declared.reply.Point.{Point}
 use Rattle.block_model.specs.declared.reply.Refusal.TheVariants as refusals
 use Rattle.block_model.specs.declared.reply.Reply.{Reply}
@@ -46,7 +45,6 @@ use Rattle.store_parts.specs.declared.hand.Stepped.{Stepped}
 use Rattle.store_parts.specs.declared.hand.Stepped.TheVariants as stepped
 use Rattle.store_parts.specs.declared.parts.Parts.{Parts}
 use Rattle.store_parts.specs.HandFits.{FitsHand, locks_held}
-use Rattle.store_parts.specs.Hands.{statement_of}
 use Rattle.store_parts.specs.JournalState.{JournalState}
 use Rattle.store_parts.specs.Leaving.{LeavesOthers}
 use Rattle.store_parts.specs.Shares.{hand_share, share_of}
@@ -73,7 +71,7 @@ use Rattle.store_scans.proofs.Refused.{RefusedLeft, scan_refused}
 use Rattle.store_scans.proofs.Standing.{LooksThere, kept, scans_at, shows, sight}
 use Rattle.store_scans.proofs.Stands.{IsThere, all_stand}
 use Rattle.store_scans.proofs.Tells.{scan_tells}
-use Rattle.store_scans.proofs.Words.{FitsLook, first_holds, first_statement, fits_first, fits_look, fits_scan, first_shares, holds_none, scan_holds, scan_share, scan_shares, scan_statement, share_is, statement_is}
+use Rattle.store_scans.proofs.Words.{FitsLook, first_holds, first_statement, fits_first, fits_look, fits_scan, holds_none, scan_holds, scan_statement, statement_is, holds_no_right}
 
 -- in a table that is kept a scan finds no damage
 abbrev pub NotDamaged : Type 0
@@ -133,7 +131,7 @@ module _ {D : Type 0} (told : D → Told) (laws : LookLaws) (old : Parts D) (pag
     others j h = record { layout = keeps.leaves.layout; names = refl; first = refl; hands = (hand_changes hands_ n was h is).others; opens = λ m apart. refl }
 
     pub left : Tells told old.pages → (j : JournalState) (h : Option Hand) → ScanLeft store (store_then j h) n
-    left tells j h = record { others = others j h; pages = keeps.pages tells; transactions = refl; locks = refl; rights = refl }
+    left tells j h = record { others = others j h; pages = keeps.pages tells; transactions = refl; locks = refl; rights = refl; queue = refl; dropped = refl }
 
     module _ (tells : Tells told old.pages) (p : Place) (shown : IsPlaceOf store p) (after : FindHand) (answer : Did) (made : DidScan told old pages o before after answer) where
       pub steps_there : MakesStep laws store n looking before after o there p shown answer
@@ -160,6 +158,8 @@ module _ {D : Type 0} (told : D → Told) (laws : LookLaws) (old : Parts D) (pag
     was_held = holds_none looking before stage;
     locks = refl;
     rights = refl;
+    was_right = holds_no_right old.pages.layout looking before stage;
+    dropped = refl;
     entries = entries;
     promised = promised;
     opens = λ m apart. refl;
@@ -204,7 +204,7 @@ module _ {D : Type 0} (told : D → Told) (laws : LookLaws) (old : Parts D) (pag
         fit = stays_fit told old (then j) n was (Some (first_hand_of looking after.judging.query)) anew_left (stepped.Undone (stops.Spent entries) (first_hand_of looking after.judging.query)) refl;
         others = leaves_others told old (then j) n was (Some (first_hand_of looking after.judging.query)) anew_left (stepped.Undone (stops.Spent entries) (first_hand_of looking after.judging.query)) refl;
         stays = λ names hands_ is. (
-          record { pages = keeps; transactions = refl; locks = refl; rights = refl; journal = same_entries },
+          record { pages = keeps; transactions = refl; locks = refl; rights = refl; journal = same_entries; queue = refl; dropped = refl },
           first_statement looking after.judging.query ∙ ap (statement_for looking) made.same ∙ sym (statement_is looking before stage),
         );
         cause = (made.ready, made.still);
@@ -257,6 +257,8 @@ module _ {D : Type 0} (told : D → Told) (laws : LookLaws) (old : Parts D) (pag
       was_held = holds_none looking before stage;
       locks = refl;
       rights = refl;
+      was_right = holds_no_right old.pages.layout looking before stage;
+      dropped = refl;
       entries = short_fits;
       promised = promised_failed o (failed_open o) (transaction_of old.transactions.opens n) (transaction_of (with_failed old.transactions n o).opens n) (Some was) j.promised old.journal.promised before_share share
           opened failed_now whole refl share_was promise less;
@@ -280,6 +282,8 @@ module _ {D : Type 0} (told : D → Told) (laws : LookLaws) (old : Parts D) (pag
         transactions = refl;
         locks = refl;
         rights = refl;
+        queue = refl;
+        dropped = refl;
         entries = short;
         none = (hand_changes hands_ n was None is).own;
         fits = short_fits;
@@ -324,4 +328,4 @@ module _ {D : Type 0} (told : D → Told) (laws : LookLaws) (old : Parts D) (pag
       → Refused told (Tells told old.pages → IsDamagedAt old.pages.layout old.pages.pages before.judging.indexes before.judging.stage) old.pages pages error
       → StepsSo told old (record old { pages = pages }) n was (stepped.Undone (fault_of error) was)
   undone_so law shown known error refused =
-      refused_is_undone told old (record old { pages = pages }) n was error fit over keeps.leaves (record { transactions = refl; locks = refl; rights = refl; journal = refl }) (refused_by law shown known error refused)
+      refused_is_undone told old (record old { pages = pages }) n was error fit over keeps.leaves (record { transactions = refl; locks = refl; rights = refl; journal = refl; queue = refl; dropped = refl }) (refused_by law shown known error refused)

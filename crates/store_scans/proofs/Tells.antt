@@ -1,17 +1,15 @@
 -- the last step of a scan behind which its statement replies: its look is entered
-use Rattle.std.proofs.Common.{◌≡◌, ◌⊎◌, inl, inr, ℕ, ◌+◌, ◌≤◌, Bool, false, List, [], ◌∷◌, ◌++◌, length, Option, None, Some, All, refl, sym, ap, subst, ◌∙◌}
-use Rattle.std.specs.FinMap as finite
+use Rattle.std.proofs.Common.{◌≡◌, ◌⊎◌, inl, inr, ℕ, ◌≤◌, Bool, false, List, [], ◌∷◌, ◌++◌, length, Option, None, Some, All, refl, sym, ap, subst, ◌∙◌}
 use Rattle.std.proofs.lemmas.Option.{none-some}
 use Rattle.block_model.specs.declared.place.Spot.{Spot}
 use Rattle.block_model.specs.declared.reply.Point.{Point}
-use Rattle.block_model.specs.declared.reply.Point.TheVariants as points
 use Rattle.block_model.specs.declared.reply.Reply.{Reply}
 use Rattle.block_model.specs.declared.request.Entry.{Entry}
 use Rattle.block_model.specs.declared.request.Tag.TheVariants as tags
 use Rattle.block_model.specs.declared.row.Query.{Query}
 use Rattle.block_model.specs.declared.row.Row.{Row}
 use Rattle.block_model.specs.DatabaseState.{DatabaseState}
-use Rattle.block_model.specs.RequestEffect.{Answer, Found, IsLegalRequest, after_request, effect, reply_to, rows_found}
+use Rattle.block_model.specs.RequestEffect.{Answer, Found, IsLegalRequest, after_request, effect, rows_found}
 use Rattle.store_layout.specs.DiskLayout.{DiskLayout}
 use Rattle.page_layout.specs.PageContents.{Slot}
 use Rattle.page_store.specs.PageMap.{PageMap}
@@ -26,8 +24,8 @@ use Rattle.transactions.specs.ShowsDatabase.{ShowsDatabase}
 use Rattle.transactions.specs.TransactionsState.{TransactionsState}
 use Rattle.table_coverage.specs.Accounts.{Account, no_account}
 use Rattle.table_coverage.specs.Machines.{table_state, task_turned}
-use Rattle.table_coverage.specs.Table.{Resting, Scans, TableScan, TableState, Task}
-use Rattle.table_coverage.specs.TableSteps.{HasNothingToMark, Scanned}
+use Rattle.table_coverage.specs.Table.{Resting, TableState, Task}
+use Rattle.table_coverage.specs.TableSteps.{Scanned}
 use Rattle.table_coverage.proofs.Views.{pick_same}
 use Rattle.brin_scan.specs.Finds as scans
 use Rattle.brin_scan.specs.Finds.{FindHand, is_found}
@@ -35,6 +33,7 @@ use Rattle.brin_scan.specs.ScanSteps.{account_at, point_at}
 use Rattle.line_texts.specs.Place.{Hand as HandAt, Place, database_at, new_hand}
 use Rattle.line_texts.specs.Requests.{Course, Enters, MakesAll, NoneLeft, OneMore, entered, next_request}
 use Rattle.line_texts.specs.StatementSteps.{Ended, Steps, StepsTo, course_of, reply_after}
+use Rattle.store_parts.specs.HandsAsk.{IsNoInsert}
 use Rattle.store_parts.specs.declared.hand.Hand.{Hand}
 use Rattle.store_parts.specs.Hands.{HandShows}
 use Rattle.store_parts.specs.HandsInTables.{IsTaskOf, table_in}
@@ -55,7 +54,7 @@ use Rattle.store_scans.specs.Looks.{deletes_of, statement_for}
 use Rattle.store_scans.proofs.Found.{goes, now, read, rows_are, scan_then}
 use Rattle.store_scans.proofs.Stepped.{MakesStep}
 use Rattle.store_scans.proofs.Led.{IsInHand, ScanLeft, order_stays, place_shown}
-use Rattle.store_scans.proofs.Standing.{LooksThere, account_is, in_hand, pages_show, scans_at, shows}
+use Rattle.store_scans.proofs.Standing.{LooksThere, account_is, in_hand, pages_show, shows}
 use Rattle.store_scans.proofs.Stands.{IsThere}
 use Rattle.store_scans.proofs.Turns.{copy, reads, tells_nothing, turns_there}
 use Rattle.store_scans.proofs.Words.{next_is}
@@ -82,6 +81,7 @@ pub none_in_hand : (old new : ShownStore) (n table : ℕ) (blocks : List (List S
     → IsInHand old new n table blocks stored Resting
 none_in_hand old new n table blocks stored is = record {
   is_in = λ other there. absurd (none-some other (sym (ap (table_in old.layout) is) ∙ there));
+  asks = subst IsNoInsert (sym is) tt;
   task = subst (λ (h : Option Hand). IsTaskOf old.layout table blocks new.transactions.tx stored (transaction_of new.transactions.opens n) h Resting) (sym is) refl;
 }
 
@@ -126,7 +126,7 @@ module _ (laws : LookLaws) (old new : ShownStore) (n : ℕ) (looking : Looking) 
 
   has_none : HasInHand old new n None account (after_request d e)
   has_none = record {
-    hand = subst (λ (h : Option Hand). HandShows h None account) (sym is) (refl, ap (λ (a : Account). a.dropped) empty);
+    hand = subst (λ (h : Option Hand). HandShows h None account) (sym is) refl;
     own = λ h here. absurd (none-some h (sym is ∙ here));
     order = λ index below ordered. order_stays old new left.pages index ordered;
   }
@@ -157,7 +157,7 @@ module _ (laws : LookLaws) (old new : ShownStore) (n : ℕ) (looking : Looking) 
       let counts : ℕ → Bool = counts_of new.transactions shown.database.stored in (
         place_after p n number None v account counts new.entries,
         place_shown laws old new n looking before o there p shown left Resting None account
-            (none_in_hand old new n number (shows laws old n looking before o there p shown).blocks shown.database.stored is) leads turns.0,
+            (none_in_hand old new n number (shows laws old n looking before o there p shown).blocks shown.database.stored is) leads turns.0 empty,
         record {
           hand = hand;
           in_hand = in_hand laws old n looking before o there p shown;

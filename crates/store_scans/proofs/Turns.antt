@@ -1,6 +1,6 @@
 -- a step of a scan, in a place that the store shows
-use Rattle.std.proofs.Common.{◌≡◌, ◌≢◌, ◌⊎◌, inl, inr, ℕ, Bool, true, false, ◌&&◌, List, Option, None, Some, refl, sym, ap, subst, ◌∙◌}
-use Rattle.std.specs.Prelude.{IsTrue, ◌↔◌}
+use Rattle.std.proofs.Common.{◌≡◌, ◌≢◌, ◌⊎◌, inl, inr, ℕ, Bool, false, ◌&&◌, Option, Some, refl, sym, ap, ◌∙◌}
+use Rattle.std.specs.Prelude.{IsTrue}
 use Rattle.std.specs.FinMap as finite
 use Rattle.std.proofs.lemmas.Bool.{cases_eq}
 use Rattle.block_model.specs.declared.reply.Point.{Point}
@@ -13,7 +13,6 @@ use Rattle.coverage.specs.IndexView.{IndexTuple}
 use Rattle.heap_rows.specs.Heaps.{kinds_at}
 use Rattle.heap_rows.specs.RowPlaces.{slot_at}
 use Rattle.page_layout.specs.RowBytes.{StoredRow}
-use Rattle.statements.specs.declared.statement.Statement.{Statement}
 use Rattle.row_versions.specs.declared.sessions.Open.{Open}
 use Rattle.transactions.specs.Sessions.{IsCopyOf}
 use Rattle.index_steps.specs.IndexTuples.{are_values}
@@ -40,7 +39,7 @@ use Rattle.store_scans.specs.declared.looking.Looking.{Looking}
 use Rattle.store_scans.specs.declared.looking.Looking.TheVariants as lookings
 use Rattle.store_scans.specs.LookLaws.{LookLaws}
 use Rattle.store_scans.specs.Looks.{deletes_of, statement_for}
-use Rattle.store_scans.proofs.Standing.{LooksThere, ScansAt, kept, pages_show, scans_at, shows, sight, table, w}
+use Rattle.store_scans.proofs.Standing.{LooksThere, ScansAt, kept, pages_show, scans_at, shows, sight, w}
 use Rattle.store_scans.proofs.Words.{not_work, on_table}
 
 -- a step of a scan doesn't prune
@@ -122,9 +121,13 @@ module _ (laws : LookLaws) (s : ShownStore) (n : ℕ) (looking : Looking) (befor
         matches = λ b k r is. ap (λ (x : TableScan). x.matches r) (sym goes.same) ∙ ap (λ (q : Query). is_match s.layout q r) same ∙ matches_there b k r is;
         explain = ap (λ (x : TableScan). x.explains) (sym goes.same);
         deletes = ap (λ (x : TableScan). x.deletes) (sym goes.same);
-        sees = λ reads. (copy.0, copy.1, λ b k r is.
-            let alike : done.sees b k ≡ finite.contains_key copy.0.view r.id = ap (λ (x : TableScan). x.sees b k) (sym goes.same) ∙ in_copy b k r is in
-            ((λ (seen : IsTrue (done.sees b k)). sym alike ∙ seen), (λ (has : IsTrue (finite.contains_key copy.0.view r.id)). alike ∙ has)));
+        sees = λ reads. (
+          copy.0,
+          copy.1,
+          λ b k r is.
+              let alike : done.sees b k ≡ finite.contains_key copy.0.view r.id = ap (λ (x : TableScan). x.sees b k) (sym goes.same) ∙ in_copy b k r is in
+              ((λ (seen : IsTrue (done.sees b k)). sym alike ∙ seen), (λ (has : IsTrue (finite.contains_key copy.0.view r.id)). alike ∙ has)),
+        );
       }
 
       begins : Begins p n here (statement_for looking query) (between.task n)
@@ -152,5 +155,5 @@ module _ (laws : LookLaws) (s : ShownStore) (n : ℕ) (looking : Looking) (befor
 
         pub turns_there : point ≢ points.Prune
             → (turns : TurnsIn p n (statement_for looking query) query.table v (account_at before.judging.stage (p.accounts n))) × (point_in turns ≡ Some point) × (turns.step.between ≡ between)
-        turns_there no_prune = machine_turns p n query.table (statement_for looking query) here between v point (account_at before.judging.stage) (shows laws s n looking before o there p shown).shown shown.queue
+        turns_there no_prune = machine_turns p n query.table (statement_for looking query) here between v point (account_at before.judging.stage) (shows laws s n looking before o there p shown).shown
             (not_work looking query) (on_table looking query p n) goes.does no_prune settles (inr begins)

@@ -1,7 +1,6 @@
 -- a select's or a delete's statement in hand, before a step of its scan
-use Rattle.std.proofs.Common.{◌≡◌, ◌≢◌, ℕ, ◌+◌, ◌-◌, ◌<◌, List, [], ◌∷◌, length, Option, None, Some, refl, sym, ap, ◌∙◌, arith}
+use Rattle.std.proofs.Common.{◌≡◌, ◌≢◌, ℕ, ◌+◌, ◌<◌, [], ◌∷◌, length, Option, None, Some, refl, sym, ap, ◌∙◌, arith}
 use Rattle.std.proofs.lemmas.Option.{none-some, same_Some}
-use Rattle.block_model.specs.declared.request.Entry.{Entry}
 use Rattle.block_model.specs.declared.request.Request.TheVariants as requests
 use Rattle.block_model.specs.declared.request.Tag.{Tag}
 use Rattle.block_model.specs.declared.row.Query.{Query}
@@ -18,8 +17,9 @@ use Rattle.line_texts.specs.Beginnings.{IsIn}
 use Rattle.line_texts.specs.Place.{Hand as HandAt, Place, new_hand}
 use Rattle.line_texts.specs.Requests.{next_request, refused_request}
 use Rattle.line_texts.specs.StatementSteps.{IsLooking, TakesMemory}
+use Rattle.store_parts.specs.HandsAsk.{IsNoInsert}
 use Rattle.store_parts.specs.declared.hand.Hand.{Hand}
-use Rattle.store_parts.specs.HandFits.{IsHandFor, IsUnderWay, locks_held}
+use Rattle.store_parts.specs.HandFits.{IsHandFor, IsUnderWay, locks_held, right_held}
 use Rattle.store_parts.specs.Hands.{HandShows, statement_of}
 use Rattle.store_parts.specs.HandsInTables.{table_in}
 use Rattle.store_parts.specs.Shares.{hand_share}
@@ -96,6 +96,21 @@ first_holds lookings.Delete query = refl
 pub scan_holds : (looking : Looking) (scan : FindHand) → locks_held (Some (scan_hand_of looking scan)) ≡ 0
 scan_holds lookings.Select scan = refl
 scan_holds lookings.Delete scan = refl
+
+first_right : (layout : DiskLayout) (looking : Looking) (query : Query) → right_held layout (Some (first_hand_of looking query)) ≡ None
+first_right layout lookings.Select query = refl
+first_right layout lookings.Delete query = refl
+
+scan_right : (layout : DiskLayout) (looking : Looking) (scan : FindHand) → right_held layout (Some (scan_hand_of looking scan)) ≡ None
+scan_right layout lookings.Select scan = refl
+scan_right layout lookings.Delete scan = refl
+
+pub holds_no_right : (layout : DiskLayout) (looking : Looking) (scan : FindHand) (stage : Stage) → right_held layout (Some (hand_before looking scan stage)) ≡ None
+holds_no_right layout looking scan stage = by_stage (λ (h : Hand). right_held layout (Some h) ≡ None) looking scan (first_right layout looking scan.judging.query) (scan_right layout looking scan) stage
+
+pub scan_no_insert : (looking : Looking) (scan : FindHand) → IsNoInsert (Some (scan_hand_of looking scan))
+scan_no_insert lookings.Select scan = tt
+scan_no_insert lookings.Delete scan = tt
 
 pub holds_none : (looking : Looking) (scan : FindHand) (stage : Stage) → locks_held (Some (hand_before looking scan stage)) ≡ 0
 holds_none looking scan stage = by_stage (λ (h : Hand). locks_held (Some h) ≡ 0) looking scan (first_holds looking scan.judging.query) (scan_holds looking scan) stage

@@ -1,4 +1,4 @@
-use Rattle.std.proofs.Common.{◌≡◌, sym, ap, ◌∙◌, subst}
+use Rattle.std.proofs.Common.{sym, ap, ◌∙◌, subst}
 use Rattle.logged_pages.specs.Survives.{Survives}
 use Rattle.page_store.specs.PageMap.{View}
 use Rattle.tx_table.specs.Durable.{IsBefore}

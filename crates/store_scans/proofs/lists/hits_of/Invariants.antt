@@ -1,4 +1,4 @@
-use Rattle.std.proofs.Common.{◌≡◌, map, take}
+use Rattle.std.proofs.Common.{◌≡◌, take}
 use Rattle.store_scans.specs.FoundLists.{hits_of}
 use Rattle.store_scans.proofs.lists.hits_of.Given as goal
 

@@ -1,12 +1,9 @@
-use Rattle.std.proofs.Common.{◌≡◌, ◌+◌, ◌<◌, ◌≤◌, length, refl, sym, ap, ◌∙◌, arith}
+use Rattle.std.proofs.Common.{◌+◌, ◌<◌, ◌≤◌, length, refl, sym, ap, ◌∙◌, arith}
 use Rattle.std.proofs.lemmas.Bool.{false≢true}
 use Rattle.statements.specs.declared.limits.TheConstants.{MAX_ENTRIES}
 use Rattle.store_parts.specs.declared.faults.StoreFault.{StoreFault}
 use Rattle.store_parts.specs.declared.faults.StoreFault.TheVariants as stops
-use Rattle.store_parts.specs.declared.hand.Stepped.{Stepped}
 use Rattle.store_parts.specs.declared.hand.Stepped.TheVariants as stepped
-use Rattle.store_scans.specs.ScanSteps.{IsFresh}
-use Rattle.store_scans.specs.Looks.{first_hand_of}
 use Rattle.store_scans.proofs.Mays.{before_first, is_find}
 use Rattle.store_scans.proofs.Short.{short_refused, short_spent}
 use Rattle.store_scans.proofs.Words.{first_shares}

@@ -1,4 +1,4 @@
-use Rattle.std.proofs.Common.{◌≡◌, refl, sym, ap, ◌∙◌, subst}
+use Rattle.std.proofs.Common.{sym, subst}
 use Rattle.logged_pages.specs.Survives.{Survives}
 use Rattle.page_locks.specs.declared.did.Did.TheVariants as did
 use Rattle.page_store.specs.Keeps.{Tells}
@@ -27,9 +27,9 @@ returns-in-Ok-Moved-clause-so g c =
     let o = c.open-open.result.now in
     let damaged = Tells told parts.pages → IsDamagedAt parts.pages.layout parts.pages.pages scan.judging.indexes scan.judging.stage in
     let made = did_scan told parts pages o scan after c.in-Ok-Moved.field-0 c.tx.result.now c.tx.ensures (did.Moved c.in-Ok-Moved.point) c.in-Ok-Moved.field-0-is
-        (record { stepped = c.in-Ok-Moved.ensures.stepped; rows = c.in-Ok-Moved.ensures.rows; remembers = c.step.ensures.remembers })
-        c.in-Ok-Moved.ensures.point c.in-Ok-Moved.ensures.begun c.step.ensures.scan c.step.ensures.query
-        (done_well told damaged parts.pages pages scan.next c.in-Ok-Moved.field-0 c.in-Ok-Moved.ensures.outcome) in
+    (record { stepped = c.in-Ok-Moved.ensures.stepped; rows = c.in-Ok-Moved.ensures.rows; remembers = c.step.ensures.remembers })
+    c.in-Ok-Moved.ensures.point c.in-Ok-Moved.ensures.begun c.step.ensures.scan c.step.ensures.query
+    (done_well told damaged parts.pages pages scan.next c.in-Ok-Moved.field-0 c.in-Ok-Moved.ensures.outcome) in
     goes_on told c.laws_of_looks.ensures parts c.args.session c.args.looking scan c.requires.may c.requires.ready pages c.step.ensures.kept o c.open-open.ensures after c.in-Ok-Moved.point made c.scan_hand.result c.scan_hand.ensures
 
 pub returns-in-Ok-Finished-clause-so : goal.returns-in-Ok-Finished-clause-so
@@ -42,9 +42,9 @@ returns-in-Ok-Finished-clause-so g c =
     let o = c.open-open.result.now in
     let damaged = Tells told parts.pages → IsDamagedAt parts.pages.layout parts.pages.pages scan.judging.indexes scan.judging.stage in
     let made = did_scan told parts pages o scan after c.in-Ok-Finished.field-0 c.tx.result.now c.tx.ensures (did.Finished c.in-Ok-Finished.point) c.in-Ok-Finished.field-0-is
-        (record { stepped = c.in-Ok-Finished.ensures.stepped; rows = c.in-Ok-Finished.ensures.rows; remembers = c.step.ensures.remembers })
-        c.in-Ok-Finished.ensures.point c.in-Ok-Finished.ensures.begun c.step.ensures.scan c.step.ensures.query
-        (done_well told damaged parts.pages pages scan.next c.in-Ok-Finished.field-0 c.in-Ok-Finished.ensures.outcome) in
+    (record { stepped = c.in-Ok-Finished.ensures.stepped; rows = c.in-Ok-Finished.ensures.rows; remembers = c.step.ensures.remembers })
+    c.in-Ok-Finished.ensures.point c.in-Ok-Finished.ensures.begun c.step.ensures.scan c.step.ensures.query
+    (done_well told damaged parts.pages pages scan.next c.in-Ok-Finished.field-0 c.in-Ok-Finished.ensures.outcome) in
     finished_so told c.laws_of_looks.ensures parts pages c.args.session c.args.looking scan c.requires.may o c.open-open.ensures c.step.ensures.kept after c.in-Ok-Finished.point made
     c.known-in-Ok-Finished.ensures.order c.known-in-Ok-Finished.ensures.within c.requires.ahead c.finish.result c.finish.new.parts c.finish.ensures
 

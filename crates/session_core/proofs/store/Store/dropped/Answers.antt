@@ -1,5 +1,4 @@
-use Rattle.std.proofs.Common.{◌<◌, List, length, sym, ap, subst, ◌∙◌, arith}
-use Rattle.reply_texts.specs.declared.dropped.Dropped.{Dropped}
+use Rattle.std.proofs.Common.{length, sym, ap, ◌∙◌, arith}
 use Rattle.line_texts.specs.Names.{dropped_of}
 use Rattle.store_layout.specs.DiskLayout.{DiskLayout}
 use Rattle.store_parts.specs.StoreStates.{StoreState, dropped_in}

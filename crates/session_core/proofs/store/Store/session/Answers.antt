@@ -1,6 +1,5 @@
-use Rattle.std.proofs.Common.{◌≡◌, ℕ, ◌<◌, ◌≤◌, List, length, None, refl, sym, ap, ◌∙◌, arith}
+use Rattle.std.proofs.Common.{◌≡◌, ◌<◌, ◌≤◌, length, refl, ap, ◌∙◌, arith}
 use Rattle.std.proofs.lemmas.List.{length-map}
-use Rattle.statements.specs.SessionNumbers.{session_number}
 use Rattle.store_parts.specs.StoreStates.{StoreState, store_of}
 use Rattle.session_core.specs.declared.sessions.Session.{Session}
 use Rattle.session_core.specs.SessionLists.{hands_of, names_of, spares_of}
@@ -38,13 +37,13 @@ returns g c =
           w.self-is
           ∙ (λ i. store_of c.self.inside.parts (w.in-Ok.ensures.names i) (w.in-Ok.ensures.hands i))
           ∙ made_new (store_of c.self.inside.parts (names_of items) (hands_of items)) c.args.name number
-              (number_named c.as_slice.result.now items (names_of items) c.args.name number c.number_of-number.ensures.is c.as_slice.ensures.value refl)
-              (omega (arith, w.if-number-len.true, c.len.ensures, c.self.inside.sessions.ok, length-map items (λ (s : Session). s.name)))
+          (number_named c.as_slice.result.now items (names_of items) c.args.name number c.number_of-number.ensures.is c.as_slice.ensures.value refl)
+          (omega (arith, w.if-number-len.true, c.len.ensures, c.self.inside.sessions.ok, length-map items (λ (s : Session). s.name)))
           ∙ ap (λ (s : StoreState _). with_name s c.args.name) c.self.view_is
       | else-number-len w ↦
           w.self-is
           ∙ there_already old c.args.name number is
-              (omega (arith, most, w.if-number-len.false, c.len.ensures, c.self.inside.sessions.ok, length-map items (λ (s : Session). s.name), ap length view))
+          (omega (arith, most, w.if-number-len.false, c.len.ensures, c.self.inside.sessions.ok, length-map items (λ (s : Session). s.name), ap length view))
     ] in
     record {
       named = has_session old c.if-number-len.self c.args.name number is most c.if-number-ge-MAX_SESSIONS.false made;

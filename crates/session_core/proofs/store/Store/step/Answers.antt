@@ -1,4 +1,4 @@
-use Rattle.std.proofs.Common.{◌≡◌, ◌<◌, List, length, set, Option, None, Some, IfSome, sym, ap, subst, ◌∙◌, arith}
+use Rattle.std.proofs.Common.{◌≡◌, List, set, Option, None, IfSome, sym, ap, subst, ◌∙◌, arith}
 use Rattle.std.proofs.lemmas.List.{set-set}
 use Rattle.brin_insert.specs.declared.insert.Insert.{Insert}
 use Rattle.brin_insert.specs.Inserts.{IsInsertFor}
@@ -30,7 +30,7 @@ step_of-stepped-requires-clause-fit g c =
 pub step_of-stepped-requires-clause-spare : goal.step_of-stepped-requires-clause-spare
 step_of-stepped-requires-clause-spare g c =
     let is : c.take_spare-spare.result ≡ spare_in (spares_of c.self.inside.sessions.items) c.args.session =
-        c.take_spare-spare.ensures.spare ∙ ap (λ (l : List (Option Insert)). spare_in l c.args.session) c.take_hand-hand.ensures.spares in
+    c.take_spare-spare.ensures.spare ∙ ap (λ (l : List (Option Insert)). spare_in l c.args.session) c.take_hand-hand.ensures.spares in
     subst (λ (o : Option Insert). IfSome o (IsInsertFor c.self.inside.parts.pages.layout)) (sym is) (c.self.invariant.spare c.args.session)
 
 pub put_spare-requires : goal.put_spare-requires
@@ -53,14 +53,14 @@ invariant_of-self g c =
     let spare = c.step_of-stepped.new.spare in
     let names : names_of c.put_hand.new.sessions.items ≡ names_of items = c.put_hand.ensures.names ∙ c.put_spare.ensures.names ∙ c.take_spare-spare.ensures.names ∙ c.take_hand-hand.ensures.names in
     let hands : hands_of c.put_hand.new.sessions.items ≡ with_hand (hands_of items) n (hand_after answer) =
-        c.put_hand.ensures.hands
-        ∙ ap (λ (l : List (Option Hand)). set l n c.answered-answer.result.1) (c.put_spare.ensures.hands ∙ c.take_spare-spare.ensures.hands ∙ c.take_hand-hand.ensures.hands)
-        ∙ set-set (hands_of items) n None c.answered-answer.result.1
-        ∙ ap (λ (h : Option Hand). set (hands_of items) n h) c.answered-answer.ensures.hand in
+    c.put_hand.ensures.hands
+    ∙ ap (λ (l : List (Option Hand)). set l n c.answered-answer.result.1) (c.put_spare.ensures.hands ∙ c.take_spare-spare.ensures.hands ∙ c.take_hand-hand.ensures.hands)
+    ∙ set-set (hands_of items) n None c.answered-answer.result.1
+    ∙ ap (λ (h : Option Hand). set (hands_of items) n h) c.answered-answer.ensures.hand in
     let spares : spares_of c.put_hand.new.sessions.items ≡ set (spares_of items) n spare =
-        c.put_hand.ensures.spares ∙ c.put_spare.ensures.spares
-        ∙ ap (λ (l : List (Option Insert)). set l n spare) (c.take_spare-spare.ensures.spares ∙ ap (λ (l : List (Option Insert)). set l n None) c.take_hand-hand.ensures.spares)
-        ∙ set-set (spares_of items) n None spare in
+    c.put_hand.ensures.spares ∙ c.put_spare.ensures.spares
+    ∙ ap (λ (l : List (Option Insert)). set l n spare) (c.take_spare-spare.ensures.spares ∙ ap (λ (l : List (Option Insert)). set l n None) c.take_hand-hand.ensures.spares)
+    ∙ set-set (spares_of items) n None spare in
     kept_as g.D.Disk.told c.step_of-stepped.new.parts (names_of items) (names_of c.put_hand.new.sessions.items) (with_hand (hands_of items) n (hand_after answer)) (hands_of c.put_hand.new.sessions.items)
     (set (spares_of items) n spare) (spares_of c.put_hand.new.sessions.items) names hands spares
     (kept_behind g.D.Disk.told c.laws_of_sessions.ensures c.self.inside.parts (names_of items) (hands_of items) (spares_of items) c.self.invariant c.step_of-stepped.new.parts n c.take_hand-hand.result
@@ -73,14 +73,14 @@ returns g c =
     let answer = c.step_of-stepped.result in
     let names : names_of c.put_hand.new.sessions.items ≡ names_of items = c.put_hand.ensures.names ∙ c.put_spare.ensures.names ∙ c.take_spare-spare.ensures.names ∙ c.take_hand-hand.ensures.names in
     let hands : hands_of c.put_hand.new.sessions.items ≡ with_hand (hands_of items) n (hand_after answer) =
-        c.put_hand.ensures.hands
-        ∙ ap (λ (l : List (Option Hand)). set l n c.answered-answer.result.1) (c.put_spare.ensures.hands ∙ c.take_spare-spare.ensures.hands ∙ c.take_hand-hand.ensures.hands)
-        ∙ set-set (hands_of items) n None c.answered-answer.result.1
-        ∙ ap (λ (h : Option Hand). set (hands_of items) n h) c.answered-answer.ensures.hand in
+    c.put_hand.ensures.hands
+    ∙ ap (λ (l : List (Option Hand)). set l n c.answered-answer.result.1) (c.put_spare.ensures.hands ∙ c.take_spare-spare.ensures.hands ∙ c.take_hand-hand.ensures.hands)
+    ∙ set-set (hands_of items) n None c.answered-answer.result.1
+    ∙ ap (λ (h : Option Hand). set (hands_of items) n h) c.answered-answer.ensures.hand in
     let step = step_as g.D.Disk.told c.args.self.now (store_of c.self.inside.parts (names_of items) (hands_of items)) c.step_of-stepped.new.parts (names_of items) (names_of c.put_hand.new.sessions.items)
-        (with_hand (hands_of items) n (hand_after answer)) (hands_of c.put_hand.new.sessions.items) n (answer_of answer) c.answered-answer.result.0 c.self.view_is names hands c.answered-answer.ensures.answer
-        (is_step g.D.Disk.told c.laws_of_sessions.ensures c.self.inside.parts (names_of items) (hands_of items) (spares_of items) c.self.invariant c.step_of-stepped.new.parts n c.take_hand-hand.result
-        c.take_hand-hand.ensures.hand answer c.step_of-stepped.ensures.so) in
+    (with_hand (hands_of items) n (hand_after answer)) (hands_of c.put_hand.new.sessions.items) n (answer_of answer) c.answered-answer.result.0 c.self.view_is names hands c.answered-answer.ensures.answer
+    (is_step g.D.Disk.told c.laws_of_sessions.ensures c.self.inside.parts (names_of items) (hands_of items) (spares_of items) c.self.invariant c.step_of-stepped.new.parts n c.take_hand-hand.result
+    c.take_hand-hand.ensures.hand answer c.step_of-stepped.ensures.so) in
     record {
       steps = step.steps;
       hand = step.hand;

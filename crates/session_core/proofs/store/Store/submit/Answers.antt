@@ -1,4 +1,4 @@
-use Rattle.std.proofs.Common.{◌≡◌, ◌<◌, List, length, None, Some, sym, ap, subst, ◌∙◌, arith}
+use Rattle.std.proofs.Common.{◌≡◌, ◌<◌, length, None, Some, sym, ap, subst, ◌∙◌, arith}
 use Rattle.block_model.specs.declared.reply.Refusal.TheVariants as refusals
 use Rattle.line_texts.specs.LineTexts.{Submits}
 use Rattle.store_parts.specs.declared.parts.Parts.{Parts}
@@ -27,9 +27,9 @@ invariant_of-self-2 g c =
     let n = c.args.session in
     let there : n < length (names_of items) = omega (arith, c.requires.session, ap (λ (s : StoreState _). length s.names) c.self.view_is) in
     let none : refusal_here (store_of c.self.inside.parts (names_of items) (hands_of items)) n c.args.statement ≡ None =
-        ap (λ (s : StoreState _). refusal_here s n c.args.statement) c.self.view_is ∙ sym c.refusal.ensures ∙ c.in_default.is in
+    ap (λ (s : StoreState _). refusal_here s n c.args.statement) c.self.view_is ∙ sym c.refusal.ensures ∙ c.in_default.is in
     let taken = is_taken g.D.Disk.told c.laws_of_sessions.ensures c.self.inside.parts (names_of items) (hands_of items) (spares_of items) c.self.invariant n c.args.statement there none c.in-Ok.hand
-        c.hand_for.new.parts c.clear.new.self (record { own = c.clear.ensures.own; others = c.clear.ensures.others }) c.in-Ok.ensures.taken in
+    c.hand_for.new.parts c.clear.new.self (record { own = c.clear.ensures.own; others = c.clear.ensures.others }) c.in-Ok.ensures.taken in
     kept_as g.D.Disk.told (forgetting c.hand_for.new.parts c.clear.new.self) (names_of items) (names_of c.put_hand.new.sessions.items) (with_hand (hands_of items) n (Some c.in-Ok.hand)) (hands_of c.put_hand.new.sessions.items)
     (spares_of items) (spares_of c.put_hand.new.sessions.items) c.put_hand.ensures.names c.put_hand.ensures.hands c.put_hand.ensures.spares taken.kept_now
 
@@ -39,8 +39,8 @@ returns-clause-submits g c =
     let n = c.args.session in
     let there : n < length (names_of items) = omega (arith, c.requires.session, ap (λ (s : StoreState _). length s.names) c.self.view_is) in
     let none : refusal_here (store_of c.self.inside.parts (names_of items) (hands_of items)) n c.args.statement ≡ None =
-        ap (λ (s : StoreState _). refusal_here s n c.args.statement) c.self.view_is ∙ sym c.refusal.ensures ∙ c.in_default.is in
+    ap (λ (s : StoreState _). refusal_here s n c.args.statement) c.self.view_is ∙ sym c.refusal.ensures ∙ c.in_default.is in
     let taken = is_taken g.D.Disk.told c.laws_of_sessions.ensures c.self.inside.parts (names_of items) (hands_of items) (spares_of items) c.self.invariant n c.args.statement there none c.in-Ok.hand
-        c.hand_for.new.parts c.clear.new.self (record { own = c.clear.ensures.own; others = c.clear.ensures.others }) c.in-Ok.ensures.taken in
+    c.hand_for.new.parts c.clear.new.self (record { own = c.clear.ensures.own; others = c.clear.ensures.others }) c.in-Ok.ensures.taken in
     taken_as g.D.Disk.told c.args.self.now (store_of c.self.inside.parts (names_of items) (hands_of items)) (forgetting c.hand_for.new.parts c.clear.new.self) (names_of items) (names_of c.put_hand.new.sessions.items)
     (with_hand (hands_of items) n (Some c.in-Ok.hand)) (hands_of c.put_hand.new.sessions.items) (λ p q. Submits p n c.args.statement None q) c.self.view_is c.put_hand.ensures.names c.put_hand.ensures.hands taken.leads
