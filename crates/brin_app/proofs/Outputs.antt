@@ -1,5 +1,6 @@
 -- from a run of the sessions to the texts of the script
 use Rattle.std.proofs.Common.{◌≡◌, ◌≢◌, ℕ, ◌+◌, ◌≤◌, List, [], length, Option, None, Some, Ok, Err, refl, sym, ap, ◌∙◌, subst, arith, length-append, ◌⊎◌, inl, inr}
+use Rattle.std.specs.Prelude.{IsErrOf}
 use Rattle.std.specs.Io.KnownBytes.{Consumes}
 use Rattle.std.proofs.KnownBytes.{Appends-nil, Consumes-nil}
 use Rattle.script_lines.specs.Script.{ended_lines}
@@ -72,6 +73,23 @@ nothing_written layout p l k starts = record {
     },
   );
 }
+
+-- the status tells whether a fault of the source, or of the sink, ended the run
+pub read_ended : (end : RunEnd) (status : ℕ) (F : Type 0) → status ≡ exit_status end → (IsErrOf end faults.Read → F) → status ≡ 4 → F
+read_ended (Ok u) status F is rose four = absurd (omega (arith, is, four))
+read_ended (Err faults.Read) status F is rose four = rose refl
+read_ended (Err faults.Write) status F is rose four = absurd (omega (arith, is, four))
+read_ended (Err (faults.Unanswered Memory)) status F is rose four = absurd (omega (arith, is, four))
+read_ended (Err faults.Spent) status F is rose four = absurd (omega (arith, is, four))
+read_ended (Err (faults.Unanswered Full)) status F is rose four = absurd (omega (arith, is, four))
+
+pub write_ended : (end : RunEnd) (status : ℕ) (F : Type 0) → status ≡ exit_status end → (IsErrOf end faults.Write → F) → status ≡ 5 → F
+write_ended (Ok u) status F is rose five = absurd (omega (arith, is, five))
+write_ended (Err faults.Read) status F is rose five = absurd (omega (arith, is, five))
+write_ended (Err faults.Write) status F is rose five = rose refl
+write_ended (Err (faults.Unanswered Memory)) status F is rose five = absurd (omega (arith, is, five))
+write_ended (Err faults.Spent) status F is rose five = absurd (omega (arith, is, five))
+write_ended (Err (faults.Unanswered Full)) status F is rose five = absurd (omega (arith, is, five))
 
 -- the status tells whether a limit was passed
 spent_end : (end : RunEnd) → exit_status end ≡ 8 → (end ≡ (Err faults.Spent)) ⊎ (end ≡ (Err (faults.Unanswered Full)))

@@ -1,4 +1,4 @@
-use Rattle.brin_app.proofs.Outputs.{script_output, nothing_written}
+use Rattle.brin_app.proofs.Outputs.{script_output, nothing_written, read_ended, write_ended}
 use Rattle.brin_app.proofs.top.run_script.Goals as goal
 
 pub returns-in_default-clause-script_output : goal.returns-in_default-clause-script_output
@@ -10,3 +10,9 @@ pub returns-clause-script_output : goal.returns-clause-script_output
 returns-clause-script_output g c =
     let start = c.in-Ok.ensures in
     script_output c.in-Ok.sessions c.run.new.engine c.args.layout start.0 c.run.result c.status.result _ _ _ _ start.1 start.2 c.status.ensures c.run.ensures.ran
+
+pub returns-clause-read_fault : goal.returns-clause-read_fault
+returns-clause-read_fault g c = read_ended c.run.result c.status.result _ c.status.ensures c.run.ensures.read
+
+pub returns-clause-write_fault : goal.returns-clause-write_fault
+returns-clause-write_fault g c = write_ended c.run.result c.status.result _ c.status.ensures c.run.ensures.write
