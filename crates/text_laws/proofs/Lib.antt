@@ -1,0 +1,4 @@
+pub mod Calm
+pub mod Fits
+pub mod Orderly
+pub mod Reaching

@@ -1,0 +1,41 @@
+-- what holds at every place to which a script comes
+use Rattle.std.specs.Prelude.{◌≡◌, ◌≢◌, ◌⊎◌, ℕ, List, None, Some}
+use Rattle.block_model.specs.declared.reply.Refusal.{Refusal}
+use Rattle.block_model.specs.declared.reply.Refusal.TheVariants as refusals
+use Rattle.block_model.specs.declared.reply.What.{What}
+use Rattle.script_run.specs.Answers.{AreAnswers}
+use Rattle.store_layout.specs.DiskLayout.{DiskLayout}
+use Rattle.store_layout.specs.FirstBrokenRule.{first_broken_rule}
+use Rattle.line_texts.specs.LineTexts.{IsLineText}
+use Rattle.line_texts.specs.Names.{name_of}
+use Rattle.line_texts.specs.Place.{Hand, Place}
+use Rattle.line_texts.specs.Starts.{IsStart}
+use Rattle.line_texts.specs.StatementSteps.{StepsTo, Waits}
+use Rattle.text_laws.specs.Reached.{IsReached}
+
+-- a refusal tells another session, which has a statement in hand
+pub record TellsAnotherInHand (p : Place) (n : ℕ) (told : Refusal) : Type 0 where
+  pub other : ℕ
+  pub apart : other ≢ n
+  pub hand : Hand
+  pub in_hand : p.hands other ≡ Some hand
+  pub what : What
+  pub is : told ≡ refusals.Blocked what (name_of p other)
+
+-- a step that waits tells a session that has a statement in hand
+abbrev pub OnlyHandsAreWaitedFor : Type 0
+OnlyHandsAreWaitedFor = (layout : DiskLayout) (p q : Place) (n : ℕ) (hand : Hand) (told : Refusal) → first_broken_rule layout.schema layout.sizes ≡ None → IsReached layout p → p.hands n ≡ Some hand
+    → StepsTo p n hand (Waits told) q → TellsAnotherInHand p n told
+
+-- no other session has a statement in hand
+abbrev pub IsAlone : Place → ℕ → Type 0
+IsAlone p n = (m : ℕ) → (m ≡ n) ⊎ (p.hands m ≡ None)
+
+-- so where no other session has one, no step waits
+abbrev pub NoStepWaitsAlone : Type 0
+NoStepWaitsAlone = (layout : DiskLayout) (p q : Place) (n : ℕ) (hand : Hand) (told : Refusal) → first_broken_rule layout.schema layout.sizes ≡ None → IsReached layout p → p.hands n ≡ Some hand
+    → IsAlone p n → StepsTo p n hand (Waits told) q → ⊥
+
+-- a place behind lines that were answered is one to which the script comes
+abbrev pub AnsweredLinesReach : Type 0
+AnsweredLinesReach = (layout : DiskLayout) (start p : Place) (lines texts : List (List ℕ)) → IsStart layout start → AreAnswers (IsLineText layout.schema) start lines texts p → IsReached layout p
