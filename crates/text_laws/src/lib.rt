@@ -1,7 +1,8 @@
-//! scratch
+//! Laws of the texts of lines at every place to which a script comes, whatever its lines are and however its sessions interleave
+//! (specs/): for a reader, to believe the definition by. It stands on line_texts, and on table_coverage's laws of a table's steps. Nothing
+//! stands on it, and each function does nothing.
 #![tactic(auto)]
 
-#[tactic(auto, using(crate::proofs::Calm::steps_calm, crate::proofs::Fits::read_fits, crate::proofs::Reaching::reached_is_orderly))]
-pub fn zero() -> u8 {
-    0
-}
+mod waiting;
+
+pub use waiting::{a_step_waits_for_a_statement_in_hand, answered_lines_lead_there};
