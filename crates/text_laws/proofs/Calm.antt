@@ -1,5 +1,5 @@
 -- A table as one without scans, whose rows don't count: the steps of its statements are steps there, whatever rows come to count.
-use Rattle.std.proofs.Common.{◌≡◌, ◌≢◌, ◌⊎◌, inl, inr, ℕ, Bool, false, IsTrue, Option, None, Some, [], ◌∷◌, refl, sym, ap, ◌∙◌, subst}
+use Rattle.std.proofs.Common.{◌≡◌, ◌⊎◌, inl, inr, ℕ, false, Option, None, Some, ◌∷◌, refl, sym, ap, ◌∙◌, subst}
 use mathlib.Core.Path.{fun_ext}
 use Rattle.block_model.specs.declared.place.Spot.{Spot}
 use Rattle.block_model.specs.declared.row.Row.{Row}
@@ -8,12 +8,12 @@ use Rattle.coverage.specs.Statements.{Phase, Statement, Idle, Inserting, Maintai
 use Rattle.coverage.specs.Steps.{IsUnnamed, SweepsTuples, InsertStep, SummariseLockPasses}
 use Rattle.coverage.specs.Verdicts.{Full, Waits, SwapVerdict, ClearVerdict}
 use Rattle.coverage.specs.Waiting.{IsPhaseWaiting}
-use Rattle.table_coverage.specs.Table.{Job, EachRange, OneRange, WholeRanges, Desummarising, Task, Resting, Reaches, Asks, Inserts, Considers, Maintains, Prunes, SweepsFrom, Sweeps, Restarts, Scans, Marks, TableState, index_view_at, seen_by}
-use Rattle.table_coverage.specs.TableSteps.{AsksSummary, BeginsScan, BeginsWith, Blocked, Conflicts, Desummarize, DesummariseWaits, Does, DropsRows, Fails, GivesLock, GoesOn, HasPut, HasRange, HasStep, IndexFull}
-use Rattle.table_coverage.specs.TableSteps.{Inserted, InsertCompletes, InsertGoes, InsertWaits, IsBlocked, IsFirstPlace, IsInsertRefused, IsLastIndex, IsMaintained, IsMaintainRefused, IsNextPage, IsVacuuming, JobStep, JudgesNext, Judges}
+use Rattle.table_coverage.specs.Table.{Job, EachRange, OneRange, WholeRanges, Desummarising, Task, Resting, Reaches, SweepsFrom, Scans, Marks, TableState, index_view_at, seen_by}
+use Rattle.table_coverage.specs.TableSteps.{AsksSummary, BeginsScan, BeginsWith, Blocked, Conflicts, Desummarize, DesummariseWaits, Does, Fails, GivesLock, GoesOn, HasPut, HasRange, HasStep, IndexFull}
+use Rattle.table_coverage.specs.TableSteps.{Inserted, InsertCompletes, InsertGoes, InsertWaits, IsBlocked, IsInsertRefused, IsLastIndex, IsMaintained, IsMaintainRefused, IsVacuuming, JobStep, JudgesNext, Judges}
 use Rattle.table_coverage.specs.TableSteps.{MaintainCompletes, MaintainGoes, Marked, MarksRow, NextIndex, NothingToSweep, OnlyTurns, Onward, Pruned, PrunesBlock, PutsRow, RangesDone, ReadsBlock, RefusesInsert, RefusesMaintain}
 use Rattle.table_coverage.specs.TableSteps.{RefusesRow, RefusesScan, RefusesVacuum, RestartsIndex, RowLacksMemory, SameIndexes, SameRows, Scanned, SeesPlace, Settles, Stays, StepsIn, Summarize, SummariseLockHeld, SummariseWaits}
-use Rattle.table_coverage.specs.TableSteps.{SummarizeOne, SweepsPage, SweepWaits, Swept, TableDone, TableNext, TableRun, TableStep, TableTakesRow, TakesLock, TaskTurns, ToAsk, ToIndex, ToMarks, ToPage, ToRange, Transacts, Vacuum, Work, range_in}
+use Rattle.table_coverage.specs.TableSteps.{SummarizeOne, SweepsPage, SweepWaits, Swept, TableStep, TakesLock, TaskTurns, ToAsk, ToIndex, ToMarks, ToPage, ToRange, Transacts, Vacuum, Work, range_in}
 
 -- a scan is at nothing
 abbrev pub calmed : Task → Task

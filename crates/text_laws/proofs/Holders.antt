@@ -1,5 +1,5 @@
 -- Who is waited for has a statement in hand.
-use Rattle.std.proofs.Common.{◌≡◌, ◌≢◌, ◌⊎◌, inl, inr, ℕ, ◌<◌, length, Option, None, Some, refl, sym, ap, ◌∙◌, subst}
+use Rattle.std.proofs.Common.{◌≡◌, ◌≢◌, ◌⊎◌, inl, inr, ℕ, ◌<◌, length, Option, None, Some, refl, sym, ◌∙◌, subst}
 use Rattle.std.proofs.lemmas.Option.{none-some, same_Some}
 use Rattle.block_model.specs.declared.reply.Refusal.{Refusal}
 use Rattle.store_layout.specs.DiskLayout.{DiskLayout}
@@ -10,7 +10,6 @@ use Rattle.table_coverage.specs.Table.{Task, Resting, TableState, index_state, s
 use Rattle.table_coverage.specs.TableCovered.{IsInTable, IsMaintenance, IsTableKept}
 use Rattle.table_coverage.specs.TablePoints.{IsHeldBy, PageLock, SummariseLock, WaitedFor, waits_for}
 use Rattle.table_coverage.specs.TableSteps.{DesummariseWaits, InsertWaits, IsBlocked, SummariseLockHeld, SummariseWaits, SweepWaits}
-use Rattle.line_texts.specs.Names.{name_of}
 use Rattle.line_texts.specs.Place.{Hand, Place}
 use Rattle.line_texts.specs.StatementSteps.{IsWaiting, StepsTo, Waits, what_of}
 use Rattle.text_laws.specs.Laws.{IsAlone, TellsAnotherInHand}
@@ -56,7 +55,7 @@ module _ (holds : HoldsOther) (layout : DiskLayout) (limits : KeepsLimits layout
   waited_for : (p : Place) (n : ℕ) (hand : Hand) (told : Refusal) (q : Place) → IsOrderly layout p → p.hands n ≡ Some hand → StepsTo p n hand (Waits told) q → TellsAnotherInHand p n told
   waited_for p n hand _ _ o has (IsWaiting table told on own blocked waits) =
       let below : table < length layout.schema.tables =
-          home_below layout hand.statement table limits (o.fits n hand has) (home_in layout p n table hand.statement o.same (o.fits n hand has) on) in
+      home_below layout hand.statement table limits (o.fits n hand has) (home_in layout p n table hand.statement o.same (o.fits n hand has) on) in
       let held = holds n (p.tables table) ((p.tables table).task n) blocked in
       let busy = in_hand_or (p.hands waits.0) (λ none. holds_nothing (p.tables table) (o.kept table below) waits.0 (o.idle waits.0 table none below) n ((p.tables table).task n) refl blocked waits.1) in
       record {

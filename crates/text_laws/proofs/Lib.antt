@@ -1,4 +1,5 @@
 pub mod Calm
+pub mod Clears
 pub mod Fits
 pub mod Holders
 pub mod Orderly

@@ -1,40 +1,22 @@
 -- At every place to which a script comes, each session that has nothing in hand is at nothing, and so holds nothing.
-use Rattle.std.proofs.Common.{◌≡◌, ◌≢◌, ◌⊎◌, inl, inr, ℕ, ◌<◌, eqb, Bool, true, false, List, [], ◌∷◌, length, Option, None, Some, Ok, Err, if◌then◌else◌, refl, sym, ap, ◌∙◌, subst}
-use Rattle.std.specs.Prelude.{Result}
+use Rattle.std.proofs.Common.{◌≡◌, ◌≢◌, ◌⊎◌, inl, inr, ℕ, ◌<◌, eqb, true, false, List, [], ◌∷◌, length, Option, None, Some, refl, sym, ap, ◌∙◌, subst}
 use Rattle.std.proofs.lemmas.Bool.Decides.{eqb_tells}
-use Rattle.std.proofs.lemmas.Option.{none-some, same_Some}
-use Rattle.block_model.specs.declared.reply.Point.{Point}
+use Rattle.std.proofs.lemmas.Option.{none-some}
 use Rattle.block_model.specs.declared.request.Entry.{Entry}
-use Rattle.query_words.specs.declared.line.Line.{Line}
-use Rattle.query_words.specs.declared.line.Line.TheVariants as lines
-use Rattle.query_words.specs.declared.line.LineFault.{LineFault}
-use Rattle.query_words.specs.declared.line.Order.{Order}
-use Rattle.query_words.specs.declared.line.Order.TheVariants as orders
-use Rattle.query_words.specs.LineFits.{IsLineFor, IsOrderFor}
-use Rattle.query_words.specs.Lines.{line_of}
 use Rattle.statements.specs.declared.statement.Statement.{Statement}
-use Rattle.statements.specs.declared.statement.Statement.TheVariants as statements
 use Rattle.statements.specs.StatementFits.{IsStatementFor}
 use Rattle.store_layout.specs.DiskLayout.{DiskLayout}
 use Rattle.store_layout.specs.FirstBrokenRule.{KeepsLimits}
 use Rattle.table_coverage.specs.Refusals as causes
 use Rattle.table_coverage.specs.Refusals.{does_refusal}
 use Rattle.table_coverage.specs.Table.{Task, Resting, TableState}
-use Rattle.table_coverage.specs.TableCovered.{IsNewTable, IsTableKept}
+use Rattle.table_coverage.specs.TableCovered.{IsTableKept}
 use Rattle.table_coverage.specs.TableSteps.{AsksSummary, BeginsScan, Blocked, Conflicts, Does, GivesLock, GoesOn, Inserted, InsertCompletes, InsertGoes, Judges, JudgesNext, MaintainCompletes, MaintainGoes, Marked, MarksRow}
 use Rattle.table_coverage.specs.TableSteps.{NextIndex, Onward, Pruned, PrunesBlock, PutsRow, ReadsBlock, RefusesInsert, RefusesMaintain, RefusesRow, RefusesScan, RefusesVacuum, RestartsIndex, Scanned, Settles, Stays, SweepsPage}
 use Rattle.table_coverage.specs.TableSteps.{Swept, TableDone, TableNext, TableRun, TableStep, TakesLock, TaskTurns, ToAsk, ToIndex, ToMarks, ToPage, ToRange, Transacts}
-use Rattle.line_texts.specs.Beginnings.{IsIn}
-use Rattle.line_texts.specs.LineTexts as texts
-use Rattle.line_texts.specs.LineTexts.{Answers, Does as DoesOrder, Finishes, Further, IsFinished, IsNotRead, LastStep, NoFinish, NoStep, NotTaken, Orders, PastSessions, Plain, RefusesPlain, RefusesStart, SaysNothing, Starts, StepsOnce, Submits, Taken, WantsMemory}
-use Rattle.line_texts.specs.LineTexts.{block_refusal, in_hand_refusal, named, or_else, submit_refusal, with_statement}
-use Rattle.line_texts.specs.Place.{Hand, Place, database_at, new_hand, updated}
-use Rattle.line_texts.specs.Starts.{IsStart}
-use Rattle.line_texts.specs.StatementSteps.{AtOnce, Begin, Commit, GoesOn as StepGoesOn, IsAtOnce, IsRefused, IsWaiting, LacksMemoryAtOnce, MeetsConflict, Moved, NoNumber, NothingAsked, Outcome, Replies, Rollback, Steps, StepsTo}
-use Rattle.line_texts.specs.Stops.{Begun, ComesTo, LineComesTo, MovedTo, OfFinish, OfPlain, OfStep, OnTo, Still}
+use Rattle.line_texts.specs.Place.{Hand, Place}
 use Rattle.line_texts.specs.Turns.{Leads, Recounts, TablesStay, Turn}
-use Rattle.statements.specs.StatementRequests.{refusal_at}
-use Rattle.text_laws.proofs.Calm.{calm, calmed, steps_calm}
+use Rattle.text_laws.proofs.Calm.{calm, steps_calm}
 use Rattle.text_laws.proofs.Fits.{IsHome, home_below, home_in, home_one}
 
 -- ---- what a step of a table leaves to the others, and of its own statement

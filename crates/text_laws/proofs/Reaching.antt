@@ -1,15 +1,13 @@
 -- What holds of a place that is orderly holds behind each step, and behind each line.
-use Rattle.std.proofs.Common.{◌≡◌, ◌≢◌, ◌⊎◌, inl, inr, ℕ, ◌<◌, eqb, true, false, List, [], ◌∷◌, length, Option, None, Some, Ok, Err, if◌then◌else◌, refl, sym, ap, ◌∙◌, subst}
+use Rattle.std.proofs.Common.{◌≡◌, ◌≢◌, ◌⊎◌, inl, inr, ℕ, ◌<◌, eqb, true, false, List, [], ◌∷◌, length, Option, None, Some, Ok, if◌then◌else◌, refl, sym, ap, ◌∙◌, subst}
 use Rattle.std.specs.Prelude.{Result}
 use Rattle.std.proofs.lemmas.Bool.Decides.{eqb_tells}
 use Rattle.std.proofs.lemmas.Option.{none-some, same_Some}
-use Rattle.block_model.specs.declared.reply.Point.{Point}
 use Rattle.block_model.specs.declared.reply.Refusal.{Refusal}
 use Rattle.query_words.specs.declared.line.Line.{Line}
 use Rattle.query_words.specs.declared.line.Line.TheVariants as lines
 use Rattle.query_words.specs.declared.line.LineFault.{LineFault}
 use Rattle.query_words.specs.declared.line.Order.{Order}
-use Rattle.query_words.specs.declared.line.Order.TheVariants as orders
 use Rattle.query_words.specs.LineFits.{IsLineFor, IsOrderFor}
 use Rattle.query_words.specs.Lines.{line_of}
 use Rattle.query_words.proofs.FitLemmas.{KnowsValues}
@@ -17,14 +15,13 @@ use Rattle.script_run.specs.Answers.{AreAnswers}
 use Rattle.statements.specs.declared.statement.Statement.{Statement}
 use Rattle.statements.specs.declared.statement.Statement.TheVariants as statements
 use Rattle.statements.specs.StatementFits.{IsStatementFor}
-use Rattle.statements.specs.StatementRequests.{refusal_at}
 use Rattle.store_layout.specs.DiskLayout.{DiskLayout}
 use Rattle.store_layout.specs.FirstBrokenRule.{KeepsLimits}
-use Rattle.table_coverage.specs.Table.{Task, Resting, TableState}
+use Rattle.table_coverage.specs.Table.{Resting, TableState}
 use Rattle.table_coverage.specs.TableCovered.{IsNewTable, IsTableKept}
 use Rattle.line_texts.specs.LineTexts.{Answers, Does, Finishes, Further, IsFinished, IsLineText, IsNotRead, LastStep, NoFinish, NoStep, NotTaken, Orders, PastSessions, Plain, RefusesPlain, RefusesStart, SaysNothing, Starts, StepsOnce, Submits}
-use Rattle.line_texts.specs.LineTexts.{Taken, WantsMemory, block_refusal, in_hand_refusal, named, or_else, submit_refusal, with_statement}
-use Rattle.line_texts.specs.Place.{Hand, Place, database_at, new_hand, updated}
+use Rattle.line_texts.specs.LineTexts.{Taken, WantsMemory, in_hand_refusal, named, or_else, with_statement}
+use Rattle.line_texts.specs.Place.{Hand, Place, new_hand}
 use Rattle.line_texts.specs.Starts.{IsStart}
 use Rattle.line_texts.specs.StatementSteps.{AtOnce, Begin, Commit, GoesOn, IsAtOnce, IsRefused, IsWaiting, LacksMemoryAtOnce, MeetsConflict, NoNumber, NothingAsked, Outcome, Replies, Rollback, Steps, StepsTo}
 use Rattle.line_texts.specs.Stops.{Begun, ComesTo, LineComesTo, MovedTo, OfFinish, OfPlain, OfStep, OnTo, Still}

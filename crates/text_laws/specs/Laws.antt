@@ -1,16 +1,23 @@
 -- what holds at every place to which a script comes
-use Rattle.std.specs.Prelude.{◌≡◌, ◌≢◌, ◌⊎◌, ℕ, List, None, Some}
+use Rattle.std.specs.Prelude.{◌≡◌, ◌≢◌, ◌⊎◌, ◌↔◌, ℕ, ◌≤◌, List, Option, None, Some}
 use Rattle.block_model.specs.declared.reply.Refusal.{Refusal}
 use Rattle.block_model.specs.declared.reply.Refusal.TheVariants as refusals
 use Rattle.block_model.specs.declared.reply.What.{What}
+use Rattle.block_model.specs.declared.place.Spot.{Spot}
+use Rattle.block_model.specs.declared.reply.Reply.TheVariants as replies
+use Rattle.index_steps.specs.IndexTuples.{index_at}
+use Rattle.statements.specs.declared.statement.Statement.TheVariants as statements
+use Rattle.table_coverage.specs.Table.{Resting}
+use Rattle.table_coverage.specs.TableSteps.{range_in}
 use Rattle.script_run.specs.Answers.{AreAnswers}
 use Rattle.store_layout.specs.DiskLayout.{DiskLayout}
 use Rattle.store_layout.specs.FirstBrokenRule.{first_broken_rule}
-use Rattle.line_texts.specs.LineTexts.{IsLineText}
+use Rattle.line_texts.specs.Beginnings.{StandsAt}
+use Rattle.line_texts.specs.LineTexts.{Finishes, IsLineText}
 use Rattle.line_texts.specs.Names.{name_of}
-use Rattle.line_texts.specs.Place.{Hand, Place}
+use Rattle.line_texts.specs.Place.{Hand, Place, new_hand}
 use Rattle.line_texts.specs.Starts.{IsStart}
-use Rattle.line_texts.specs.StatementSteps.{StepsTo, Waits}
+use Rattle.line_texts.specs.StatementSteps.{Ended, StepsTo, Waits}
 use Rattle.text_laws.specs.Reached.{IsReached}
 
 -- a refusal tells another session, which has a statement in hand
@@ -39,3 +46,21 @@ NoStepWaitsAlone = (layout : DiskLayout) (p q : Place) (n : ℕ) (hand : Hand) (
 -- a place behind lines that were answered is one to which the script comes
 abbrev pub AnsweredLinesReach : Type 0
 AnsweredLinesReach = (layout : DiskLayout) (start p : Place) (lines texts : List (List ℕ)) → IsStart layout start → AreAnswers (IsLineText layout.schema) start lines texts p → IsReached layout p
+
+-- a desummarize counted its range: one exactly where that had an entry, and it has none now
+pub record IsCleared (before after : Option Spot) (count : ℕ) : Type 0 where
+  pub one : (count ≡ 1) ↔ (before ≢ None)
+  pub most : count ≤ 1
+  pub behind : after ≡ None
+
+-- a desummarize of this block's range in that index counted it so, from the first place to the second
+pub record AnswersItsRange (n table index block : ℕ) (p q : Place) (count : ℕ) : Type 0 where
+  pub at : ℕ
+  pub stands : StandsAt p.layout index at
+  pub cleared : IsCleared (((p.tables table).index at).entry (range_in (p.tables table) at block)) (((q.tables table).index at).entry (range_in (p.tables table) at block)) count
+
+-- a desummarize that no other session steps beside answers 1 where its range has an entry, and 0 where not; and behind it there is none
+abbrev pub DesummarizeAnswersItsRange : Type 0
+DesummarizeAnswersItsRange = (p q : Place) (n index block count : ℕ) → p.hands n ≡ Some (new_hand (statements.Desummarize index block))
+    → (p.tables (index_at p.layout index).table).task n ≡ Resting → Finishes n p (Ended (replies.Desummarized count)) q
+    → AnswersItsRange n (index_at p.layout index).table index block p q count
