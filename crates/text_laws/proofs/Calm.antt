@@ -36,7 +36,7 @@ same_loose i (Scans scan) = refl
 same_loose i (Marks scan ids) = refl
 same_loose i task = refl
 
-same_view : (i : ℕ) (w : TableState) → index_view_at i w ≡ index_view_at i (calm w)
+pub same_view : (i : ℕ) (w : TableState) → index_view_at i w ≡ index_view_at i (calm w)
 same_view i w =
     let building : (λ n. building_of (seen_by i (w.task n))) ≡ (λ n. building_of (seen_by i (calmed (w.task n)))) = fun_ext (λ n. sym (same_building i (w.task n))) in
     let loose : (λ n. loose_of (seen_by i (w.task n))) ≡ (λ n. loose_of (seen_by i (calmed (w.task n)))) = fun_ext (λ n. sym (same_loose i (w.task n))) in

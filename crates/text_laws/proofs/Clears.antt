@@ -140,11 +140,11 @@ phase_same range count first now next (NotBuilding (Dropping x)) same says = (sa
 phase_same range count first now next phase same says = absurd says
 
 -- the statement goes over the range that it considers
-abbrev considers_one : TableState → Task → Type 0
+abbrev pub considers_one : TableState → Task → Type 0
 considers_one w (Considers job at range) = HasRange w job at range
 considers_one w task = Unit {0}
 
-abbrev has_none : TableState → Task → Type 0
+abbrev pub has_none : TableState → Task → Type 0
 has_none w (Considers job at range) = HasRange w job at range → ⊥
 has_none w task = Unit {0}
 
@@ -164,7 +164,7 @@ onward_range w _ _ (Scanned scan read nothing) only at range is = absurd (cc)
 onward_range w _ _ (ToMarks scan id rest read reads deletes lists) only at range is = absurd (cc)
 onward_range w _ _ (Marked scan) only at range is = absurd (cc)
 
-onward_stays : (w : TableState) (old new : Task) → Onward w old new → (job : Job) (at range : ℕ) (phase : Phase) → old ≡ Maintains job at range phase → new ≡ Maintains job at range phase
+pub onward_stays : (w : TableState) (old new : Task) → Onward w old new → (job : Job) (at range : ℕ) (phase : Phase) → old ≡ Maintains job at range phase → new ≡ Maintains job at range phase
 onward_stays w _ _ (Stays task has) job at range phase is = is
 onward_stays w _ _ (ToAsk b k r i below asks) job at range phase is = absurd (cc)
 onward_stays w _ _ (ToIndex b k r i below not) job at range phase is = absurd (cc)
@@ -179,7 +179,7 @@ onward_stays w _ _ (Scanned scan read nothing) job at range phase is = absurd (c
 onward_stays w _ _ (ToMarks scan id rest read reads deletes lists) job at range phase is = absurd (cc)
 onward_stays w _ _ (Marked scan) job at range phase is = absurd (cc)
 
-not_maintained : (w : TableState) (old : Task) → IsMaintained w old → (job : Job) (at range : ℕ) (phase : Phase) → old ≡ Maintains job at range phase → ⊥
+pub not_maintained : (w : TableState) (old : Task) → IsMaintained w old → (job : Job) (at range : ℕ) (phase : Phase) → old ≡ Maintains job at range phase → ⊥
 not_maintained w _ (RangesDone j i m none last) job at range phase is = cc
 not_maintained w _ (NothingToSweep extent next past none) job at range phase is = cc
 

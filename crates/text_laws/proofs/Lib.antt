@@ -4,3 +4,5 @@ pub mod Fits
 pub mod Holders
 pub mod Orderly
 pub mod Reaching
+pub mod SummaryStep
+pub mod Summing

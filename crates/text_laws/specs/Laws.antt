@@ -1,5 +1,5 @@
 -- what holds at every place to which a script comes
-use Rattle.std.specs.Prelude.{◌≡◌, ◌≢◌, ◌⊎◌, ◌↔◌, ℕ, ◌≤◌, List, Option, None, Some}
+use Rattle.std.specs.Prelude.{◌≡◌, ◌≢◌, ◌⊎◌, ◌↔◌, ℕ, ◌≤◌, ◌<◌, false, List, Option, None, Some}
 use Rattle.block_model.specs.declared.reply.Refusal.{Refusal}
 use Rattle.block_model.specs.declared.reply.Refusal.TheVariants as refusals
 use Rattle.block_model.specs.declared.reply.What.{What}
@@ -7,8 +7,10 @@ use Rattle.block_model.specs.declared.place.Spot.{Spot}
 use Rattle.block_model.specs.declared.reply.Reply.TheVariants as replies
 use Rattle.index_steps.specs.IndexTuples.{index_at}
 use Rattle.statements.specs.declared.statement.Statement.TheVariants as statements
-use Rattle.table_coverage.specs.Table.{Resting}
-use Rattle.table_coverage.specs.TableSteps.{range_in}
+use Rattle.coverage.specs.Counts.{IsCountBelow}
+use Rattle.coverage.specs.IndexView.{IndexTuple}
+use Rattle.table_coverage.specs.Table.{EachRange, Index, Resting}
+use Rattle.table_coverage.specs.TableSteps.{HasRange, range_in}
 use Rattle.script_run.specs.Answers.{AreAnswers}
 use Rattle.store_layout.specs.DiskLayout.{DiskLayout}
 use Rattle.store_layout.specs.FirstBrokenRule.{first_broken_rule}
@@ -64,3 +66,24 @@ abbrev pub DesummarizeAnswersItsRange : Type 0
 DesummarizeAnswersItsRange = (p q : Place) (n index block count : ℕ) → p.hands n ≡ Some (new_hand (statements.Desummarize index block))
     → (p.tables (index_at p.layout index).table).task n ≡ Resting → Finishes n p (Ended (replies.Desummarized count)) q
     → AnswersItsRange n (index_at p.layout index).table index block p q count
+
+-- the map of an index names a final tuple for the range
+abbrev pub HasFinal : Index → ℕ → Type 0
+HasFinal x range = (t : IndexTuple) × ((y : Spot) × (x.entry range ≡ Some y) × (x.tuple y ≡ Some t)) × (t.placeholder ≡ false)
+
+-- A summarize of the whole table goes over the ranges that begin below its blocks, which are those below some number. It counted those of them
+-- that had no final tuple at the first place, and at the second each of them has one.
+pub record CountsItsRanges (table index : ℕ) (p q : Place) (count : ℕ) : Type 0 where
+  pub at : ℕ
+  pub stands : StandsAt p.layout index at
+  pub below : ℕ
+  pub ranges : (m : ℕ) → m < below → HasRange (p.tables table) (EachRange (p.tables table).blocks) at m
+  pub past : HasRange (p.tables table) (EachRange (p.tables table).blocks) at below → ⊥
+  pub counted : IsCountBelow (λ m. HasFinal ((p.tables table).index at) m → ⊥) below count
+  pub finals : (m : ℕ) → m < below → HasFinal ((q.tables table).index at) m
+
+-- a summarize of a whole table that no other session steps beside, at any place to which a script comes
+abbrev pub SummarizeCountsItsRanges : Type 0
+SummarizeCountsItsRanges = (layout : DiskLayout) (p q : Place) (n index count : ℕ) → first_broken_rule layout.schema layout.sizes ≡ None → IsReached layout p
+    → p.hands n ≡ Some (new_hand (statements.Summarize index None)) → (p.tables (index_at p.layout index).table).task n ≡ Resting
+    → Finishes n p (Ended (replies.Summarized count)) q → CountsItsRanges (index_at p.layout index).table index p q count
