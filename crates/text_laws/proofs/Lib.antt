@@ -4,5 +4,6 @@ pub mod Fits
 pub mod Holders
 pub mod Orderly
 pub mod Reaching
+pub mod Selects
 pub mod SummaryStep
 pub mod Summing

@@ -1,4 +1,5 @@
 -- what holds at every place to which a script comes
+use Rattle.std.specs.FinMap as map
 use Rattle.std.specs.Prelude.{◌≡◌, ◌≢◌, ◌⊎◌, ◌↔◌, ℕ, ◌≤◌, ◌<◌, false, List, Option, None, Some}
 use Rattle.block_model.specs.declared.reply.Refusal.{Refusal}
 use Rattle.block_model.specs.declared.reply.Refusal.TheVariants as refusals
@@ -11,13 +12,17 @@ use Rattle.coverage.specs.Counts.{IsCountBelow}
 use Rattle.coverage.specs.IndexView.{IndexTuple}
 use Rattle.table_coverage.specs.Table.{EachRange, Index, Resting}
 use Rattle.table_coverage.specs.TableSteps.{HasRange, range_in}
+use Rattle.block_model.specs.declared.row.Query.{Query}
+use Rattle.block_model.specs.declared.row.Row.{Row}
+use Rattle.block_model.specs.DatabaseState.{OpenTransaction}
+use Rattle.block_model.specs.RequestEffect.{Answer, rows_found}
 use Rattle.script_run.specs.Answers.{AreAnswers}
 use Rattle.store_layout.specs.DiskLayout.{DiskLayout}
 use Rattle.store_layout.specs.FirstBrokenRule.{first_broken_rule}
 use Rattle.line_texts.specs.Beginnings.{StandsAt}
 use Rattle.line_texts.specs.LineTexts.{Finishes, IsLineText}
 use Rattle.line_texts.specs.Names.{name_of}
-use Rattle.line_texts.specs.Place.{Hand, Place, new_hand}
+use Rattle.line_texts.specs.Place.{Hand, Place, database_at, new_hand}
 use Rattle.line_texts.specs.Starts.{IsStart}
 use Rattle.line_texts.specs.StatementSteps.{Ended, StepsTo, Waits}
 use Rattle.text_laws.specs.Reached.{IsReached}
@@ -87,3 +92,9 @@ abbrev pub SummarizeCountsItsRanges : Type 0
 SummarizeCountsItsRanges = (layout : DiskLayout) (p q : Place) (n index count : ℕ) → first_broken_rule layout.schema layout.sizes ≡ None → IsReached layout p
     → p.hands n ≡ Some (new_hand (statements.Summarize index None)) → (p.tables (index_at p.layout index).table).task n ≡ Resting
     → Finishes n p (Ended (replies.Summarized count)) q → CountsItsRanges (index_at p.layout index).table index p q count
+
+-- at any place to which a script comes, a select is answered exactly the rows of its session's copy that match
+abbrev pub SelectsMissNothing : Type 0
+SelectsMissNothing = (layout : DiskLayout) (p q : Place) (n : ℕ) (query : Query) (answers : List Answer) (rows : List Row) (x : OpenTransaction) → IsReached layout p
+    → p.hands n ≡ Some (record { statement = statements.Select query; answers = answers }) → map.get (database_at p).sessions n ≡ Some x
+    → StepsTo p n (record { statement = statements.Select query; answers = answers }) (Ended (replies.Found rows)) q → rows ≡ rows_found x query

@@ -3,8 +3,10 @@
 //! stands on it, and each function does nothing.
 #![tactic(auto)]
 
+mod looking;
 mod maintaining;
 mod waiting;
 
+pub use looking::a_select_misses_nothing;
 pub use maintaining::{a_desummarize_answers_its_range, a_summarize_leaves_no_range_out};
 pub use waiting::{a_step_waits_for_a_statement_in_hand, answered_lines_lead_there};
