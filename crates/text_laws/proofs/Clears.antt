@@ -352,7 +352,7 @@ module _ (n index block : ℕ) where
         more
 
   whole : (t count : ℕ) (p q : Place) (outcome : Outcome) → desummarized outcome ≡ Some count → p.hands n ≡ Some (hand_with []) → (index_at p.layout index).table ≡ t
-      → (p.tables t).task n ≡ Resting → Finishes n p outcome q → AnswersItsRange n t index block p q count
+      → (p.tables t).task n ≡ Resting → Finishes n p outcome q → AnswersItsRange t index block p q count
   whole t count _ _ _ told there is rests (LastStep p q outcome last step) =
       let last_one = replies_in t count p [] outcome q is told (subst (λ h. StepsTo p n h outcome q) (same_Some _ _ (sym step.in_hand ∙ there)) step.steps) in
       let began = last_one.turns.first rests in
@@ -376,6 +376,6 @@ module _ (n index block : ℕ) where
       }
 
 pub desummarize_answers : (p q : Place) (n index block count : ℕ) → p.hands n ≡ Some (new_hand (statements.Desummarize index block))
-    → (p.tables (index_at p.layout index).table).task n ≡ Resting → Finishes n p (Ended (replies.Desummarized count)) q → AnswersItsRange n (index_at p.layout index).table index block p q count
+    → (p.tables (index_at p.layout index).table).task n ≡ Resting → Finishes n p (Ended (replies.Desummarized count)) q → AnswersItsRange (index_at p.layout index).table index block p q count
 desummarize_answers p q n index block count there rests finishes =
     whole n index block (index_at p.layout index).table count p q (Ended (replies.Desummarized count)) refl there refl rests finishes

@@ -61,7 +61,7 @@ pub record IsCleared (before after : Option Spot) (count : ℕ) : Type 0 where
   pub behind : after ≡ None
 
 -- a desummarize of this block's range in that index counted it so, from the first place to the second
-pub record AnswersItsRange (n table index block : ℕ) (p q : Place) (count : ℕ) : Type 0 where
+pub record AnswersItsRange (table index block : ℕ) (p q : Place) (count : ℕ) : Type 0 where
   pub at : ℕ
   pub stands : StandsAt p.layout index at
   pub cleared : IsCleared (((p.tables table).index at).entry (range_in (p.tables table) at block)) (((q.tables table).index at).entry (range_in (p.tables table) at block)) count
@@ -70,7 +70,7 @@ pub record AnswersItsRange (n table index block : ℕ) (p q : Place) (count : �
 abbrev pub DesummarizeAnswersItsRange : Type 0
 DesummarizeAnswersItsRange = (p q : Place) (n index block count : ℕ) → p.hands n ≡ Some (new_hand (statements.Desummarize index block))
     → (p.tables (index_at p.layout index).table).task n ≡ Resting → Finishes n p (Ended (replies.Desummarized count)) q
-    → AnswersItsRange n (index_at p.layout index).table index block p q count
+    → AnswersItsRange (index_at p.layout index).table index block p q count
 
 -- the map of an index names a final tuple for the range
 abbrev pub HasFinal : Index → ℕ → Type 0
