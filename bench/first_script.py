@@ -4,7 +4,7 @@
 Runs a million inserts in one transaction, alone and with a select of all, the same of two sessions in turn, a million
 comments, inserts with a hundred selects of one row each, without an index and with one that is summarised, the summarise of
 that index, of ranges of 128 pages and of one, 64 sessions that insert rows in turn and then, behind a summarise, select a row
-each in turn, and a thousand explains over 131,072 summarised ranges of one page; each three times. Tells the best time, lines
+each in turn, and a hundred explains over 131,072 summarised ranges of one page; each three times. Tells the best time, lines
 a second and the peak of memory. The answers go to a file.
 """
 import os
@@ -56,12 +56,12 @@ def interleaved():
 
 
 def explains():
-    """The lines that fill a range of one page each and summarise them, and then explain a query of one row a thousand times."""
+    """The lines that fill a range of one page each and summarise them, and then explain a query of one row a hundred times."""
     yield "s begin\n"
     yield from (f"s insert t {n}\n" for n in range(RANGES))
     yield "s commit\n"
     yield from summarise()
-    yield from (f"s explain t where a = {n * (RANGES // 1000)}\n" for n in range(1000))
+    yield from (f"s explain t where a = {n * (RANGES // 100)}\n" for n in range(100))
 
 
 def run(program, words, script, out):
@@ -87,7 +87,7 @@ def main():
         "the same with ranges of one page": (WORDS + SMALL_RANGES, lambda: [inserts(1), summarise()]),
         "inserts and a summarize, then 100 selects of one row": (WORDS + INDEX, lambda: [inserts(1), summarise(), lookups()]),
         "64 sessions in turn, inserts, a summarize, and selects of one row": (WORDS + SMALL_RANGES, lambda: [interleaved()]),
-        "1,000 explains over 131,072 ranges": (ONE_A_PAGE + SMALL_RANGES, lambda: [explains()]),
+        "100 explains over 131,072 ranges": (ONE_A_PAGE + SMALL_RANGES, lambda: [explains()]),
         "comments": (WORDS, lambda: [comments()]),
     }
     with tempfile.TemporaryDirectory() as folder:

@@ -31,7 +31,7 @@ NARROW = "index i on t(a minmax) pages_per_range 1"
 SLOTS = 272
 
 # How many selects a run makes: of one row by ranges of 128 pages and of one page, and of no row without an index.
-SELECTS, NARROW_SELECTS, SCANS = 1_000, 20_000, 50
+SELECTS, NARROW_SELECTS, SCANS = 1_000, 2_000, 50
 
 # Links the program without the sanitizer, whose allocator would be measured too, and keeps it.
 LINKER = """#!/bin/bash

@@ -104,3 +104,9 @@ usage_of_command commands.Memory e = cc
 pub none_denoted : (schema : Schema) (fault : DeclFault) → of_declarations fault ≡ Usage → Answers schema (Err fault) → ⊥
 none_denoted schema (declarations.Form word at) e a = a
 none_denoted schema declarations.Memory e a = let no : Memory ≡ Usage = e in cc
+
+-- ---- limits
+
+-- a layout that words ask for passes no limit
+pub within_limits : (words : List (List ℕ)) (layout : DiskLayout) → AsksFor words layout → first_broken_rule layout.schema layout.sizes ≡ None
+within_limits words layout asks = ap (λ (sizes : Sizes). first_broken_rule layout.schema sizes) asks.makes.sizes_are ∙ asks.makes.within

@@ -1,4 +1,7 @@
-pub mod Acting
-pub mod Saying
-pub mod Outputs
 pub mod Asked
+pub mod Leading
+pub mod Outputs
+pub mod Saying
+pub mod Simulated
+pub mod Starting
+pub mod Stepping

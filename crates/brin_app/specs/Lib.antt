@@ -1,5 +1,6 @@
-pub mod Acting
-pub mod ScriptTexts
+pub mod Leading
+pub mod Orders
 pub mod SessionPlaces
 pub mod ScriptOutput
+pub mod Simulations
 pub mod WordsFaults

@@ -5,14 +5,15 @@ use Rattle.store_layout.specs.DiskLayout.{DiskLayout}
 use Rattle.store_layout.specs.FirstBrokenRule.{first_broken_rule}
 use Rattle.block_model.specs.declared.schema.Schema.{Schema}
 use Rattle.block_model.specs.declared.schema.Sizes.{Sizes}
-use Rattle.brin_app.specs.ScriptTexts.{ScriptPlace, script_start, IsLineText, IsLineStopped}
+use Rattle.line_texts.specs.LineTexts.{IsLineText}
+use Rattle.line_texts.specs.Place.{Place}
+use Rattle.line_texts.specs.Starts.{IsStart}
+use Rattle.line_texts.specs.Stops.{IsLineStopped}
 use Rattle.command_words.specs.declared.command.Command.{Command}
 use Rattle.command_words.specs.declared.command.Command.TheVariants.{Run}
 use Rattle.command_words.specs.CommandWords.{IsCommand}
 use Rattle.schema_words.specs.DeclaredSchema.{Denotes}
 use Rattle.brin_app.specs.declared.status.TheConstants.{SCRIPT_LIMIT}
-use Rattle.statements.specs.JournalAnswers.{Opening}
-use Rattle.range_summaries.specs.ExplainedBlocks.{explained}
 use Rattle.script_run.specs.declared.engine.AnswerFault.{AnswerFault}
 use Rattle.script_run.specs.declared.engine.AnswerFault.TheVariants.{Memory, Full}
 use Rattle.script_run.specs.declared.fault.RunFault.TheVariants as faults
@@ -53,54 +54,60 @@ exit_status (Err faults.Write) = 5
 exit_status (Err (faults.Unanswered Memory)) = 7
 exit_status (Err (faults.Unanswered Full)) = 8
 
--- the texts of lines over a store that was opened so
-abbrev pub Texts : Opening → ScriptPlace → List ℕ → List ℕ → ScriptPlace → Type 0
-Texts opening = IsLineText explained opening
+-- the texts of lines over tables of this layout
+abbrev pub Texts : DiskLayout → Place → List ℕ → List ℕ → Place → Type 0
+Texts layout = IsLineText layout.schema
 
 -- what becomes of a line of theirs that isn't answered
-abbrev pub Stops : Opening → ScriptPlace → List ℕ → AnswerFault → ScriptPlace → Type 0
-Stops opening = IsLineStopped explained opening
+abbrev pub Stops : DiskLayout → Place → List ℕ → AnswerFault → Place → Type 0
+Stops layout = IsLineStopped layout.schema
 
--- The script of the source was run over a store that was opened so: what was written are the texts of its lines, as if
--- each session worked on its own copy of the tables, and the status says how far that went.
-abbrev pub IsScriptOutput : ℕ → Opening → Option (List ℕ) → Option (List ℕ) → Option (List ℕ) → Option (List ℕ) → Type 0
-IsScriptOutput status opening left left' taken taken' =
-    (end : RunEnd) × (after : ScriptPlace) × (status ≡ exit_status end) × Ran (Texts opening) (Stops opening) script_start after SCRIPT_LIMIT end left left' taken taken'
+-- The script of the source was run from a place at which a script over new tables of this layout starts: what was written are the texts of
+-- its lines, and the status says how far that went.
+pub record IsScriptOutput (status : ℕ) (layout : DiskLayout) (left left' taken taken' : Option (List ℕ)) : Type 0 where
+  pub end : RunEnd
+  pub status_is : status ≡ exit_status end
+  pub start : Place
+  pub starts : IsStart layout start
+  pub after : Place
+  pub ran : Ran (Texts layout) (Stops layout) start after SCRIPT_LIMIT end left left' taken taken'
 
--- first lines of this script, with texts of theirs, lead to a journal that has no room for the requests of the next one
-pub record FillsJournal (opening : Opening) (script : List ℕ) (left : Option (List ℕ)) : Type 0 where
+-- first lines of this script, with texts of theirs, lead from a start to a journal that has no room for the requests of the next one
+pub record FillsJournal (layout : DiskLayout) (script : List ℕ) (left : Option (List ℕ)) : Type 0 where
+  pub start : Place
+  pub starts : IsStart layout start
   pub done : List (List ℕ)
   pub texts : List (List ℕ)
-  pub place : ScriptPlace
+  pub place : Place
   pub line : List ℕ
-  pub after : ScriptPlace
+  pub after : Place
   pub first : AreFirst (done ++ line ∷ []) script left
-  pub answers : AreAnswers (Texts opening) script_start done texts place
-  pub past : Stops opening place line Full after
+  pub answers : AreAnswers (Texts layout) start done texts place
+  pub past : Stops layout place line Full after
 
 -- the script that was taken fills the journal
-abbrev pub JournalWasFull : Opening → Option (List ℕ) → Option (List ℕ) → Type 0
-JournalWasFull opening left left' = (script : List ℕ) × Consumes left left' script × FillsJournal opening script left'
+abbrev pub JournalWasFull : DiskLayout → Option (List ℕ) → Option (List ℕ) → Type 0
+JournalWasFull layout left left' = (script : List ℕ) × Consumes left left' script × FillsJournal layout script left'
 
 -- Where the source tells its bytes, 8 comes where as many as the limit were taken and then another, and else only where
 -- the journal was full.
-pub record IsSpentExactly (status : ℕ) (opening : Opening) (old new : List ℕ) : Type 0 where
+pub record IsSpentExactly (status : ℕ) (layout : DiskLayout) (old new : List ℕ) : Type 0 where
   pub past_limit : length old ≡ (SCRIPT_LIMIT + 1) + length new → status ≡ 8
-  pub only : status ≡ 8 → (length old ≡ (SCRIPT_LIMIT + 1) + length new) ⊎ JournalWasFull opening (Some old) (Some new)
+  pub only : status ≡ 8 → (length old ≡ (SCRIPT_LIMIT + 1) + length new) ⊎ JournalWasFull layout (Some old) (Some new)
 
-abbrev pub HasSpentCauses : ℕ → Opening → Option (List ℕ) → Option (List ℕ) → Type 0
-HasSpentCauses status opening (Some old) (Some new) = IsSpentExactly status opening old new
-HasSpentCauses status opening old new = Unit {0}
+abbrev pub HasSpentCauses : ℕ → DiskLayout → Option (List ℕ) → Option (List ℕ) → Type 0
+HasSpentCauses status layout (Some old) (Some new) = IsSpentExactly status layout old new
+HasSpentCauses status layout old new = Unit {0}
 
 -- the source tells its bytes, and has no more than are taken
 abbrev pub FitsLimit : Option (List ℕ) → Type 0
 FitsLimit left = IsSomeAnd left (λ bytes. length bytes ≤ SCRIPT_LIMIT)
 
 -- no part of the source's bytes fills the journal
-abbrev pub FitsJournal : Opening → Option (List ℕ) → Type 0
-FitsJournal opening left = (left' : Option (List ℕ)) → JournalWasFull opening left left' → ⊥
+abbrev pub FitsJournal : DiskLayout → Option (List ℕ) → Type 0
+FitsJournal layout left = (left' : Option (List ℕ)) → JournalWasFull layout left left' → ⊥
 
 -- where neither count rose, the script isn't too long and its requests fit the journal, it was run to its end or memory ran out
-abbrev pub IsComplete : ℕ → Opening → Option (List ℕ) → Type 0 → Type 0 → Type 0
-IsComplete status opening left read_fault write_fault =
-    ¬ read_fault → ¬ write_fault → FitsLimit left → FitsJournal opening left → (status ≡ 0) ⊎ (status ≡ 7)
+abbrev pub IsComplete : ℕ → DiskLayout → Option (List ℕ) → Type 0 → Type 0 → Type 0
+IsComplete status layout left read_fault write_fault =
+    ¬ read_fault → ¬ write_fault → FitsLimit left → FitsJournal layout left → (status ≡ 0) ⊎ (status ≡ 7)

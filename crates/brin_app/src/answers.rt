@@ -1,22 +1,20 @@
-//! What a line of a session does, and what it is answered.
+//! What a line of a script is answered.
 
-ghost use Rattle.std.specs.Prelude.{◌≡◌, ◌≢◌, ◌<◌, ◌++◌, None, Ok, IfOk, IfErr, OnOk, IsErrOf, IsSome, ℕ, List, length};
-ghost use Rattle.query_words.specs.LineFits.{IsLineFor};
-ghost use Rattle.statements.specs.StatementFits.{IsStatementFor};
-ghost use Rattle.brin_app.specs.ScriptTexts.{fault_text};
-ghost use Rattle.session_core.specs.StoreState.{hand_of};
-ghost use Rattle.session_core.specs.Steps.{Ends};
-ghost use Rattle.brin_app.specs.Acting.{EndsStatement, StatementPastJournal, HandPastJournal, AreIdle};
-ghost use Rattle.brin_app.specs.SessionPlaces.{IsAnswered, IsSaid, IsStopped, StopsLine};
+ghost use Rattle.std.specs.Prelude.{◌≡◌, ◌≢◌, ◌<◌, ◌++◌, None, Ok, IfErr, OnOk, IsErrOf, ℕ, List, length};
+ghost use Rattle.query_words.specs.LineFits.{IsLineFor, IsOrderFor};
+ghost use Rattle.line_texts.specs.LineTexts.{Answers, Does, fault_text, refused_text};
+ghost use Rattle.brin_app.specs.Leading.{PlacesLead};
+ghost use Rattle.brin_app.specs.Orders.{IsLost, IsStoppedSaying, answer_text};
+ghost use Rattle.brin_app.specs.SessionPlaces.{AnswersLine, StopsLine};
 
+use crate::orders::{Answer, act};
 use crate::sessions::Sessions;
-use block_model::{Name, Refusal, Reply};
+use block_model::{Name, NoMemory, Refusal, Reply};
 use disk_trait::SteadyDisk;
 use query_words::{Line, LineFault, Order, read_line};
-use reply_texts::{render, render_refusal};
+use reply_texts::{Dropped, render, render_dropped, render_moved, render_refusal, render_started};
 use script_run::AnswerFault;
-use session_core::{SessionFault, Step, Store, StoreFault};
-use statements::Statement;
+use session_core::{SessionFault, Store};
 
 /// Appends the text of a line, and does what it says.
 pub(crate) fn answer_line(
@@ -24,15 +22,12 @@ pub(crate) fn answer_line(
     line: &[u8],
     out: &mut Vec<u8>,
 ) -> Result<(), AnswerFault>
-    ensures ok { OnOk result ((text : List ℕ) × (out.new.items ≡ out.old.items ++ text) × (AreIdle sessions.old.store.state → IsAnswered sessions.old.store.state line.now text sessions.new.store.state)) }
+    ensures ok { OnOk result ((text : List ℕ) × (out.new.items ≡ out.old.items ++ text) × AnswersLine sessions.old line.now text sessions.new) }
     ensures stops { IfErr result (λ fault. StopsLine sessions.old line.now fault sessions.new) }
 {
     match read_line(sessions.alloc, line, sessions.store.layout()) {
         Ok(line) => obey(&mut sessions.store, line, out),
-        Err(fault) => {
-            sessions.store.known();
-            refuse(fault, out)
-        }
+        Err(fault) => refuse(fault, out),
     }
 }
 
@@ -51,87 +46,87 @@ fn refuse(fault: LineFault, out: &mut Vec<u8>) -> Result<(), AnswerFault>
 
 /// Does what a line says, and appends its text.
 fn obey(store: &mut Store<SteadyDisk>, line: Line, out: &mut Vec<u8>) -> Result<(), AnswerFault>
-    requires line { IsLineFor store.old.state.opening.layout.schema line }
+    requires line { IsLineFor store.old.pages.layout.schema line }
     requires ready { store.old.pages.failed ≡ None }
     ensures ready { store.new.pages.failed ≡ None }
-    ensures ok { OnOk result ((text : List ℕ) × (out.new.items ≡ out.old.items ++ text) × (AreIdle store.old.state → IsSaid store.old.state (Ok line) text store.new.state)) }
-    ensures stops { AreIdle store.old.state → IfErr result (λ fault. IsStopped store.old.state (Ok line) fault store.new.state) }
+    ensures ok { OnOk result ((text : List ℕ) × (out.new.items ≡ out.old.items ++ text) × PlacesLead store.old store.new (λ p q. Answers p (Ok line) text q)) }
+    ensures stops { IfErr result (λ fault. PlacesLead store.old store.new (IsStoppedSaying line fault)) }
 {
     match line {
-        Line::Nothing => {
-            store.known();
-            Ok(())
-        }
-        Line::Say { session, order } => match order {
-            Order::Whole(statement) => say(store, &session, statement, out),
-            Order::Start(_) | Order::Step | Order::Finish => unreachable!(),
-        },
+        Line::Nothing => Ok(()),
+        Line::Say { session, order } => say(store, &session, order, out),
     }
 }
 
-/// Does what a statement of the session of that name says, and appends its text.
+/// Does what an order of the session of that name says, and appends its text. The session is made where it is new.
 fn say(
     store: &mut Store<SteadyDisk>,
     session: &Name,
-    statement: Statement,
+    order: Order,
     out: &mut Vec<u8>,
 ) -> Result<(), AnswerFault>
-    requires statement { IsStatementFor store.old.state.opening.layout.schema statement }
+    requires order { IsOrderFor store.old.pages.layout.schema order }
     requires ready { store.old.pages.failed ≡ None }
     ensures ready { store.new.pages.failed ≡ None }
-    ensures ok { OnOk result ((text : List ℕ) × (out.new.items ≡ out.old.items ++ text) × (AreIdle store.old.state → IsSaid store.old.state (Ok (Line.Say session.now (Order.Whole statement))) text store.new.state)) }
-    ensures stops { AreIdle store.old.state → IfErr result (λ fault. IsStopped store.old.state (Ok (Line.Say session.now (Order.Whole statement))) fault store.new.state) }
+    ensures ok { OnOk result ((text : List ℕ) × (out.new.items ≡ out.old.items ++ text) × PlacesLead store.old store.new (λ p q. Answers p (Ok (Line.Say session.now order)) text q)) }
+    ensures stops { IfErr result (λ fault. PlacesLead store.old store.new (IsStoppedSaying (Line.Say session.now order) fault)) }
 {
-    let number = match store.session(*session) {
-        Ok(number) => number,
-        Err(SessionFault::Limit { limit }) => {
-            store.known();
-            let reply = Reply::Refused(Refusal::Limit { limit });
-            render(session, &reply, out)?;
-            return Ok(());
-        }
-        Err(SessionFault::Memory) => return Err(AnswerFault::Memory),
-    };
-    let reply = act(store, number, statement)?;
-    render(session, &reply, out)?;
-    Ok(())
-}
-
-/// Does what a statement of the session says, or says why it isn't taken.
-fn act(
-    store: &mut Store<SteadyDisk>,
-    session: u32,
-    statement: Statement,
-) -> Result<Reply, AnswerFault>
-    requires session { session < length store.old.state.names }
-    requires statement { IsStatementFor store.old.state.opening.layout.schema statement }
-    requires ready { store.old.pages.failed ≡ None }
-    ensures ready { store.new.pages.failed ≡ None }
-    ensures ok { hand_of store.old.state session ≡ None → IfOk result (λ reply. EndsStatement store.old.state session statement store.new.state reply) }
-    ensures full { hand_of store.old.state session ≡ None → IsErrOf result AnswerFault.Full → StatementPastJournal store.old.state session statement store.new.state }
-    ensures memory { ¬ (IsErrOf result AnswerFault.Memory) }
-{
-    store.known();
-    match store.submit(session, statement) {
-        Ok(()) => step(store, session),
-        Err(refusal) => Ok(Reply::Refused(refusal)),
+    match store.session(*session) {
+        Ok(number) => answer_order(store, number, session, order, out),
+        Err(fault) => refuse_session(fault, session, out),
     }
 }
 
-/// Ends the statement that the session has in hand.
-fn step(store: &mut Store<SteadyDisk>, session: u32) -> Result<Reply, AnswerFault>
-    requires hand { IsSome (hand_of store.old.state session) }
+/// Does what an order of the session of that number and name says, and appends its text.
+fn answer_order(
+    store: &mut Store<SteadyDisk>,
+    number: u32,
+    session: &Name,
+    order: Order,
+    out: &mut Vec<u8>,
+) -> Result<(), AnswerFault>
+    requires session { number < length store.old.names }
+    requires order { IsOrderFor store.old.pages.layout.schema order }
     requires ready { store.old.pages.failed ≡ None }
     ensures ready { store.new.pages.failed ≡ None }
-    ensures ok { IfOk result (λ reply. Ends store.old.state session store.new.state reply) }
-    ensures full { IsErrOf result AnswerFault.Full → HandPastJournal store.old.state session store.new.state }
-    ensures memory { ¬ (IsErrOf result AnswerFault.Memory) }
+    ensures ok { OnOk result ((text : List ℕ) × (out.new.items ≡ out.old.items ++ text) × PlacesLead store.old store.new (λ p q. Does p number session.now order text q)) }
+    ensures stops { IfErr result (λ fault. PlacesLead store.old store.new (IsLost number session.now order fault)) }
 {
-    match store.step(session) {
-        Ok(Step::Done(reply)) => Ok(reply),
-        Err(StoreFault::Spent { .. }) => Err(AnswerFault::Full),
-        Err(StoreFault::Disk | StoreFault::Reopen { .. } | StoreFault::Damaged { .. }) => {
-            unreachable!()
+    let answer = act(store, number, order)?;
+    tell(session, &answer, store.dropped(number), out)?;
+    Ok(())
+}
+
+/// Appends the text of an order for which there is no session: there are as many as there may be. Want of memory has no text.
+fn refuse_session(fault: SessionFault, session: &Name, out: &mut Vec<u8>) -> Result<(), AnswerFault>
+    ensures ok { OnOk result ((limit : ℕ) × (fault ≡ SessionFault.Limit limit) × (out.new.items ≡ out.old.items ++ refused_text session.now (Refusal.Limit limit))) }
+    ensures memory { IfErr result (λ why. why ≡ AnswerFault.Memory) }
+{
+    match fault {
+        SessionFault::Limit { limit } => {
+            render(session, &Reply::Refused(Refusal::Limit { limit }), out)?;
+            Ok(())
         }
+        SessionFault::Memory => Err(AnswerFault::Memory),
+    }
+}
+
+/// Appends the text of an answer to the session of that name, whose statement has asked in vain for these summaries.
+fn tell(
+    session: &Name,
+    answer: &Answer,
+    dropped: &[Dropped],
+    out: &mut Vec<u8>,
+) -> Result<(), NoMemory>
+    ensures { OnOk result (out.new.items ≡ out.old.items ++ answer_text session.now dropped.now answer.now) }
+{
+    match answer {
+        Answer::Started => render_started(session, out),
+        Answer::Moved(point) => render_moved(session, *point, out),
+        Answer::Ended(reply) => {
+            render_dropped(dropped, out)?;
+            render(session, reply, out)
+        }
+        Answer::Refused(refusal) => render(session, &Reply::Refused(*refusal), out),
     }
 }

@@ -1,16 +1,17 @@
-//! The program: a script of sessions over tables with BRIN indexes. `brin_main` does all of it, and its contract says which status
-//! comes when, and that what it writes are the texts of the script's lines as if each session worked on its own copy of the
-//! tables (specs/ScriptTexts). It stands on the words of the command line (command_words, schema_words), the lines
-//! (query_words), their texts (reply_texts), the loop over them (script_run) and the store of sessions (session_core). Rows stand
-//! on heap pages in memory alone, beside a disk that never fails and is never written, so they are gone when the run ends.
+//! The program: a script of sessions over tables with BRIN indexes, whose statements run in steps. `brin_main` does all of it, and its
+//! contract says which status comes when, and that what it writes are the texts of the script's lines (line_texts), from a place at which
+//! a script starts on. It stands on the words of the command line (command_words, schema_words), the lines (query_words), their texts
+//! (reply_texts), the loop over them (script_run) and the store of sessions (session_core). Rows stand on heap pages in memory alone,
+//! beside a disk that never fails and is never written, so they are gone when the run ends.
 #![tactic(auto)]
 
 mod answers;
 mod laws;
+mod orders;
 mod sessions;
 mod status;
 mod top;
 
-pub use laws::lines_make_the_database;
+pub use laws::every_script_has_a_start;
 pub use status::{DONE, LIMIT, MEMORY, READ_FAULT, SCRIPT_LIMIT, USAGE, WRITE_FAULT};
 pub use top::brin_main;

@@ -31,16 +31,13 @@ impl Engine for Sessions {
 }
 
 impl Sessions {
-    ghost use Rattle.statements.specs.JournalAnswers.{new_opening};
-    ghost use Rattle.brin_app.specs.ScriptTexts.{script_start};
-    ghost use Rattle.brin_app.specs.Acting.{AreIdle};
-    ghost use Rattle.brin_app.specs.SessionPlaces.{place_of};
+    ghost use Rattle.line_texts.specs.Place.{Place};
+    ghost use Rattle.line_texts.specs.Starts.{IsStart};
+    ghost use Rattle.brin_app.specs.SessionPlaces.{ShowsAt};
 
     /// No session and no row, over a store of this layout.
     pub fn new(alloc: Global, layout: Layout) -> Result<Sessions, NoMemory>
-        ensures place { IfOk result (λ s. place_of s.store.state ≡ script_start) }
-        ensures opening { IfOk result (λ s. s.store.state.opening ≡ new_opening layout) }
-        ensures idle { IfOk result (λ s. AreIdle s.store.state) }
+        ensures { IfOk result (λ sessions. (p : Place) × IsStart layout p × ShowsAt layout sessions p) }
     {
         let disk = SteadyDisk::new(alloc, 0)?;
         let store = Store::plain(alloc, disk, layout)?;

@@ -5,10 +5,10 @@ ghost use Rattle.block_model.specs.Causes.{Rose};
 ghost use Rattle.store_layout.specs.DiskLayout.{DiskLayout};
 ghost use Rattle.store_layout.specs.FirstBrokenRule.{first_broken_rule};
 ghost use Rattle.block_model.specs.declared.schema.Schema.{Schema};
-ghost use Rattle.statements.specs.JournalAnswers.{new_opening};
 ghost use Rattle.schema_words.specs.DeclaredSchema.{Denotes};
 ghost use Rattle.brin_app.specs.ScriptOutput.{IsLayoutFor, AsksFor, HasNoLayout, IsUsage, IsScriptOutput, HasSpentCauses, IsComplete, exit_status};
 
+use crate::laws::every_script_has_a_start;
 use crate::sessions::Sessions;
 use crate::status::{DONE, LIMIT, MEMORY, READ_FAULT, SCRIPT_LIMIT, USAGE, WRITE_FAULT};
 use block_model::{Schema, Sizes, Words};
@@ -20,7 +20,7 @@ use std::alloc::Global;
 use store_layout::Layout;
 
 /// Does what the words of a command line say: `run` with options and the declarations of tables and indexes runs the script
-/// of the source over a new database, line after line, and writes the text of each line to the sink before the next line is
+/// of the source over new tables, line after line, and writes the text of each line to the sink before the next line is
 /// judged. The status is 0 where the script was read to its end, 2 where the words are no command or a limit is passed, 4
 /// for a read fault, 5 for a write fault, 7 for want of memory, and 8 where the requests of a line don't fit into the journal
 /// of 1048576 entries, or 1073741824 bytes of script were taken and another came.
@@ -30,7 +30,7 @@ pub fn brin_main<S: Source, K: Sink>(
     source: &mut S,
     sink: &mut K,
 ) -> u8
-    ensures script_output { (layout : DiskLayout) → AsksFor words.now layout → IsScriptOutput result (new_opening layout) (S.left source.old) (S.left source.new) (K.taken sink.old) (K.taken sink.new) }
+    ensures script_output { (layout : DiskLayout) → AsksFor words.now layout → IsScriptOutput result layout (S.left source.old) (S.left source.new) (K.taken sink.old) (K.taken sink.new) }
 
     // When each status comes. Want of memory, 7, is free.
     ensures usage { result ≡ 2 → IsUsage words.now }
@@ -38,9 +38,10 @@ pub fn brin_main<S: Source, K: Sink>(
     ensures untouched { IsUsage words.now → (source.new ≡ source.old) × (sink.new ≡ sink.old) }
     ensures read_fault { result ≡ 4 → Rose (S.faults source.old) (S.faults source.new) }
     ensures write_fault { result ≡ 5 → Rose (K.faults sink.old) (K.faults sink.new) }
-    ensures spent { (layout : DiskLayout) → AsksFor words.now layout → HasSpentCauses result (new_opening layout) (S.left source.old) (S.left source.new) }
-    ensures complete { (layout : DiskLayout) → AsksFor words.now layout → IsComplete result (new_opening layout) (S.left source.old) (Rose (S.faults source.old) (S.faults source.new)) (Rose (K.faults sink.old) (K.faults sink.new)) }
+    ensures spent { (layout : DiskLayout) → AsksFor words.now layout → HasSpentCauses result layout (S.left source.old) (S.left source.new) }
+    ensures complete { (layout : DiskLayout) → AsksFor words.now layout → IsComplete result layout (S.left source.old) (Rose (S.faults source.old) (S.faults source.new)) (Rose (K.faults sink.old) (K.faults sink.new)) }
 {
+    every_script_has_a_start();
     match read_words(alloc, words) {
         Ok(layout) => run_script(alloc, layout, source, sink),
         Err(WordsFault::Usage) => USAGE,
@@ -119,12 +120,14 @@ fn layout_of(schema: Schema, sizes: Sizes) -> Result<Layout, WordsFault>
     }
 }
 
-/// Runs the script of the source over a new database.
+/// Runs the script of the source over new tables.
 fn run_script<S: Source, K: Sink>(alloc: Global, layout: Layout, source: &mut S, sink: &mut K) -> u8
-    ensures script_output { IsScriptOutput result (new_opening layout) (S.left source.old) (S.left source.new) (K.taken sink.old) (K.taken sink.new) }
+    requires { first_broken_rule layout.schema layout.sizes ≡ None }
+    ensures script_output { IsScriptOutput result layout (S.left source.old) (S.left source.new) (K.taken sink.old) (K.taken sink.new) }
     ensures read_fault { result ≡ 4 → Rose (S.faults source.old) (S.faults source.new) }
     ensures write_fault { result ≡ 5 → Rose (K.faults sink.old) (K.faults sink.new) }
 {
+    every_script_has_a_start();
     let Ok(mut sessions) = Sessions::new(alloc, layout) else {
         return MEMORY;
     };

@@ -142,17 +142,14 @@ fn next_mark(marking: Marking) -> (Work, Turn)
         };
         return (Work::Nothing, Turn::Done(Point::Mark, all));
     }
-    (Work::Delete(Delete::Marks(marking)), Turn::Moved(Point::Mark))
+    (
+        Work::Delete(Delete::Marks(marking)),
+        Turn::Moved(Point::Mark),
+    )
 }
 
 /// Marks the row, but for a conflict.
-fn mark_hit(
-    pages: &mut PageStore<QuietDisk>,
-    tx: &TxTable,
-    own: u64,
-    table: u8,
-    hit: Hit,
-) -> Mark
+fn mark_hit(pages: &mut PageStore<QuietDisk>, tx: &TxTable, own: u64, table: u8, hit: Hit) -> Mark
     requires { table < length pages.old.layout.schema.tables }
     ensures { Leaves (⟦<QuietDisk as Disk>⟧.told) pages.old pages.new }
 {

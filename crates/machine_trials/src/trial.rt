@@ -7,9 +7,9 @@ ghost use Rattle.tx_table.specs.TxState.{IsOver};
 ghost use Rattle.machine_trials.specs.Works.{IsWorkOf, max_tables};
 
 use crate::beginnings::work_for;
+use crate::deletes::turn_delete;
 use crate::names::SESSIONS;
 use crate::quiet_disk::QuietDisk;
-use crate::deletes::turn_delete;
 use crate::transactions::{Ending, Open, begun, ending_of, ends, fail, id_for, snapshots_of};
 use crate::turns::{Turn, turn_explain, turn_insert, turn_select, turn_summarise};
 use crate::vacuums::turn_vacuum;

@@ -180,7 +180,14 @@ fn behind(
     ensures rights { length rights.new ≡ max_tables }
 {
     match next_index(layout, cleaned.table, cleaned.index) {
-        Some(index) => begin_summaries(alloc, layout, rights, Cleaned { index, ..cleaned }, point, actor),
+        Some(index) => begin_summaries(
+            alloc,
+            layout,
+            rights,
+            Cleaned { index, ..cleaned },
+            point,
+            actor,
+        ),
         None => {
             rights.give(cleaned.table, actor);
             (Work::Nothing, Turn::Done(point, reply_of(cleaned)))

@@ -1,10 +1,6 @@
-pub mod StoreState
-pub mod Submits
-pub mod Steps
-pub mod StoreFaults
-pub mod JournalState
-pub mod TablesKept
-pub mod SessionList
-pub mod Promises
-pub mod Acts
-pub mod StoreInvariant
+pub mod SessionLists
+pub mod StoreCode
+pub mod StoreKept
+pub mod SessionLaws
+pub mod Submitting
+pub mod Sessions

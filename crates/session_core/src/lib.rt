@@ -1,20 +1,17 @@
-//! The store of sessions: it takes the statements of its sessions, does each in one step, and keeps the journal of their
-//! requests. Contracts see it by its journal: the journal is legal, the database that the row versions on pages show is the one that
-//! the journal makes, one request after the other, and each reply is the definition's for the requests of the statement, all this
-//! where the disk of the pages tells its contents. A new store has its pages in memory alone, beside its disk. It stands on
-//! block_model, store_layout, statements, heap_versions, on engine_pages and page_store for the pages and for what a step may be
-//! refused, and on range_summaries. The layer above uses `Store`.
+//! The store of sessions: it takes the statements of its sessions, makes them step by step, in any order of the sessions, and keeps the
+//! journal of their requests. Contracts see it by its parts; where the disk of the pages tells its contents it shows a place of the
+//! definition of texts (store_parts/specs/ShowsPlace.antt), and each call leads from each place that is shown before it to one that is shown
+//! after it, as the definition says. It stands on store_parts, and on the crates of the steps of each kind of statement. The layer above uses
+//! `Store`.
 #![tactic(auto)]
 
-mod acts;
 mod faults;
-mod hand;
-mod journal;
-mod limits;
+mod laws;
 mod sessions;
+mod steps;
 mod store;
-mod tables;
+mod submitting;
 
-pub use faults::{SessionFault, Step, StoreFault};
-pub use limits::{ENTRIES_A_SESSION, MAX_PROMISED};
+pub use faults::SessionFault;
 pub use store::Store;
+pub use store_parts::{Step, StoreFault};

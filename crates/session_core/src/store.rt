@@ -1,102 +1,98 @@
 //! The store of sessions.
 
-ghost use Rattle.std.specs.Prelude.{◌≡◌, ◌+◌, ◌<◌, ◌≤◌, length, slice_index_or, [], None, IfOk, IfErr, OnOk, OnErr, IsSome, Option};
+ghost use Rattle.std.specs.Prelude.{◌≡◌, ◌<◌, [], length, slice_index_or, None, IfOk, IfErr, OnOk, OnErr, IsSome};
 ghost use Rattle.std.specs.Option.{is_some};
-ghost use Rattle.block_model.specs.DatabaseState.{OpenTransaction};
-ghost use Rattle.statements.specs.declared.limits.TheConstants.{MAX_SESSIONS};
-ghost use Rattle.statements.specs.JournalAnswers.{new_opening};
 ghost use Rattle.statements.specs.StatementFits.{IsStatementFor};
-ghost use Rattle.statements.specs.StatementRequests.{submission_refusal};
-ghost use Rattle.row_versions.specs.VersionsState.{standing_of};
-ghost use Rattle.session_core.specs.declared.limits.TheConstants.{MAX_PROMISED};
 ghost use Rattle.page_store.specs.Keeps.{Leaves, Tells};
 ghost use Rattle.engine_pages.specs.Kinds.{LeavesNothing};
-ghost use Rattle.session_core.specs.TablesKept.{MakesRoom};
-ghost use Rattle.session_core.specs.StoreState.{opened_store, hand_of, AreSessions, IsRefinement};
-ghost use Rattle.session_core.specs.Submits.{HasSession, Submits, submit_refusal, may_want_memory};
-ghost use Rattle.session_core.specs.Steps.{HasFaultCause, StaysReady, Steps};
+ghost use Rattle.line_texts.specs.LineTexts.{Submits, dropped_at, named};
+ghost use Rattle.line_texts.specs.Place.{Place};
+ghost use Rattle.line_texts.specs.Starts.{IsStart};
+ghost use Rattle.store_parts.specs.ShowsPlace.{ShowsPlace};
+ghost use Rattle.store_parts.specs.StepAnswers.{HasFaultCause, StaysReady};
+ghost use Rattle.store_parts.specs.StepIs.{LeadsOn, StepIs};
+ghost use Rattle.store_parts.specs.StoreStates.{hand_at};
+ghost use Rattle.store_starts.specs.OpenedParts.{NeverFails};
+ghost use Rattle.session_core.specs.Sessions.{HasSession, IsInHandThen, NamesASession, refusal_in};
+ghost use Rattle.session_core.specs.Submitting.{refusal_here};
 
-use crate::acts::{Undone, act};
-use crate::faults::{SessionFault, Step, StoreFault};
-use crate::hand::Hand;
-use crate::journal::Journal;
-use crate::limits::MAX_PROMISED;
-use crate::sessions::{Session, add_session, has_hand, number_of, put_hand, take_hand};
-use crate::tables::Tables;
+use crate::faults::SessionFault;
+use crate::laws::laws_of_sessions;
+use crate::sessions::{
+    Session, add_session, has_hand, number_of, put_hand, put_spare, take_hand, take_spare,
+};
+use crate::steps::{answered, step_of};
+use crate::submitting::{block_refusal, hand_for, standing_refusal};
 use block_model::{Entry, Name, NoMemory, Refusal};
 use disk_trait::Disk;
-use heap_versions::HeapVersions;
-use row_versions::Standing;
+use reply_texts::Dropped;
 use statements::{MAX_SESSIONS, Statement};
 use std::alloc::Global;
 use std::marker::Model;
 use store_layout::Layout;
+use store_parts::{Parts, Step, StoreFault, few_locks_are_held};
+use store_starts::plain_parts;
 
-/// A store of sessions over row versions on pages, on a disk.
+/// A store of sessions over pages on a disk.
 #[derive(Drop)]
 pub struct Store<D: Disk + Drop> {
-    alloc: Global,
-    tables: Tables<D>,
+    parts: Parts<D>,
     /// The sessions by their numbers.
     sessions: Vec<Session>,
-    journal: Journal,
 }
 
 impl<D: Disk + Drop> Model for Store<D> {
-    ghost use Rattle.session_core.specs.StoreState.{PagedStore, coded_paged};
-    ghost use Rattle.session_core.specs.StoreInvariant.{sessions_of, store_of, IsStoreKept};
+    ghost use Rattle.store_parts.specs.StoreStates.{StoreState, store_of};
+    ghost use Rattle.session_core.specs.SessionLists.{hands_of, names_of, spares_of};
+    ghost use Rattle.session_core.specs.StoreCode.{coded_store};
+    ghost use Rattle.session_core.specs.StoreKept.{IsStoreKept};
 
-    ghost Value = { PagedStore D };
+    ghost Value = { StoreState D };
 
-    ghost coded = { coded_paged D.code };
+    ghost coded = { coded_store D.code };
 
-    ghost view = { λ a. store_of a.tables a.sessions.items a.journal };
+    ghost view = { λ a. store_of a.parts (names_of a.sessions.items) (hands_of a.sessions.items) };
 
-    ghost invariant = { λ a. IsStoreKept D.told a.tables a.journal (sessions_of a.tables a.sessions.items a.journal) };
+    ghost invariant = { λ a. IsStoreKept D.told (store_of a.parts (names_of a.sessions.items) (hands_of a.sessions.items)) (spares_of a.sessions.items) };
 }
 
 impl<D: Disk + Drop> Store<D> {
-    /// A store of this layout, without sessions and rows, on pages in memory alone, beside a disk that no call touches.
+    /// A store of this layout, without sessions and rows, on pages in memory alone, beside a disk that leaves nothing and never fails.
     pub fn plain(alloc: Global, disk: D, layout: Layout) -> Result<Store<D>, NoMemory>
         requires nothing { LeavesNothing (D.told disk) }
-        ensures state { IfOk result (λ store. store.state ≡ opened_store (new_opening layout)) }
-        ensures disk { IfOk result (λ store. store.pages.disk ≡ disk) }
+        requires steady { NeverFails D.told }
+        ensures starts { IfOk result (λ store. Tells D.told store.pages → (p : Place) × IsStart layout p × ShowsPlace store p) }
+        ensures nothing { IfOk result (λ store. LeavesNothing (D.told store.pages.disk)) }
         ensures layout { IfOk result (λ store. store.pages.layout ≡ layout) }
         ensures ready { IfOk result (λ store. store.pages.failed ≡ None) }
     {
-        let tables = Tables::new(alloc, disk, layout)?;
+        let parts = plain_parts(alloc, disk, layout)?;
         let sessions = Vec::new(alloc);
-        let journal = Journal::new(alloc);
-        Ok(Store {
-            alloc,
-            tables,
-            sessions,
-            journal,
-        })
+        Ok(Store { parts, sessions })
     }
 
-    /// Does nothing; tells its caller what holds of every store, and what where the disk tells its contents.
+    /// Does nothing; tells its caller what every store shows where its disk tells its contents and no disk fault was kept.
     pub fn known(&self)
-        ensures sessions { AreSessions self.now.state }
-        ensures refines { Tells D.told self.now.pages → IsRefinement self.now.state }
+        ensures shown { Tells D.told self.now.pages → self.now.pages.failed ≡ None → (p : Place) × ShowsPlace self.now p }
     {
         // The toolchain opens the invariant where a field is read.
-        let _ = &self.alloc;
+        let _ = &self.parts;
     }
 
     /// The tables, indexes and sizes.
     pub fn layout(&self) -> &Layout
-        ensures { result.now ≡ self.now.state.opening.layout }
+        ensures { result.now ≡ self.now.pages.layout }
     {
-        self.tables.layout()
+        self.parts.pages.layout()
     }
 
     /// The number of the session of that name, from 0 in the order in which they were made; it is made where it is new. `Limit`
     /// comes exactly where it would be one more than there may be. After a refusal nothing is changed.
     pub fn session(&mut self, name: Name) -> Result<u32, SessionFault>
-        ensures named { HasSession self.old.state name self.new.state result }
-        ensures pages { self.new.pages ≡ self.old.pages }
+        ensures named { HasSession self.old name self.new result }
+        ensures places { IfOk result (λ n. LeadsOn D.told self.old self.new (λ p q. q ≡ named p name)) }
     {
+        laws_of_sessions(&self.parts);
         let number = number_of(self.sessions.as_slice(), &name);
         if number >= MAX_SESSIONS {
             return Err(SessionFault::Limit {
@@ -111,144 +107,103 @@ impl<D: Disk + Drop> Store<D> {
         Ok(number as u32)
     }
 
-    /// Takes a statement of the session, whose steps do it then. It is refused where one is in hand, or where its transaction
-    /// doesn't allow it; a begin and an explain also for want of memory. Nothing is changed then.
+    /// Takes a statement of the session, whose steps do it then. It is refused where one is in hand, where its block isn't below the greatest
+    /// number of blocks, or where its transaction doesn't allow it; a begin, an explain and maintenance also for want of memory. Nothing is
+    /// changed then.
     pub fn submit(&mut self, session: u32, statement: Statement) -> Result<(), Refusal>
-        requires session { session < length self.old.state.names }
-        requires statement { IsStatementFor self.old.state.opening.layout.schema statement }
-        ensures taken { Submits self.old.state session statement self.new.state result }
+        requires session { session < length self.old.names }
+        requires statement { IsStatementFor self.old.pages.layout.schema statement }
+        ensures submits { LeadsOn D.told self.old self.new (λ p q. Submits p session statement (refusal_in result) q) }
         ensures pages { self.new.pages ≡ self.old.pages }
+        ensures names { self.new.names ≡ self.old.names }
+        ensures same { OnErr result (self.new ≡ self.old) }
+        ensures in_hand { OnOk result (IsSome (hand_at self.new session)) }
     {
+        laws_of_sessions(&self.parts);
         if let Some(refusal) = self.refusal(session, &statement) {
             return Err(refusal);
         }
-        let Ok(hand) = hand_for(
-            self.alloc,
-            &mut self.tables.versions,
-            &mut self.journal,
-            statement,
-        ) else {
+        let Ok(hand) = hand_for(&mut self.parts, statement) else {
             return Err(Refusal::Memory);
         };
-        put_hand(&mut self.sessions, session, hand);
+        self.parts.dropped.clear(session);
+        put_hand(&mut self.sessions, session, Some(hand));
         Ok(())
     }
 
-    /// Makes one step of the statement that the session has in hand, which does the whole of it. `Spent` comes exactly where the
-    /// requests that it would enter don't all fit into the journal; nothing is changed then. Where a page is refused the
-    /// statement stays in hand too.
+    /// Makes one step of the statement that the session has in hand. `Spent` comes exactly where the requests that it would enter don't
+    /// all fit into the journal; nothing is changed then, nor where it is blocked. Where a page is refused the statement stays in hand too.
     pub fn step(&mut self, session: u32) -> Result<Step, StoreFault>
-        requires { IsSome (hand_of self.old.state session) }
-        ensures steps { Tells D.told self.old.pages → Steps self.old.state session self.new.state result }
+        requires { IsSome (hand_at self.old session) }
+        ensures steps { LeadsOn D.told self.old self.new (λ p q. StepIs p session result q) }
+        ensures hand { IsInHandThen result (hand_at self.new session) }
+        ensures holder { IfOk result (NamesASession (length self.old.names)) }
+        ensures names { self.new.names ≡ self.old.names }
         ensures leaves { Leaves D.told self.old.pages self.new.pages }
+        ensures journal { OnErr result (self.new.journal.entries ≡ self.old.journal.entries) }
         ensures ready { OnOk result (StaysReady self.old.pages self.new.pages) }
         ensures cause { IfErr result (HasFaultCause D.told self.old.pages self.new.pages) }
     {
-        self.tables.versions.known();
+        laws_of_sessions(&self.parts);
+        few_locks_are_held(&self.parts.locks);
         let hand = take_hand(&mut self.sessions, session);
-        match act(&mut self.tables, &mut self.journal, session, hand) {
-            Ok(reply) => Ok(Step::Done(reply)),
-            Err(Undone { hand, fault }) => {
-                put_hand(&mut self.sessions, session, hand);
-                Err(fault)
-            }
-        }
+        let mut spare = take_spare(&mut self.sessions, session);
+        let stepped = step_of(&mut self.parts, session, hand, &mut spare);
+        let (answer, hand) = answered(stepped);
+        put_spare(&mut self.sessions, session, spare);
+        put_hand(&mut self.sessions, session, hand);
+        answer
     }
 
     /// Whether the session has a statement in hand.
     pub fn in_hand(&self, session: u32) -> bool
-        requires { session < length self.now.state.names }
-        ensures { result ≡ is_some (hand_of self.now.state session) }
+        requires { session < length self.now.names }
+        ensures { result ≡ is_some (hand_at self.now session) }
     {
         has_hand(self.sessions.as_slice(), session)
     }
 
-    /// The session's name. Only tests ask for it.
+    /// The session's name.
     pub fn name_of(&self, session: u32) -> Name
-        requires { session < length self.now.state.names }
-        ensures { result ≡ slice_index_or self.now.state.names session [] }
+        requires { session < length self.now.names }
+        ensures { result ≡ slice_index_or self.now.names session [] }
     {
         self.sessions[session as usize].name
     }
 
+    /// The summaries for which the session's last statement asked in vain, so far.
+    pub fn dropped(&self, session: u32) -> &[Dropped]
+        requires { session < length self.now.names }
+        ensures { (p : Place) → ShowsPlace self.now p → result.now ≡ dropped_at p session }
+    {
+        self.parts.dropped.of(session)
+    }
+
     /// The requests of all statements so far, in their order. Only tests ask for them.
     pub fn journal(&self) -> &[Entry]
-        ensures { result.now ≡ self.now.state.journal }
+        ensures { result.now ≡ self.now.journal.entries }
     {
-        self.journal.as_slice()
+        self.parts.journal.as_slice()
+    }
+
+    /// The disk, as it is: open transactions are dropped as by a stop. Makes no device call.
+    pub fn into_disk(self) -> D
+        ensures { result ≡ self.pages.disk }
+    {
+        self.parts.pages.into_disk()
     }
 
     /// Why a statement of the session isn't taken.
     fn refusal(&self, session: u32, statement: &Statement) -> Option<Refusal>
-        requires { session < length self.now.state.names }
-        ensures { result ≡ submit_refusal self.now.state session statement.now }
+        requires { session < length self.now.names }
+        ensures { result ≡ refusal_here self.now session statement.now }
     {
-        if self.in_hand(session) {
+        if has_hand(self.sessions.as_slice(), session) {
             return Some(Refusal::InHand);
         }
-        transaction_refusal(self.tables.versions.standing(session), statement)
+        if let Some(refusal) = block_refusal(self.parts.pages.layout(), statement) {
+            return Some(refusal);
+        }
+        standing_refusal(self.parts.transactions.standing(session), statement)
     }
-}
-
-/// Why a statement isn't taken of a session that stands so.
-fn transaction_refusal(standing: Standing, statement: &Statement) -> Option<Refusal>
-    ensures { (transaction : Option OpenTransaction) → standing ≡ standing_of transaction → result ≡ submission_refusal transaction statement.now }
-{
-    match statement {
-        Statement::Begin => match standing {
-            Standing::Idle => None,
-            Standing::UnderWay | Standing::Failed => Some(Refusal::UnderWay),
-        },
-        Statement::Commit | Statement::Rollback => match standing {
-            Standing::Idle => Some(Refusal::NoTransaction),
-            Standing::UnderWay | Standing::Failed => None,
-        },
-        Statement::Insert { .. } | Statement::Select(_) | Statement::Delete(_) => match standing {
-            Standing::Idle => Some(Refusal::NoTransaction),
-            Standing::UnderWay => None,
-            Standing::Failed => Some(Refusal::Doomed),
-        },
-        _ => None,
-    }
-}
-
-/// A statement in hand. A begin takes what it and its transaction's end need.
-fn hand_for<D: Disk + Drop>(
-    alloc: Global,
-    versions: &mut HeapVersions<D>,
-    journal: &mut Journal,
-    statement: Statement,
-) -> Result<Hand, NoMemory>
-    ensures ok { IfOk result (λ hand. hand.statement ≡ statement) }
-    ensures err { OnErr result (statement ≡ Statement.Begin) }
-    ensures kept { MakesRoom versions.old journal.old versions.new journal.new }
-    ensures begins_more { OnOk result (statement ≡ Statement.Begin → MAX_SESSIONS ≤ versions.new.room) }
-    ensures room_more { OnOk result (statement ≡ Statement.Begin → MAX_PROMISED ≤ journal.new.room) }
-{
-    match statement {
-        Statement::Begin => begin_hand(alloc, versions, journal),
-        statement => Ok(Hand {
-            statement,
-            numbers: Vec::new(alloc),
-        }),
-    }
-}
-
-fn begin_hand<D: Disk + Drop>(
-    alloc: Global,
-    versions: &mut HeapVersions<D>,
-    journal: &mut Journal,
-) -> Result<Hand, NoMemory>
-    ensures ok { IfOk result (λ hand. hand.statement ≡ Statement.Begin) }
-    ensures kept { MakesRoom versions.old journal.old versions.new journal.new }
-    ensures begins_more { OnOk result (MAX_SESSIONS ≤ versions.new.room) }
-    ensures room_more { OnOk result (MAX_PROMISED ≤ journal.new.room) }
-{
-    let numbers = Vec::with_capacity(alloc, MAX_SESSIONS)?;
-    versions.make_room()?;
-    journal.make_room(MAX_PROMISED)?;
-    Ok(Hand {
-        statement: Statement::Begin,
-        numbers,
-    })
 }

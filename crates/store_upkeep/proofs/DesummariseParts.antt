@@ -1,5 +1,5 @@
 -- a step of a desummarise, over the parts of a store
-use Rattle.std.proofs.Common.{◌≡◌, ◌≢◌, ◌⊎◌, inl, inr, ℕ, ◌+◌, ◌<◌, ◌≤◌, List, length, Option, None, Some, refl, sym, ap, subst, ◌∙◌, arith}
+use Rattle.std.proofs.Common.{◌≡◌, ◌≢◌, ◌⊎◌, inl, inr, ℕ, ◌<◌, ◌≤◌, List, length, Option, None, Some, refl, sym, ap, subst, ◌∙◌, arith}
 use Rattle.std.specs.Prelude.{slice_get, slice_set}
 use Rattle.disk_trait.specs.Told.{Told}
 use Rattle.block_model.specs.declared.reply.Point.{Point}
@@ -10,7 +10,7 @@ use Rattle.block_model.specs.declared.reply.What.TheVariants as whats
 use Rattle.store_layout.specs.DiskLayout.{DiskLayout}
 use Rattle.page_layout.specs.PageContents.{Slot}
 use Rattle.page_store.specs.declared.faults.StoreError.{StoreError}
-use Rattle.page_store.specs.Keeps.{Keeps, Tells, Untold}
+use Rattle.page_store.specs.Keeps.{Keeps, Tells}
 use Rattle.page_store.specs.Outcome.{Refused}
 use Rattle.page_store.specs.PageMap.{PageMap, View}
 use Rattle.page_locks.specs.declared.did.Did.{Did}
@@ -19,7 +19,6 @@ use Rattle.page_locks.specs.declared.held.Held.{Held}
 use Rattle.page_locks.specs.LockCounts.{locks_of}
 use Rattle.page_locks.specs.LockHolders.{LockState, holder}
 use Rattle.page_locks.specs.RightHolders.{right_of}
-use Rattle.row_versions.specs.StoredVersions.{transaction_of}
 use Rattle.transactions.specs.Laws.{ShowAlike}
 use Rattle.index_contents.specs.IndexChanges.{LeavesOthers as LeavesOtherIndexes}
 use Rattle.index_contents.specs.IndexContents.{relation_of as index_relation}
@@ -35,7 +34,7 @@ use Rattle.table_coverage.specs.TableCovered.{IsTableKept}
 use Rattle.brin_desummarise.specs.declared.stage.Stage.{Stage}
 use Rattle.brin_desummarise.specs.declared.stage.Stage.TheVariants as stages
 use Rattle.brin_desummarise.specs.Desummarises.{DamageIn, DesummariseDoes, DesummariseState, IsAtWork, IsDesummariseOf, IsDone, IsLeft, RightAnswers, StandsAfter, count_at, held_at, step_of, table_of, taken_at}
-use Rattle.brin_desummarise.specs.TableSteps.{DoesInTable, account_by, task_of}
+use Rattle.brin_desummarise.specs.TableSteps.{DoesInTable, task_of}
 use Rattle.line_texts.specs.Beginnings.{StandsAt}
 use Rattle.line_texts.specs.Names.{index_name, name_of, table_name}
 use Rattle.line_texts.specs.Place.{Place}
@@ -183,18 +182,18 @@ module _ {D : Type 0} (told : D → Told) (parts : Parts D) (n : ℕ) (a : Desum
         moved_so told parts pages locks righted n was a.index task (count_at a.stage) fit is_it (left_by righted stays) next next_task (count_at b.stage) is_then same_statement
         (left.of, left_then b.stage work) own refl ready
         (ap (λ (i : ℕ). right_in (index_at parts.pages.layout i).table b.stage) left.index ∙ right_at_work number b.stage work) alike (inl left.leaves) point (λ names hand_list has tells p shown.
-            let old = old_store told parts pages locks righted n was a.index task (count_at a.stage) fit is_it (left_by righted stays) names hand_list has in
-            let then = new_store told parts pages locks righted n was a.index task (count_at a.stage) fit is_it (left_by righted stays) names hand_list has (Some next) in
-            let it = at_task old n was a.index task (count_at a.stage) is_it has p shown in
-            let shows = here old n was a.index task (count_at a.stage) is_it has p shown in
-            let so = came law righted (did.Moved point) does tells shows.blocks it.0 it.1 in
-            let taken = right_taken number n parts.rights righted a.stage (did.Moved point) right tt within (holds_there old n a is_it has p shown) fits.in_hand.1 in
-            let made = made_by old then n a b is_it has p shown fits.in_hand.1 point so.0 (Some n) so.2 (sym taken) in (
-              made.0,
-              made.1,
-              (λ rests. is_busy parts.pages.layout it.0 b work (sym made.1 ∙ rests)),
-              ap (λ (f : Account → Account). f (counted (count_at a.stage))) made.2 ∙ counts_on a.stage b.stage so.0 so.1,
-            ))
+        let old = old_store told parts pages locks righted n was a.index task (count_at a.stage) fit is_it (left_by righted stays) names hand_list has in
+        let then = new_store told parts pages locks righted n was a.index task (count_at a.stage) fit is_it (left_by righted stays) names hand_list has (Some next) in
+        let it = at_task old n was a.index task (count_at a.stage) is_it has p shown in
+        let shows = here old n was a.index task (count_at a.stage) is_it has p shown in
+        let so = came law righted (did.Moved point) does tells shows.blocks it.0 it.1 in
+        let taken = right_taken number n parts.rights righted a.stage (did.Moved point) right tt within (holds_there old n a is_it has p shown) fits.in_hand.1 in
+        let made = made_by old then n a b is_it has p shown fits.in_hand.1 point so.0 (Some n) so.2 (sym taken) in (
+          made.0,
+          made.1,
+          (λ rests. is_busy parts.pages.layout it.0 b work (sym made.1 ∙ rests)),
+          ap (λ (f : Account → Account). f (counted (count_at a.stage))) made.2 ∙ counts_on a.stage b.stage so.0 so.1,
+        ))
 
     -- it replies, and its table's summarise lock is given
     pub done : StepsInTable → ShowAlike → (righted given : List (Option ℕ)) (point : Point) → Does righted (did.Finished point)
@@ -209,19 +208,19 @@ module _ {D : Type 0} (told : D → Told) (parts : Parts D) (n : ℕ) (a : Desum
         let none : held_at b.stage ≡ 0 = over_free b.stage over in
         done_so told parts pages locks given n was a.index task (count_at a.stage) fit is_it (left_by given stays) (count_at b.stage) (omega (arith, own, none)) refl ready (gives_own number n righted given still gives keeps) alike (inl left.leaves) point
         (replies.Desummarized (count_at b.stage)) (λ names hand_list has tells p shown.
-            let old = old_store told parts pages locks given n was a.index task (count_at a.stage) fit is_it (left_by given stays) names hand_list has in
-            let then = new_store told parts pages locks given n was a.index task (count_at a.stage) fit is_it (left_by given stays) names hand_list has None in
-            let it = at_task old n was a.index task (count_at a.stage) is_it has p shown in
-            let shows = here old n was a.index task (count_at a.stage) is_it has p shown in
-            let so = came law righted (did.Finished point) does tells shows.blocks it.0 it.1 in
-            let taken = right_taken number n parts.rights righted a.stage (did.Finished point) right tt within (holds_there old n a is_it has p shown) fits.in_hand.1 in
-            let free : right_of given number ≡ None = gives_there number n righted given still gives keeps taken in
-            let made = made_by old then n a b is_it has p shown fits.in_hand.1 point so.0 None so.2 (sym free) in (
-              made.0,
-              made.1 ∙ is_over parts.pages.layout it.0 b over,
-              ap (λ (f : Account → Account). f (counted (count_at a.stage))) made.2 ∙ counts_on a.stage b.stage so.0 so.1,
-              refl,
-            ))
+        let old = old_store told parts pages locks given n was a.index task (count_at a.stage) fit is_it (left_by given stays) names hand_list has in
+        let then = new_store told parts pages locks given n was a.index task (count_at a.stage) fit is_it (left_by given stays) names hand_list has None in
+        let it = at_task old n was a.index task (count_at a.stage) is_it has p shown in
+        let shows = here old n was a.index task (count_at a.stage) is_it has p shown in
+        let so = came law righted (did.Finished point) does tells shows.blocks it.0 it.1 in
+        let taken = right_taken number n parts.rights righted a.stage (did.Finished point) right tt within (holds_there old n a is_it has p shown) fits.in_hand.1 in
+        let free : right_of given number ≡ None = gives_there number n righted given still gives keeps taken in
+        let made = made_by old then n a b is_it has p shown fits.in_hand.1 point so.0 None so.2 (sym free) in (
+          made.0,
+          made.1 ∙ is_over parts.pages.layout it.0 b over,
+          ap (λ (f : Account → Account). f (counted (count_at a.stage))) made.2 ∙ counts_on a.stage b.stage so.0 so.1,
+          refl,
+        ))
 
     -- nothing changed but the statement, which is the same
     module _ (alike : ShowAlike) (righted : List (Option ℕ)) (same_rights : righted ≡ parts.rights) (same : b.stage ≡ a.stage) (own : locks_of locks n ≤ held_at b.stage) (ready : StaysReady parts.pages pages)
@@ -246,13 +245,13 @@ module _ {D : Type 0} (told : D → Told) (parts : Parts D) (n : ℕ) (a : Desum
     waits_there law alike righted held does stands blocked own right ready what named =
         waits alike righted (right_same number n parts.rights righted a.stage (did.Blocked held) (waits_at_work a.stage stands.0) right) stands.1 own ready blocked.2 blocked.1 what held.by
         (blocked.0.2, inl (holder_has_lock parts.locks held.page held.by blocked.0.1)) (λ names hand_list has tells p shown.
-            let old : ShownStore = shown_of (store_of parts names hand_list) in
-            let it = at_task old n was a.index task (count_at a.stage) is_it has p shown in
-            let shows = here old n was a.index task (count_at a.stage) is_it has p shown in
-            let so = came law righted (did.Blocked held) does tells shows.blocks it.0 it.1 in
-            subst (λ (x : What). Steps p n (Waits (refusals.Blocked x (name_of p held.by))) p) (sym (named number it.0 it.1))
-            (waits_for_page old n was a.index task (count_at a.stage) is_it has p shown fits.entries held.page held.by
-            (so.0 shows.unseen it.2 shows.lock (kept_here old n was a.index task (count_at a.stage) is_it has p shown)) blocked.0.0 blocked.0.1))
+        let old : ShownStore = shown_of (store_of parts names hand_list) in
+        let it = at_task old n was a.index task (count_at a.stage) is_it has p shown in
+        let shows = here old n was a.index task (count_at a.stage) is_it has p shown in
+        let so = came law righted (did.Blocked held) does tells shows.blocks it.0 it.1 in
+        subst (λ (x : What). Steps p n (Waits (refusals.Blocked x (name_of p held.by))) p) (sym (named number it.0 it.1))
+        (waits_for_page old n was a.index task (count_at a.stage) is_it has p shown fits.entries held.page held.by
+        (so.0 shows.unseen it.2 shows.lock (kept_here old n was a.index task (count_at a.stage) is_it has p shown)) blocked.0.0 blocked.0.1))
 
     -- another session has its table's summarise lock
     pub lacks_right : StepsInTable → ShowAlike → (righted : List (Option ℕ)) (by : ℕ) → Does righted (did.NoRight by)
@@ -262,13 +261,13 @@ module _ {D : Type 0} (told : D → Told) (parts : Parts D) (n : ℕ) (a : Desum
     lacks_right law alike righted by does stands kept own right ready what named =
         let told_so : (right_of parts.rights number ≡ Some by) × (by ≢ n) × (righted ≡ parts.rights) = subst (λ (q : Stage). RightAnswers number n parts.rights righted q (did.NoRight by)) stands.0 right in
         waits alike righted told_so.2 stands.1 own ready kept.1 kept.0 what by (told_so.1, inr (number, told_so.0)) (λ names hand_list has tells p shown.
-            let old : ShownStore = shown_of (store_of parts names hand_list) in
-            let it = at_task old n was a.index task (count_at a.stage) is_it has p shown in
-            let shows = here old n was a.index task (count_at a.stage) is_it has p shown in
-            let so = came law righted (did.NoRight by) does tells shows.blocks it.0 it.1 in
-            subst (λ (x : What). Steps p n (Waits (refusals.Blocked x (name_of p by))) p) (sym named)
-            (waits_for_lock old n was a.index task (count_at a.stage) is_it has p shown fits.entries by
-            (so.0 shows.unseen it.2 shows.lock (kept_here old n was a.index task (count_at a.stage) is_it has p shown)) told_so.0))
+        let old : ShownStore = shown_of (store_of parts names hand_list) in
+        let it = at_task old n was a.index task (count_at a.stage) is_it has p shown in
+        let shows = here old n was a.index task (count_at a.stage) is_it has p shown in
+        let so = came law righted (did.NoRight by) does tells shows.blocks it.0 it.1 in
+        subst (λ (x : What). Steps p n (Waits (refusals.Blocked x (name_of p by))) p) (sym named)
+        (waits_for_lock old n was a.index task (count_at a.stage) is_it has p shown fits.entries by
+        (so.0 shows.unseen it.2 shows.lock (kept_here old n was a.index task (count_at a.stage) is_it has p shown)) told_so.0))
 
   -- the pages refuse it, and its session gives its locks
   pub refused : (shown : IsShown told parts n (hands.Desummarises a)) → TakesSound → (pages : View D) (locks given : LockState) (b : DesummariseState) (left : MachineLeft pages locks b)

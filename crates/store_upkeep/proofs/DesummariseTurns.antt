@@ -1,8 +1,7 @@
 -- a step of a desummarise, in a place that the store shows
-use Rattle.std.proofs.Common.{◌≡◌, ◌≢◌, ◌⊎◌, inl, inr, ℕ, ◌+◌, ◌/◌, ◌<◌, List, [], length, Option, None, Some, refl, sym, ap, subst, ◌∙◌}
+use Rattle.std.proofs.Common.{◌≡◌, ◌≢◌, ◌⊎◌, inl, inr, ℕ, ◌/◌, ◌<◌, List, length, Option, None, Some, refl, sym, ap, subst, ◌∙◌}
 use Rattle.std.specs.Prelude.{slice_get}
 use Rattle.std.proofs.lemmas.Option.{none-some, same_Some}
-use Rattle.block_model.specs.declared.place.Spot.{Spot}
 use Rattle.block_model.specs.declared.reply.Point.{Point}
 use Rattle.block_model.specs.DatabaseState.{OpenTransaction}
 use Rattle.store_layout.specs.DiskLayout.{DiskLayout}
@@ -17,7 +16,7 @@ use Rattle.coverage.specs.Statements.{Phase}
 use Rattle.index_steps.specs.IndexTuples.{index_at}
 use Rattle.index_steps.specs.ShownRows.{shown_by}
 use Rattle.index_steps.specs.ShownTable.{indexes_of, shown_at}
-use Rattle.table_coverage.specs.Accounts.{Account, no_account}
+use Rattle.table_coverage.specs.Accounts.{Account}
 use Rattle.table_coverage.specs.InOneIndex.{DoesAt}
 use Rattle.table_coverage.specs.Machines.{ShownTable, Unseen, table_state}
 use Rattle.table_coverage.specs.Table.{Considers, Desummarising, Job, Maintains, Resting, Task}
@@ -25,7 +24,7 @@ use Rattle.table_coverage.specs.TableCovered.{IsMaintenance}
 use Rattle.table_coverage.proofs.Views.{pick_same}
 use Rattle.brin_desummarise.specs.declared.stage.Stage.{Stage}
 use Rattle.brin_desummarise.specs.declared.stage.Stage.TheVariants as stages
-use Rattle.brin_desummarise.specs.Desummarises.{DesummariseDoes, DesummariseState, IsAtWork, IsDone, IsLeft, RightAnswers, StoreStep, count_at, in_range_of, phase_at, range_of, table_of}
+use Rattle.brin_desummarise.specs.Desummarises.{DesummariseDoes, DesummariseState, IsAtWork, IsDone, IsLeft, RightAnswers, StoreStep, count_at, phase_at, range_of, table_of}
 use Rattle.brin_desummarise.specs.TableSteps.{DesummariseGoes, DoesInTable, HasCounted, IsFirstWithin, LeavesTheRest, account_by, first_task, task_at, task_of}
 use Rattle.line_texts.specs.Beginnings.{Begins, StandsAt}
 use Rattle.line_texts.specs.Place.{Place}

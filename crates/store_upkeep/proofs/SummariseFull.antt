@@ -1,5 +1,5 @@
 -- an index that is full for a summarise
-use Rattle.std.proofs.Common.{◌≡◌, ◌≢◌, inr, ℕ, ◌+◌, ◌<◌, ◌≤◌, Bool, true, false, List, [], ◌++◌, length, Option, None, Some, refl, sym, ap, subst, ◌∙◌, arith}
+use Rattle.std.proofs.Common.{◌≡◌, ◌≢◌, inr, ℕ, ◌<◌, ◌≤◌, Bool, true, false, List, [], ◌++◌, length, Option, None, Some, refl, sym, ap, subst, ◌∙◌}
 use Rattle.std.specs.Prelude.{slice_get, slice_set}
 use Rattle.std.proofs.lemmas.Bool.{false≢true}
 use Rattle.std.proofs.lemmas.List.{append-nil}
@@ -27,18 +27,16 @@ use Rattle.transactions.specs.CountedRows.{counts as counts_of}
 use Rattle.transactions.specs.Laws.{ShowAlike}
 use Rattle.transactions.specs.TransactionsState.{TransactionsState}
 use Rattle.coverage.specs.Statements.{Phase}
-use Rattle.index_steps.specs.IndexTuples.{index_at, shape_of}
+use Rattle.index_steps.specs.IndexTuples.{index_at}
 use Rattle.index_steps.specs.ShownRows.{shown_by}
 use Rattle.index_steps.specs.ShownTable.{indexes_of}
-use Rattle.table_coverage.specs.Machines.{table_state}
 use Rattle.table_coverage.specs.Refusals.{IndexNumber, InsertFull, IsFull, IsTaskFull, MaintainFull, maintain_refusal}
-use Rattle.table_coverage.specs.Table.{Inserts, Job, Maintains, TableState, Task, index_view_at}
+use Rattle.table_coverage.specs.Table.{Job, Maintains, TableState, Task, index_view_at}
 use Rattle.table_coverage.specs.TableSteps.{IndexFull, IsInsertRefused, IsMaintainRefused}
 use Rattle.range_summarise.specs.SummariseHands.{table_of}
-use Rattle.range_summarise.specs.SummariseSteps.{phase_of}
 use Rattle.brin_summarise.specs.declared.course.Standing.TheVariants as standings
-use Rattle.brin_summarise.specs.Summarises.{FullAt, SummariseState, count_of, in_range_of}
-use Rattle.brin_summarise.specs.TableSteps.{IsSummariseFull, job_of, task_of}
+use Rattle.brin_summarise.specs.Summarises.{FullAt, SummariseState, count_of}
+use Rattle.brin_summarise.specs.TableSteps.{IsSummariseFull, task_of}
 use Rattle.line_texts.specs.Names.{index_name}
 use Rattle.line_texts.specs.Place.{Place, new_hand}
 use Rattle.line_texts.specs.StatementSteps.{Ended, IndexIsFull, Steps, StepsTo}
@@ -46,7 +44,7 @@ use Rattle.store_parts.specs.declared.hand.Hand.{Hand}
 use Rattle.store_parts.specs.declared.hand.Hand.TheVariants as hands
 use Rattle.store_parts.specs.declared.hand.Stepped.TheVariants as stepped
 use Rattle.store_parts.specs.declared.parts.Parts.{Parts}
-use Rattle.store_parts.specs.Hands.{HandShows, block_of, statement_of}
+use Rattle.store_parts.specs.Hands.{HandShows, block_of}
 use Rattle.store_parts.specs.HandsAsk.{IsNoInsert}
 use Rattle.store_parts.specs.HandsInTables.{table_in}
 use Rattle.store_parts.specs.PlacesAfter.{place_after}
@@ -176,12 +174,12 @@ module _ {D : Type 0} (told : D → Told) (parts : Parts D) (n : ℕ) (a : Summa
         apart = stays.apart;
         theirs = stays.theirs;
       }) none refl ready (inr all_given) (gives_own number n parts.rights rights inside gave kept) reply (λ names hand_list has tells p shown so now.
-          let old = shown_of (store_of parts names hand_list) in
-          let it = at_task old n (hands.Summarises a) a.index (λ at. task_of parts.pages.layout at a) (count_of a) is_there so.had p shown in
-          let shows = here old n (hands.Summarises a) a.index (λ at. task_of parts.pages.layout at a) (count_of a) is_there so.had p shown in
-          let at = (full tells).0 in
-          let held : right_of parts.rights number ≡ Some n = holds_there old n a is_there so.had p shown at in
-          let made = is_refused old _ n a is_there so p shown alike (λ place. ap (λ (m : PageMap). page_at m place) (keeps.pages tells)) all_given
-          (gives_there number n parts.rights rights inside gave kept held) now room at
-          (law parts.pages.layout parts.pages.pages parts.locks shows.blocks n it.0 room a it.1 (full tells)) in
-          (made.0, made.1, subst (λ (r : Reply). Steps p n (Ended r) made.0) (sym (named number it.0 it.1)) made.2))
+      let old = shown_of (store_of parts names hand_list) in
+      let it = at_task old n (hands.Summarises a) a.index (λ at. task_of parts.pages.layout at a) (count_of a) is_there so.had p shown in
+      let shows = here old n (hands.Summarises a) a.index (λ at. task_of parts.pages.layout at a) (count_of a) is_there so.had p shown in
+      let at = (full tells).0 in
+      let held : right_of parts.rights number ≡ Some n = holds_there old n a is_there so.had p shown at in
+      let made = is_refused old _ n a is_there so p shown alike (λ place. ap (λ (m : PageMap). page_at m place) (keeps.pages tells)) all_given
+      (gives_there number n parts.rights rights inside gave kept held) now room at
+      (law parts.pages.layout parts.pages.pages parts.locks shows.blocks n it.0 room a it.1 (full tells)) in
+      (made.0, made.1, subst (λ (r : Reply). Steps p n (Ended r) made.0) (sym (named number it.0 it.1)) made.2))

@@ -1,5 +1,5 @@
 -- a step of a summarise, over the parts of a store
-use Rattle.std.proofs.Common.{◌≡◌, ◌≢◌, ◌⊎◌, inl, inr, ℕ, ◌+◌, ◌<◌, ◌≤◌, List, length, Option, None, Some, refl, sym, ap, subst, ◌∙◌, arith}
+use Rattle.std.proofs.Common.{◌≡◌, ◌≢◌, inl, inr, ℕ, ◌+◌, ◌<◌, ◌≤◌, List, length, Option, None, Some, refl, sym, ap, subst, ◌∙◌, arith}
 use Rattle.std.specs.Prelude.{slice_get, slice_set}
 use Rattle.disk_trait.specs.Told.{Told}
 use Rattle.block_model.specs.declared.reply.Point.{Point}
@@ -10,7 +10,7 @@ use Rattle.block_model.specs.declared.reply.What.TheVariants as whats
 use Rattle.store_layout.specs.DiskLayout.{DiskLayout}
 use Rattle.page_layout.specs.PageContents.{Slot}
 use Rattle.page_store.specs.declared.faults.StoreError.{StoreError}
-use Rattle.page_store.specs.Keeps.{Keeps, Tells, Untold}
+use Rattle.page_store.specs.Keeps.{Keeps, Tells}
 use Rattle.page_store.specs.Outcome.{Refused}
 use Rattle.page_store.specs.PageMap.{PageMap, View}
 use Rattle.page_locks.specs.declared.did.Did.{Did}
@@ -44,9 +44,8 @@ use Rattle.range_summarise.specs.SummariseHands.{SummariseHand, table_of}
 use Rattle.range_summarise.specs.SummariseSteps.{RestsAt, made_at}
 use Rattle.brin_summarise.specs.declared.course.Standing.{Standing}
 use Rattle.brin_summarise.specs.declared.course.Standing.TheVariants as standings
-use Rattle.brin_summarise.specs.declared.wish.Wish.TheVariants as wishes
-use Rattle.brin_summarise.specs.Summarises.{DamageIn, IsSummariseOf, ReadyAt, RightAnswers, StandsThen, StoreStep, SummariseDoes, SummariseState, count_at, count_of, held_by, held_in, step_of, taken_by, taken_in}
-use Rattle.brin_summarise.specs.TableSteps.{DoesInTable, HasCounted, account_by, held_behind, indexes_left, task_of}
+use Rattle.brin_summarise.specs.Summarises.{DamageIn, IsSummariseOf, ReadyAt, RightAnswers, StandsThen, SummariseDoes, SummariseState, count_at, count_of, held_by, held_in, step_of, taken_by, taken_in}
+use Rattle.brin_summarise.specs.TableSteps.{DoesInTable, held_behind, indexes_left, task_of}
 use Rattle.line_texts.specs.Beginnings.{StandsAt}
 use Rattle.line_texts.specs.Names.{index_name, name_of, table_name}
 use Rattle.line_texts.specs.Place.{Place}
@@ -230,18 +229,18 @@ module _ {D : Type 0} (told : D → Told) (parts : Parts D) (n : ℕ) (a : Summa
         let stays = right_left number n parts.rights righted a.standing (did.Moved point) within right in
         moved_so told parts pages locks righted n was a.index task (count_of a) fit is_it (left_by righted stays) next next_task (count_of b) is_then same_statement
         (in_hand_then (λ done. apart (sym at ∙ done))) own refl ready right_then alike (inl left.leaves) point (λ names hand_list has tells p shown.
-            let old = old_store told parts pages locks righted n was a.index task (count_of a) fit is_it (left_by righted stays) names hand_list has in
-            let then = new_store told parts pages locks righted n was a.index task (count_of a) fit is_it (left_by righted stays) names hand_list has (Some next) in
-            let it = at_task old n was a.index task (count_of a) is_it has p shown in
-            let shows = here old n was a.index task (count_of a) is_it has p shown in
-            let so = came law righted (did.Moved point) does tells shows.blocks shows.has it.0 it.1 in
-            let taken = right_taken number n parts.rights righted a.standing (did.Moved point) right tt within (holds_there old n a is_it has p shown) fits.in_hand.1 in
-            let made = made_by old then n a b is_it has p shown fits.in_hand.1 fits.in_hand.2 point so.0 (Some n) so.2 (sym taken) in (
-              made.0,
-              made.1,
-              (λ rests. is_busy parts.pages.layout it.0 b at (sym made.1 ∙ rests)),
-              ap (λ (f : Account → Account). f (counted (count_of a))) made.2 ∙ counts_on a.wish a.standing (count_of a) so.0 (count_of b) fits.in_hand.2 so.1,
-            ))
+        let old = old_store told parts pages locks righted n was a.index task (count_of a) fit is_it (left_by righted stays) names hand_list has in
+        let then = new_store told parts pages locks righted n was a.index task (count_of a) fit is_it (left_by righted stays) names hand_list has (Some next) in
+        let it = at_task old n was a.index task (count_of a) is_it has p shown in
+        let shows = here old n was a.index task (count_of a) is_it has p shown in
+        let so = came law righted (did.Moved point) does tells shows.blocks shows.has it.0 it.1 in
+        let taken = right_taken number n parts.rights righted a.standing (did.Moved point) right tt within (holds_there old n a is_it has p shown) fits.in_hand.1 in
+        let made = made_by old then n a b is_it has p shown fits.in_hand.1 fits.in_hand.2 point so.0 (Some n) so.2 (sym taken) in (
+          made.0,
+          made.1,
+          (λ rests. is_busy parts.pages.layout it.0 b at (sym made.1 ∙ rests)),
+          ap (λ (f : Account → Account). f (counted (count_of a))) made.2 ∙ counts_on a.wish a.standing (count_of a) so.0 (count_of b) fits.in_hand.2 so.1,
+        ))
       where
         apart : standings.AtRange ≡ standings.Done → ⊥
         apart is = cc
@@ -263,20 +262,20 @@ module _ {D : Type 0} (told : D → Told) (parts : Parts D) (n : ℕ) (a : Summa
         let none : held_by b ≡ 0 = ap (λ (q : Standing). held_in b q) at in
         done_so told parts pages locks given n was a.index task (count_of a) fit is_it (left_by given stays) (count_of b) (omega (arith, own, none)) refl ready (gives_own number n righted given still gives keeps) alike (inl left.leaves) point (replies.Summarized (count_of b))
         (λ names hand_list has tells p shown.
-            let old = old_store told parts pages locks given n was a.index task (count_of a) fit is_it (left_by given stays) names hand_list has in
-            let then = new_store told parts pages locks given n was a.index task (count_of a) fit is_it (left_by given stays) names hand_list has None in
-            let it = at_task old n was a.index task (count_of a) is_it has p shown in
-            let shows = here old n was a.index task (count_of a) is_it has p shown in
-            let so = came law righted (did.Finished point) does tells shows.blocks shows.has it.0 it.1 in
-            let taken = right_taken number n parts.rights righted a.standing (did.Finished point) right tt within (holds_there old n a is_it has p shown) fits.in_hand.1 in
-            let free : right_of given number ≡ None = gives_there number n righted given still gives keeps taken in
-            let made = made_by old then n a b is_it has p shown fits.in_hand.1 fits.in_hand.2 point so.0 (held_behind a.wish n (indexes_left parts.pages.layout a.index it.0)) so.2
-            (last_gives a.wish n (indexes_left parts.pages.layout a.index it.0) fits.in_hand.2 ∙ sym free) in (
-              made.0,
-              made.1 ∙ is_over parts.pages.layout it.0 b (λ complete. fits.in_hand.2 (sym left.wish ∙ complete)) at,
-              ap (λ (f : Account → Account). f (counted (count_of a))) made.2 ∙ counts_on a.wish a.standing (count_of a) so.0 (count_of b) fits.in_hand.2 so.1,
-              refl,
-            ))
+        let old = old_store told parts pages locks given n was a.index task (count_of a) fit is_it (left_by given stays) names hand_list has in
+        let then = new_store told parts pages locks given n was a.index task (count_of a) fit is_it (left_by given stays) names hand_list has None in
+        let it = at_task old n was a.index task (count_of a) is_it has p shown in
+        let shows = here old n was a.index task (count_of a) is_it has p shown in
+        let so = came law righted (did.Finished point) does tells shows.blocks shows.has it.0 it.1 in
+        let taken = right_taken number n parts.rights righted a.standing (did.Finished point) right tt within (holds_there old n a is_it has p shown) fits.in_hand.1 in
+        let free : right_of given number ≡ None = gives_there number n righted given still gives keeps taken in
+        let made = made_by old then n a b is_it has p shown fits.in_hand.1 fits.in_hand.2 point so.0 (held_behind a.wish n (indexes_left parts.pages.layout a.index it.0)) so.2
+        (last_gives a.wish n (indexes_left parts.pages.layout a.index it.0) fits.in_hand.2 ∙ sym free) in (
+          made.0,
+          made.1 ∙ is_over parts.pages.layout it.0 b (λ complete. fits.in_hand.2 (sym left.wish ∙ complete)) at,
+          ap (λ (f : Account → Account). f (counted (count_of a))) made.2 ∙ counts_on a.wish a.standing (count_of a) so.0 (count_of b) fits.in_hand.2 so.1,
+          refl,
+        ))
 
     -- it waits for a page of its index
     pub waits_there : StepsInTable → ShowAlike → (righted : List (Option ℕ)) (held : Held)
@@ -291,15 +290,15 @@ module _ {D : Type 0} (told : D → Told) (parts : Parts D) (n : ℕ) (a : Summa
         (subst (λ (c : ℕ). IsUpkeep parts.pages.layout next a.index next_task c) (same_count a b stands.0 stands.2 stands.3) is_then) same_statement
         (in_hand_then (λ done. apart (sym stands.0 ∙ sym (ap (λ (x : SummariseState). x.standing) stands.2) ∙ done))) own refl ready (right_same (ap (λ (x : SummariseState). x.standing) stands.2)) alike (inl left.leaves) blocked.2 blocked.1 same_rights what held.by
         (blocked.0.2, inl (holder_has_lock parts.locks held.page held.by blocked.0.1)) (λ names hand_list has tells p shown.
-            let old = old_store told parts pages locks righted n was a.index task (count_of a) fit is_it (left_by righted (same_stays number n parts.rights righted same_rights)) names hand_list has in
-            let it = at_task old n was a.index task (count_of a) is_it has p shown in
-            let shows = here old n was a.index task (count_of a) is_it has p shown in
-            let so = came law righted (did.Blocked held) does tells shows.blocks shows.has in (
-              (λ place stood. (so place stood).1),
-              subst (λ (x : What). Steps p n (Waits (refusals.Blocked x (name_of p held.by))) p) (sym (named number it.0 it.1))
-                  (waits_for_page old n was a.index task (count_of a) is_it has p shown fits.entries held.page held.by
-                  ((so it.0 it.1).0 shows.unseen it.2 shows.lock (kept_here old n was a.index task (count_of a) is_it has p shown)) blocked.0.0 blocked.0.1),
-            ))
+        let old = old_store told parts pages locks righted n was a.index task (count_of a) fit is_it (left_by righted (same_stays number n parts.rights righted same_rights)) names hand_list has in
+        let it = at_task old n was a.index task (count_of a) is_it has p shown in
+        let shows = here old n was a.index task (count_of a) is_it has p shown in
+        let so = came law righted (did.Blocked held) does tells shows.blocks shows.has in (
+          (λ place stood. (so place stood).1),
+          subst (λ (x : What). Steps p n (Waits (refusals.Blocked x (name_of p held.by))) p) (sym (named number it.0 it.1))
+              (waits_for_page old n was a.index task (count_of a) is_it has p shown fits.entries held.page held.by
+              ((so it.0 it.1).0 shows.unseen it.2 shows.lock (kept_here old n was a.index task (count_of a) is_it has p shown)) blocked.0.0 blocked.0.1),
+        ))
       where
         apart : standings.AtRange ≡ standings.Done → ⊥
         apart is = cc
@@ -316,15 +315,15 @@ module _ {D : Type 0} (told : D → Told) (parts : Parts D) (n : ℕ) (a : Summa
         (subst (λ (c : ℕ). IsUpkeep parts.pages.layout next a.index next_task c) (ap count_of stands.1) is_then) same_statement
         (in_hand_then (λ done. fits.in_hand.1 (sym (ap (λ (x : SummariseState). x.standing) stands.1) ∙ done))) own refl ready (right_same (ap (λ (x : SummariseState). x.standing) stands.1)) alike (inl left.leaves) kept.1 kept.0 told_so.2 what by
         (told_so.1, inr (number, told_so.0)) (λ names hand_list has tells p shown.
-            let old = old_store told parts pages locks righted n was a.index task (count_of a) fit is_it (left_by righted (same_stays number n parts.rights righted told_so.2)) names hand_list has in
-            let it = at_task old n was a.index task (count_of a) is_it has p shown in
-            let shows = here old n was a.index task (count_of a) is_it has p shown in
-            let so = came law righted (did.NoRight by) does tells shows.blocks shows.has in (
-              (λ place stood. ap (λ (x : SummariseState). task_of parts.pages.layout place x) stands.1),
-              subst (λ (x : What). Steps p n (Waits (refusals.Blocked x (name_of p by))) p) (sym named)
-                  (waits_for_lock old n was a.index task (count_of a) is_it has p shown fits.entries by
-                  ((so it.0 it.1).0 shows.unseen it.2 shows.lock (kept_here old n was a.index task (count_of a) is_it has p shown)) told_so.0),
-            ))
+        let old = old_store told parts pages locks righted n was a.index task (count_of a) fit is_it (left_by righted (same_stays number n parts.rights righted told_so.2)) names hand_list has in
+        let it = at_task old n was a.index task (count_of a) is_it has p shown in
+        let shows = here old n was a.index task (count_of a) is_it has p shown in
+        let so = came law righted (did.NoRight by) does tells shows.blocks shows.has in (
+          (λ place stood. ap (λ (x : SummariseState). task_of parts.pages.layout place x) stands.1),
+          subst (λ (x : What). Steps p n (Waits (refusals.Blocked x (name_of p by))) p) (sym named)
+              (waits_for_lock old n was a.index task (count_of a) is_it has p shown fits.entries by
+              ((so it.0 it.1).0 shows.unseen it.2 shows.lock (kept_here old n was a.index task (count_of a) is_it has p shown)) told_so.0),
+        ))
 
   -- the pages refuse it, and its session gives its locks
   pub refused : (shown : IsShown told parts n (hands.Summarises a)) → TakesSound → (pages : View D) (locks given : LockState) (b : SummariseState) (left : MachineLeft pages locks b)

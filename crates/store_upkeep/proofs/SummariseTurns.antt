@@ -1,26 +1,19 @@
 -- a step of a summarise, in a place that the store shows
-use Rattle.std.proofs.Common.{◌≡◌, ◌≢◌, ◌⊎◌, inl, inr, ℕ, ◌+◌, ◌/◌, ◌<◌, Bool, List, [], length, Option, None, Some, refl, sym, ap, subst, ◌∙◌}
+use Rattle.std.proofs.Common.{◌≡◌, ◌≢◌, ◌⊎◌, inl, inr, ℕ, ◌/◌, ◌<◌, Bool, List, length, Option, None, Some, refl, sym, ap, subst, ◌∙◌}
 use Rattle.std.specs.Prelude.{slice_get}
 use Rattle.std.proofs.lemmas.Option.{none-some, same_Some}
-use Rattle.disk_trait.specs.Told.{Told}
 use Rattle.block_model.specs.declared.reply.Point.{Point}
-use Rattle.block_model.specs.declared.reply.Reply.TheVariants as replies
 use Rattle.block_model.specs.DatabaseState.{OpenTransaction}
 use Rattle.block_model.specs.declared.place.Spot.{Spot}
 use Rattle.store_layout.specs.DiskLayout.{DiskLayout}
 use Rattle.page_layout.specs.PageContents.{Slot}
-use Rattle.page_store.specs.Keeps.{Tells}
-use Rattle.page_store.specs.PageMap.{PageMap, View}
+use Rattle.page_store.specs.PageMap.{PageMap}
 use Rattle.page_locks.specs.declared.did.Did.{Did}
 use Rattle.page_locks.specs.declared.did.Did.TheVariants as did
-use Rattle.page_locks.specs.declared.held.Held.{Held}
-use Rattle.page_locks.specs.LockHolders.{LockState, holder}
+use Rattle.page_locks.specs.LockHolders.{LockState}
 use Rattle.page_locks.specs.RightHolders.{right_of}
-use Rattle.heap_rows.specs.HeapBlocks.{HasBlocks, OfBlocks}
-use Rattle.statements.specs.declared.statement.Statement.{Statement}
 use Rattle.statements.specs.declared.statement.Statement.TheVariants as statements
 use Rattle.coverage.specs.Statements.{Phase}
-use Rattle.index_contents.specs.IndexContents.{relation_of as index_relation}
 use Rattle.index_steps.specs.IndexTuples.{index_at, shape_of}
 use Rattle.index_steps.specs.ShownRows.{shown_by}
 use Rattle.index_steps.specs.ShownTable.{indexes_of, shown_at}
@@ -28,9 +21,7 @@ use Rattle.table_coverage.specs.Accounts.{Account, no_account}
 use Rattle.table_coverage.specs.InOneIndex.{DoesAt}
 use Rattle.table_coverage.specs.Machines.{ShownTable, Unseen, table_state}
 use Rattle.table_coverage.specs.Table.{Considers, Job, Maintains, OneRange, Resting, TableState, Task}
-use Rattle.table_coverage.specs.TableCovered.{IsMaintenance, IsTableKept}
-use Rattle.table_coverage.specs.TablePoints.{PageLock, SummariseLock, does_point}
-use Rattle.table_coverage.specs.TableSteps.{Does, Settles}
+use Rattle.table_coverage.specs.TableCovered.{IsMaintenance}
 use Rattle.table_coverage.proofs.Views.{pick_same}
 use Rattle.range_summarise.specs.SummariseHands.{table_of}
 use Rattle.range_summarise.specs.SummariseSteps.{phase_of}
@@ -38,8 +29,8 @@ use Rattle.brin_summarise.specs.declared.course.Standing.{Standing}
 use Rattle.brin_summarise.specs.declared.course.Standing.TheVariants as standings
 use Rattle.brin_summarise.specs.declared.wish.Wish.{Wish}
 use Rattle.brin_summarise.specs.declared.wish.Wish.TheVariants as wishes
-use Rattle.brin_summarise.specs.Summarises.{IsSummariseOf, RightAnswers, StoreStep, SummariseDoes, SummariseState, count_of, first_of, in_range_of, step_of}
-use Rattle.brin_summarise.specs.TableSteps.{DoesInTable, HasCounted, IsFirstWithin, LeavesTheRest, SummariseDid, SummariseGoes, account_by, before_first, behind_last, first_task, held_behind, indexes_left, job_of, task_at, task_of}
+use Rattle.brin_summarise.specs.Summarises.{IsSummariseOf, RightAnswers, StoreStep, SummariseDoes, SummariseState, count_of, first_of, in_range_of}
+use Rattle.brin_summarise.specs.TableSteps.{DoesInTable, HasCounted, IsFirstWithin, LeavesTheRest, SummariseGoes, account_by, before_first, behind_last, first_task, held_behind, indexes_left, job_of, task_at, task_of}
 use Rattle.line_texts.specs.Beginnings.{Begins, StandsAt}
 use Rattle.line_texts.specs.Place.{Place}
 use Rattle.store_parts.specs.declared.hand.Hand.TheVariants as hands
@@ -50,7 +41,7 @@ use Rattle.store_parts.specs.StoreStates.{ShownStore, hand_in}
 use Rattle.store_upkeep.proofs.SummariseLocks.{OthersStay, same_stays, set_stays, set_there}
 use Rattle.store_upkeep.proofs.UpkeepAt.{IsUpkeep, IsUpkeepAt, at_task, counted, here, kept_here, pages_show, table, unseen_here, w}
 use Rattle.store_upkeep.proofs.UpkeepPoints.{IsPlain, first_point, maintain_point}
-use Rattle.store_upkeep.proofs.UpkeepSteps.{MadeIn, TurnsSo, turned}
+use Rattle.store_upkeep.proofs.UpkeepSteps.{MadeIn, turned}
 
 -- ---- a summarise in hand
 

@@ -1,24 +1,20 @@
 -- a maintenance statement in hand, in a place that the store shows
-use Rattle.std.proofs.Common.{◌≡◌, ◌≢◌, inr, ℕ, ◌<◌, ◌≤◌, List, [], length, Option, None, Some, refl, sym, ap, subst, ◌∙◌}
+use Rattle.std.proofs.Common.{◌≡◌, ◌≢◌, ℕ, ◌<◌, ◌≤◌, List, [], length, Option, None, Some, refl, sym, ap, subst, ◌∙◌}
 use Rattle.std.specs.Prelude.{IsTrue}
-use Rattle.std.specs.FinMap as finite
 use Rattle.block_model.specs.declared.place.Place.{Place as PagePlace}
-use Rattle.block_model.specs.declared.request.Entry.{Entry}
 use Rattle.block_model.specs.DatabaseState.{OpenTransaction}
 use Rattle.block_model.specs.RequestEffect.{Answer}
 use Rattle.store_layout.specs.DiskLayout.{DiskLayout}
 use Rattle.page_layout.specs.PageContents.{Slot}
-use Rattle.page_store.specs.PageMap.{block_at, page_at}
+use Rattle.page_store.specs.PageMap.{page_at}
 use Rattle.page_locks.specs.RightHolders.{right_of}
 use Rattle.opened_pages.specs.PageOrder.{IsIndexInOrder}
-use Rattle.heap_rows.specs.Heaps.{relation_of as heap_of}
 use Rattle.snapshot_core.specs.declared.statuses.Status.{Status}
 use Rattle.row_versions.specs.declared.sessions.Open.{Open}
 use Rattle.row_versions.specs.StoredVersions.{transaction_of}
 use Rattle.statements.specs.declared.limits.TheConstants.{MAX_ENTRIES}
 use Rattle.statements.specs.declared.statement.Statement.TheVariants as statements
 use Rattle.tx_table.specs.TxState.{TxState}
-use Rattle.tx_table.specs.Statuses.{status_relation}
 use Rattle.index_contents.specs.IndexContents.{index_page, relation_of as index_relation}
 use Rattle.table_coverage.specs.Accounts.{Account, Asked, no_account}
 use Rattle.table_coverage.specs.Machines.{ShownTable, Unseen, table_state}
@@ -27,7 +23,7 @@ use Rattle.table_coverage.specs.TableCovered.{IsTableKept}
 use Rattle.index_steps.specs.IndexTuples.{index_at}
 use Rattle.index_steps.specs.ShownRows.{shown_by}
 use Rattle.line_texts.specs.Beginnings.{IsIn, StandsAt, takes_lock}
-use Rattle.line_texts.specs.Place.{Hand as HandAt, Place, database_at, new_hand}
+use Rattle.line_texts.specs.Place.{Hand as HandAt, Place, new_hand}
 use Rattle.line_texts.specs.Requests.{next_request}
 use Rattle.store_parts.specs.declared.hand.Hand.{Hand}
 use Rattle.store_parts.specs.Hands.{AnswersAre, HandShows, TellsSo, statement_of}

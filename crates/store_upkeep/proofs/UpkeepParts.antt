@@ -2,7 +2,6 @@
 use Rattle.std.proofs.Common.{◌≡◌, ◌≢◌, ◌⊎◌, inl, inr, ⊎_elim, ℕ, ◌+◌, ◌≤◌, List, [], length, Option, None, Some, refl, sym, ap, subst, ◌∙◌, arith}
 use Rattle.std.proofs.lemmas.Bool.{cases_eq}
 use Rattle.disk_trait.specs.Told.{Told}
-use Rattle.block_model.specs.declared.place.Place.{Place as PagePlace}
 use Rattle.block_model.specs.declared.reply.Point.{Point}
 use Rattle.block_model.specs.declared.reply.Refusal.TheVariants as refusals
 use Rattle.block_model.specs.declared.reply.Reply.{Reply}
@@ -29,7 +28,6 @@ use Rattle.index_order.specs.KeepsOrder.{KeepsOrder}
 use Rattle.index_steps.specs.IndexTuples.{index_at}
 use Rattle.index_steps.specs.SwapAnswers.{LeavesLocks}
 use Rattle.table_coverage.specs.Table.{Resting, Task}
-use Rattle.table_coverage.specs.TablePoints.{WaitedFor}
 use Rattle.line_texts.specs.Beginnings.{StandsAt}
 use Rattle.line_texts.specs.Names.{name_of}
 use Rattle.line_texts.specs.Place.{Place}
@@ -40,7 +38,7 @@ use Rattle.store_parts.specs.declared.hand.Stepped.TheVariants as stepped
 use Rattle.store_parts.specs.declared.parts.Parts.{Parts}
 use Rattle.store_parts.specs.Hands.{statement_of}
 use Rattle.store_parts.specs.HandFits.{FitsHand, IsHandFor, locks_held, right_held}
-use Rattle.store_parts.specs.Leaving.{ChangesLocks, GivesLocks, LeavesOthers, LocksIn}
+use Rattle.store_parts.specs.Leaving.{ChangesLocks, GivesLocks, LocksIn}
 use Rattle.store_parts.specs.Shares.{hand_share, share_of}
 use Rattle.store_parts.specs.ShowsPlace.{IsPlaceOf}
 use Rattle.store_parts.specs.StepAnswers.{HasFaultCause, StaysReady, StaysWhereUndone}
@@ -53,7 +51,7 @@ use Rattle.store_parts.proofs.Stores.{hand_changes}
 use Rattle.store_parts.proofs.Undone.{fit_of_parts, fit_of_stores}
 use Rattle.std.proofs.lemmas.Option.{none-some}
 use Rattle.store_upkeep.proofs.UpkeepAt.{IsUpkeep, UpkeepLeft, at_task, counted, table}
-use Rattle.store_upkeep.proofs.UpkeepStays.{UpkeepStays, stays_shown}
+use Rattle.store_upkeep.proofs.UpkeepStays.{stays_shown}
 use Rattle.store_upkeep.proofs.UpkeepSteps.{MadeIn, goes_on, is_done}
 
 -- what a step left of the parts: pages of its index alone changed, and of the locks its session's own, and of the summarise locks that of its table

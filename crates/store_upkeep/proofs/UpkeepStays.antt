@@ -1,5 +1,5 @@
 -- a maintenance statement that waits: the store shows the same place
-use Rattle.std.proofs.Common.{◌≡◌, ◌≢◌, ◌⊎◌, inr, ℕ, ◌≤◌, List, length, Option, None, Some, refl, sym, ap, subst, ◌∙◌}
+use Rattle.std.proofs.Common.{◌≡◌, inr, ℕ, ◌≤◌, List, length, Option, Some, sym, ap, subst, ◌∙◌}
 use Rattle.std.specs.FinMap as finite
 use Rattle.std.proofs.lemmas.Option.{same_Some}
 use Rattle.block_model.specs.declared.place.Place.{Place as PagePlace}
@@ -17,10 +17,9 @@ use Rattle.statements.specs.declared.limits.TheConstants.{MAX_ENTRIES}
 use Rattle.statements.specs.declared.statement.Statement.{Statement}
 use Rattle.transactions.specs.Laws.{ShowAlike}
 use Rattle.index_contents.specs.IndexContents.{relation_of as index_relation}
-use Rattle.table_coverage.specs.Table.{TableState, Task}
+use Rattle.table_coverage.specs.Table.{Task}
 use Rattle.table_coverage.specs.TablePoints.{IsHeldBy, PageLock, SummariseLock, WaitedFor, waits_for}
 use Rattle.table_coverage.specs.TableSteps.{IsBlocked}
-use Rattle.index_steps.specs.IndexTuples.{index_at}
 use Rattle.index_steps.specs.ShownTable.{shown_at}
 use Rattle.line_texts.specs.Beginnings.{StandsAt}
 use Rattle.line_texts.specs.Names.{name_of}
@@ -34,7 +33,7 @@ use Rattle.store_parts.specs.ShowsPlace.{IsOfTransaction, IsPlaceOf}
 use Rattle.store_parts.specs.StoreStates.{ShownStore, hand_in}
 use Rattle.store_parts.proofs.Places.{place_stays_shown}
 use Rattle.store_parts.proofs.Steps.{turn_waits}
-use Rattle.store_upkeep.proofs.UpkeepAt.{IsUpkeep, IsUpkeepAt, UpkeepLeft, at_task, counted, hand_is, here, table, told_is, upkeep_shows, w}
+use Rattle.store_upkeep.proofs.UpkeepAt.{IsUpkeep, UpkeepLeft, at_task, hand_is, here, table, told_is, upkeep_shows, w}
 use Rattle.store_upkeep.proofs.UpkeepSteps.{leads_so}
 
 -- nothing changed, but that the statement is kept anew, at the same task

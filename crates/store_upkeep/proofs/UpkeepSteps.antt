@@ -1,5 +1,5 @@
 -- a step of a maintenance statement, as a step of the place that the store shows
-use Rattle.std.proofs.Common.{◌≡◌, ◌≢◌, ◌⊎◌, inl, inr, ⊎_elim, ℕ, ◌+◌, ◌<◌, ◌≤◌, Bool, List, [], length, Option, None, Some, refl, sym, ap, subst, ◌∙◌, arith}
+use Rattle.std.proofs.Common.{◌≡◌, ◌≢◌, ◌⊎◌, inr, ℕ, ◌<◌, ◌≤◌, Bool, List, [], length, Option, None, Some, refl, sym, ap, subst, ◌∙◌, arith}
 use Rattle.std.specs.FinMap as finite
 use Rattle.std.proofs.lemmas.Option.{none-some, same_Some}
 use Rattle.block_model.specs.declared.place.Spot.{Spot}
@@ -7,7 +7,6 @@ use Rattle.block_model.specs.declared.reply.Point.{Point}
 use Rattle.block_model.specs.declared.reply.Point.TheVariants as points
 use Rattle.block_model.specs.declared.reply.Reply.{Reply}
 use Rattle.block_model.specs.declared.request.Entry.{Entry}
-use Rattle.page_layout.specs.PageContents.{Slot}
 use Rattle.page_store.specs.PageMap.{block_at}
 use Rattle.page_locks.specs.RightHolders.{right_of}
 use Rattle.heap_rows.specs.HeapBlocks.{HasBlocks}

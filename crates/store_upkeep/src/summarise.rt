@@ -15,16 +15,12 @@ ghost use Rattle.store_parts.specs.Stepping.{IsFit, IsShown, LeavesTheOthers, Ma
 
 use crate::answers::{undone, waits};
 use block_model::{Refusal, Reply};
-use brin_summarise::{
-    Summarise, a_kept_table_takes_a_summarise, a_summarise_steps_in_its_table,
-};
+use brin_summarise::{Summarise, a_kept_table_takes_a_summarise, a_summarise_steps_in_its_table};
 use disk_trait::Disk;
 use page_locks::Did;
 use page_store::MachineFault;
 use range_summarise::table_of;
-use store_parts::{
-    Hand, Parts, Stepped, fault_of, index_named, lock_waited_for, page_waited_for,
-};
+use store_parts::{Hand, Parts, Stepped, fault_of, index_named, lock_waited_for, page_waited_for};
 use transactions::other_pages_show_alike;
 
 /// A step of a summarise. The first one takes the summarise lock of its table, and with the last one, where no range is left, it replies and

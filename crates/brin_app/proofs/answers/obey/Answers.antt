@@ -1,16 +1,21 @@
-use Rattle.std.proofs.Common.{[], sym, subst}
-use Rattle.std.specs.Prelude.{Ok, refl}
+use Rattle.std.proofs.Common.{[], refl, sym, subst}
+use Rattle.std.specs.Prelude.{Ok, OnOk, ◌≡◌, ◌++◌, ℕ, List}
 use Rattle.std.proofs.lemmas.List.{append-nil}
 use Rattle.query_words.specs.declared.line.Line.{Line}
-use Rattle.query_words.specs.declared.line.Line.TheVariants as lines
-use Rattle.brin_app.specs.SessionPlaces.{IsSaid}
-use Rattle.brin_app.proofs.Saying.{said_nothing}
+use Rattle.line_texts.specs.LineTexts.{Answers, SaysNothing}
+use Rattle.brin_app.specs.Leading.{PlacesLead}
+use Rattle.brin_app.proofs.Leading.{led_still}
 use Rattle.brin_app.proofs.answers.obey.Goals as goal
 
 pub returns-in-Nothing-clause-ok : goal.returns-in-Nothing-clause-ok
 returns-in-Nothing-clause-ok c = (
   [],
   sym (append-nil c.args.out.now.items),
-  λ idle. subst (λ (line : Line). IsSaid c.args.store.now.state (Ok line) [] c.args.store.now.state) (sym c.in-Nothing.is)
-      (said_nothing c.args.store.now.state (Ok lines.Nothing) [] c.known.ensures.sessions idle refl),
+  led_still c.args.store.now c.args.store.now (λ p q. Answers p (Ok c.args.line) [] q) refl (λ p _. subst (λ (line : Line). Answers p (Ok line) [] p) (sym c.in-Nothing.is) SaysNothing),
 )
+
+pub returns-in-Say-clause-ok : goal.returns-in-Say-clause-ok
+returns-in-Say-clause-ok c =
+    subst
+    (λ (line : Line). OnOk c.say.result ((text : List ℕ) × (c.say.new.out.items ≡ c.args.out.now.items ++ text) × PlacesLead c.args.store.now c.say.new.store (λ p q. Answers p (Ok line) text q)))
+    (sym c.in-Say.is) c.say.ensures.ok

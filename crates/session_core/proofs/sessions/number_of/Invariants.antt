@@ -1,6 +1,6 @@
 use Rattle.std.proofs.Common.{◌≡◌, drop}
 use Rattle.statements.specs.SessionNumbers.{session_from}
-use Rattle.session_core.specs.SessionList.{names_of}
+use Rattle.session_core.specs.SessionLists.{names_of}
 use Rattle.session_core.proofs.sessions.number_of.Given as goal
 
 abbrev pub invariant-sessions : goal.invariant-sessions

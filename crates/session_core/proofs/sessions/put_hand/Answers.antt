@@ -1,10 +1,17 @@
-use Rattle.std.proofs.Common.{refl, Some}
-use Rattle.session_core.proofs.SessionLists.{hands_changed, names_kept}
+use Rattle.std.proofs.Common.{refl}
+use Rattle.session_core.proofs.Lists.{hands_changed, names_kept, spares_kept}
 use Rattle.session_core.proofs.sessions.put_hand.Goals as goal
 
 pub returns-clause-hands : goal.returns-clause-hands
-returns-clause-hands c = hands_changed c.args.sessions.now.items c.args.session (record { name = c.index_mut.result.now.name; hand = Some c.args.hand })
+returns-clause-hands c =
+    hands_changed c.args.sessions.now.items c.args.session (record { name = c.index_mut.result.now.name; hand = c.args.hand; spare = c.index_mut.result.now.spare })
 
 pub returns-clause-names : goal.returns-clause-names
 returns-clause-names c =
-    names_kept c.args.sessions.now.items c.args.session c.index_mut.result.now (record { name = c.index_mut.result.now.name; hand = Some c.args.hand }) c.index_mut.ensures.value refl
+    names_kept c.args.sessions.now.items c.args.session c.index_mut.result.now (record { name = c.index_mut.result.now.name; hand = c.args.hand; spare = c.index_mut.result.now.spare })
+    c.index_mut.ensures.value refl
+
+pub returns-clause-spares : goal.returns-clause-spares
+returns-clause-spares c =
+    spares_kept c.args.sessions.now.items c.args.session c.index_mut.result.now (record { name = c.index_mut.result.now.name; hand = c.args.hand; spare = c.index_mut.result.now.spare })
+    c.index_mut.ensures.value refl

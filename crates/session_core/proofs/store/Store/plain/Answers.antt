@@ -1,12 +1,22 @@
-use Rattle.std.proofs.Common.{List, length, sym, subst}
+use Rattle.std.proofs.Common.{List, sym, subst}
+use Rattle.store_parts.specs.StoreStates.{store_of}
 use Rattle.session_core.specs.declared.sessions.Session.{Session}
-use Rattle.session_core.specs.StoreInvariant.{sessions_of, IsStoreKept}
-use Rattle.session_core.proofs.Keeping.{kept_new}
+use Rattle.session_core.specs.SessionLists.{hands_of, names_of, spares_of}
+use Rattle.session_core.specs.StoreKept.{IsStoreKept}
+use Rattle.line_texts.specs.Place.{Place}
+use Rattle.line_texts.specs.Starts.{IsStart}
+use Rattle.store_parts.specs.ShowsPlace.{ShowsPlace}
+use Rattle.session_core.proofs.New.{kept_new}
 use Rattle.session_core.proofs.store.Store.plain.Goals as goal
 
 pub invariant_of-result : goal.invariant_of-result
 invariant_of-result g c =
-    let tables = c.in_ok-tables.tables in
-    let journal = c.new-journal.result in
-    subst (λ (sessions : List Session). IsStoreKept g.D.Disk.told tables journal (sessions_of tables sessions journal)) (sym c.new-sessions.ensures.items)
-    (kept_new g.D.Disk.told tables journal (length c.args.layout.schema.tables) c.in_ok-tables.ensures.fit c.in_ok-tables.ensures.sound c.in_ok-tables.ensures.database c.in_ok-tables.ensures.rows c.new-journal.ensures)
+    let parts = c.in_ok-parts.parts in
+    let new = c.in_ok-parts.ensures in
+    subst (λ (sessions : List Session). IsStoreKept g.D.Disk.told (store_of parts (names_of sessions) (hands_of sessions)) (spares_of sessions)) (sym c.new-sessions.ensures.items)
+    (kept_new g.D.Disk.told c.args.layout parts new.opened new.fits new.starts)
+
+pub returns-clause-starts : goal.returns-clause-starts
+returns-clause-starts g c = λ tells.
+    subst (λ (sessions : List Session). (p : Place) × IsStart c.args.layout p × ShowsPlace (store_of c.in_ok-parts.parts (names_of sessions) (hands_of sessions)) p) (sym c.new-sessions.ensures.items)
+    c.in_ok-parts.ensures.starts

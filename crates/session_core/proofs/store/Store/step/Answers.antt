@@ -1,68 +1,93 @@
-use Rattle.std.proofs.Common.{sym, ◌∙◌, subst, Err}
-use Rattle.page_store.specs.Keeps.{Leaves, Tells}
-use Rattle.session_core.specs.SessionList.{names_of, hands_of}
-use Rattle.session_core.specs.StoreState.{PagedStore}
-use Rattle.session_core.specs.StoreInvariant.{sessions_of}
-use Rattle.session_core.specs.Steps.{Ends, HasFaultCause, StaysReady, Steps}
-use Rattle.session_core.proofs.Acting.{undone_first}
-use Rattle.session_core.proofs.Keeping.{is_taken, kept_after, kept_undone, put_back}
-use Rattle.session_core.proofs.Ending.{ends, stops_short}
+use Rattle.std.proofs.Common.{◌≡◌, List, set, Option, None, IfSome, sym, ap, subst, ◌∙◌, arith}
+use Rattle.std.proofs.lemmas.List.{set-set}
+use Rattle.brin_insert.specs.declared.insert.Insert.{Insert}
+use Rattle.brin_insert.specs.Inserts.{IsInsertFor}
+use Rattle.store_parts.specs.declared.hand.Hand.{Hand}
+use Rattle.store_parts.specs.StepIs.{answer_of, hand_after}
+use Rattle.store_parts.specs.StoreStates.{store_of, with_hand}
+use Rattle.session_core.specs.SessionLists.{hands_of, names_of, spare_in, spares_of}
+use Rattle.session_core.proofs.Kept.{few_each, kept_as, none_beyond, session_below}
+use Rattle.session_core.proofs.Lists.{stands}
+use Rattle.session_core.proofs.Stepping.{is_step, kept_behind, step_as}
 use Rattle.session_core.proofs.store.Store.step.Goals as goal
 
-pub act-requires-clause-taken : goal.act-requires-clause-taken
-act-requires-clause-taken g c =
-    is_taken g.D.Disk.told c.self.inside.tables c.self.inside.journal (names_of c.self.inside.sessions.items) (hands_of c.self.inside.sessions.items) c.args.session c.take_hand-hand.result.statement
-    c.self.invariant c.take_hand-hand.ensures.hand
+pub few_locks_are_held-requires-clause-none : goal.few_locks_are_held-requires-clause-none
+few_locks_are_held-requires-clause-none g c =
+    let items = c.self.inside.sessions.items in
+    none_beyond g.D.Disk.told c.laws_of_sessions.ensures c.self.inside.parts (names_of items) (hands_of items) (spares_of items) c.self.invariant
 
-pub act-requires-clause-sound : goal.act-requires-clause-sound
-act-requires-clause-sound g c = λ tells. (c.self.invariant.shown tells).sound
+pub few_locks_are_held-requires-clause-few : goal.few_locks_are_held-requires-clause-few
+few_locks_are_held-requires-clause-few g c =
+    let items = c.self.inside.sessions.items in
+    few_each g.D.Disk.told c.laws_of_sessions.ensures c.self.inside.parts (names_of items) (hands_of items) (spares_of items) c.self.invariant
+
+pub step_of-stepped-requires-clause-fit : goal.step_of-stepped-requires-clause-fit
+step_of-stepped-requires-clause-fit g c =
+    let items = c.self.inside.sessions.items in
+    let there = session_below g.D.Disk.told c.laws_of_sessions.ensures c.self.inside.parts (names_of items) (hands_of items) (spares_of items) c.self.invariant c.args.session c.take_hand-hand.result c.take_hand-hand.ensures.hand in
+    (names_of items, hands_of items, c.take_hand-hand.ensures.hand, c.self.invariant.fits c.args.session (omega (arith, there, c.self.invariant.few_sessions)))
+
+pub step_of-stepped-requires-clause-spare : goal.step_of-stepped-requires-clause-spare
+step_of-stepped-requires-clause-spare g c =
+    let is : c.take_spare-spare.result ≡ spare_in (spares_of c.self.inside.sessions.items) c.args.session =
+    c.take_spare-spare.ensures.spare ∙ ap (λ (l : List (Option Insert)). spare_in l c.args.session) c.take_hand-hand.ensures.spares in
+    subst (λ (o : Option Insert). IfSome o (IsInsertFor c.self.inside.parts.pages.layout)) (sym is) (c.self.invariant.spare c.args.session)
+
+pub put_spare-requires : goal.put_spare-requires
+put_spare-requires g c =
+    let items = c.self.inside.sessions.items in
+    let there = session_below g.D.Disk.told c.laws_of_sessions.ensures c.self.inside.parts (names_of items) (hands_of items) (spares_of items) c.self.invariant c.args.session c.take_hand-hand.result c.take_hand-hand.ensures.hand in
+    stands c.take_spare-spare.new.sessions.items (names_of items) c.args.session (c.take_spare-spare.ensures.names ∙ c.take_hand-hand.ensures.names) there
+
+pub put_hand-requires : goal.put_hand-requires
+put_hand-requires g c =
+    let items = c.self.inside.sessions.items in
+    let there = session_below g.D.Disk.told c.laws_of_sessions.ensures c.self.inside.parts (names_of items) (hands_of items) (spares_of items) c.self.invariant c.args.session c.take_hand-hand.result c.take_hand-hand.ensures.hand in
+    stands c.put_spare.new.sessions.items (names_of items) c.args.session (c.put_spare.ensures.names ∙ c.take_spare-spare.ensures.names ∙ c.take_hand-hand.ensures.names) there
 
 pub invariant_of-self : goal.invariant_of-self
 invariant_of-self g c =
-    kept_after g.D.Disk.told c.self.inside.tables c.self.inside.journal (names_of c.self.inside.sessions.items) (hands_of c.self.inside.sessions.items) c.args.session c.take_hand-hand.result.statement
-    c.self.invariant c.take_hand-hand.ensures.hand c.act.new.tables c.act.new.journal c.known.ensures c.in-Ok.reply c.in-Ok.ensures.ok c.in-Ok.ensures.kept
-    (names_of c.take_hand-hand.new.sessions.items) (hands_of c.take_hand-hand.new.sessions.items) c.take_hand-hand.ensures.names c.take_hand-hand.ensures.hands
+    let items = c.self.inside.sessions.items in
+    let n = c.args.session in
+    let answer = c.step_of-stepped.result in
+    let spare = c.step_of-stepped.new.spare in
+    let names : names_of c.put_hand.new.sessions.items ≡ names_of items = c.put_hand.ensures.names ∙ c.put_spare.ensures.names ∙ c.take_spare-spare.ensures.names ∙ c.take_hand-hand.ensures.names in
+    let hands : hands_of c.put_hand.new.sessions.items ≡ with_hand (hands_of items) n (hand_after answer) =
+    c.put_hand.ensures.hands
+    ∙ ap (λ (l : List (Option Hand)). set l n c.answered-answer.result.1) (c.put_spare.ensures.hands ∙ c.take_spare-spare.ensures.hands ∙ c.take_hand-hand.ensures.hands)
+    ∙ set-set (hands_of items) n None c.answered-answer.result.1
+    ∙ ap (λ (h : Option Hand). set (hands_of items) n h) c.answered-answer.ensures.hand in
+    let spares : spares_of c.put_hand.new.sessions.items ≡ set (spares_of items) n spare =
+    c.put_hand.ensures.spares ∙ c.put_spare.ensures.spares
+    ∙ ap (λ (l : List (Option Insert)). set l n spare) (c.take_spare-spare.ensures.spares ∙ ap (λ (l : List (Option Insert)). set l n None) c.take_hand-hand.ensures.spares)
+    ∙ set-set (spares_of items) n None spare in
+    kept_as g.D.Disk.told c.step_of-stepped.new.parts (names_of items) (names_of c.put_hand.new.sessions.items) (with_hand (hands_of items) n (hand_after answer)) (hands_of c.put_hand.new.sessions.items)
+    (set (spares_of items) n spare) (spares_of c.put_hand.new.sessions.items) names hands spares
+    (kept_behind g.D.Disk.told c.laws_of_sessions.ensures c.self.inside.parts (names_of items) (hands_of items) (spares_of items) c.self.invariant c.step_of-stepped.new.parts n c.take_hand-hand.result
+    c.take_hand-hand.ensures.hand answer c.step_of-stepped.ensures.so spare c.step_of-stepped.ensures.spare)
 
-pub returns-in-Ok-clause-steps : goal.returns-in-Ok-clause-steps
-returns-in-Ok-clause-steps g c = λ tells.
-    let inside = subst (λ (s : PagedStore _). Tells g.D.Disk.told s.pages) (sym c.self.view_is) tells in
-    subst (λ (s : PagedStore _). Ends s.state c.args.session (sessions_of c.act.new.tables c.take_hand-hand.new.sessions.items c.act.new.journal) c.in-Ok.reply) c.self.view_is
-    (ends g.D.Disk.told c.self.inside.tables c.self.inside.journal (names_of c.self.inside.sessions.items) (hands_of c.self.inside.sessions.items) c.args.session c.self.invariant (c.self.invariant.shown inside) c.take_hand-hand.result.statement c.take_hand-hand.ensures.hand
-    c.act.new.tables c.act.new.journal c.in-Ok.reply (names_of c.take_hand-hand.new.sessions.items) (hands_of c.take_hand-hand.new.sessions.items) (c.in-Ok.ensures.ok inside) c.in-Ok.ensures.kept c.take_hand-hand.ensures.names c.take_hand-hand.ensures.hands)
-
-pub returns-in-Ok-clause-leaves : goal.returns-in-Ok-clause-leaves
-returns-in-Ok-clause-leaves g c = subst (λ (s : PagedStore _). Leaves g.D.Disk.told s.pages c.act.new.tables.versions.store) c.self.view_is c.in-Ok.ensures.kept.leaves
-
-pub returns-in-Ok-clause-ready : goal.returns-in-Ok-clause-ready
-returns-in-Ok-clause-ready g c = subst (λ (s : PagedStore _). StaysReady s.pages c.act.new.tables.versions.store) c.self.view_is c.in-Ok.ensures.ready
-
-pub invariant_of-self-in-Err : goal.invariant_of-self-in-Err
-invariant_of-self-in-Err g c =
-    let t = c.self.inside.tables in
-    let j = c.self.inside.journal in
-    let statement = c.take_hand-hand.result.statement in
-    kept_undone g.D.Disk.told t j (names_of c.self.inside.sessions.items) (hands_of c.self.inside.sessions.items) c.args.session statement c.self.invariant c.take_hand-hand.ensures.hand c.act.new.tables c.act.new.journal c.known.ensures
-    (λ tells. undone_first t j c.args.session statement c.act.new.tables c.act.new.journal c.in-Err.field-0.fault (c.in-Err.ensures.undone tells)) c.in-Err.ensures.still c.in-Err.ensures.stand
-    (names_of c.put_hand.new.sessions.items) (hands_of c.put_hand.new.sessions.items) (c.put_hand.ensures.names ∙ c.take_hand-hand.ensures.names)
-    (put_back g.D.Disk.told t j (names_of c.self.inside.sessions.items) (hands_of c.self.inside.sessions.items) c.args.session statement c.self.invariant c.take_hand-hand.ensures.hand
-    (hands_of c.put_hand.new.sessions.items) (hands_of c.take_hand-hand.new.sessions.items) c.in-Err.field-0.hand.statement c.take_hand-hand.ensures.hands c.put_hand.ensures.hands c.in-Err.ensures.back)
-
-pub returns-in-Err-clause-steps : goal.returns-in-Err-clause-steps
-returns-in-Err-clause-steps g c = λ tells.
-    let t = c.self.inside.tables in
-    let j = c.self.inside.journal in
-    let names = names_of c.self.inside.sessions.items in
-    let hands = hands_of c.self.inside.sessions.items in
-    let statement = c.take_hand-hand.result.statement in
-    let inside = subst (λ (s : PagedStore _). Tells g.D.Disk.told s.pages) (sym c.self.view_is) tells in
-    subst (λ (s : PagedStore _). Steps s.state c.args.session (sessions_of c.act.new.tables c.put_hand.new.sessions.items c.act.new.journal) (Err c.in-Err.field-0.fault)) c.self.view_is
-    (stops_short g.D.Disk.told t j names hands c.args.session c.self.invariant (c.self.invariant.shown inside) statement c.take_hand-hand.ensures.hand c.act.new.tables c.act.new.journal c.in-Err.field-0.fault
-    (names_of c.put_hand.new.sessions.items) (hands_of c.put_hand.new.sessions.items) (c.in-Err.ensures.undone inside) c.in-Err.ensures.still (c.put_hand.ensures.names ∙ c.take_hand-hand.ensures.names)
-    (put_back g.D.Disk.told t j names hands c.args.session statement c.self.invariant c.take_hand-hand.ensures.hand
-    (hands_of c.put_hand.new.sessions.items) (hands_of c.take_hand-hand.new.sessions.items) c.in-Err.field-0.hand.statement c.take_hand-hand.ensures.hands c.put_hand.ensures.hands c.in-Err.ensures.back))
-
-pub returns-in-Err-clause-leaves : goal.returns-in-Err-clause-leaves
-returns-in-Err-clause-leaves g c = subst (λ (s : PagedStore _). Leaves g.D.Disk.told s.pages c.act.new.tables.versions.store) c.self.view_is c.in-Err.ensures.still.leaves
-
-pub returns-in-Err-clause-cause : goal.returns-in-Err-clause-cause
-returns-in-Err-clause-cause g c = subst (λ (s : PagedStore _). HasFaultCause g.D.Disk.told s.pages c.act.new.tables.versions.store c.in-Err.field-0.fault) c.self.view_is c.in-Err.ensures.cause
+pub returns : goal.returns
+returns g c =
+    let items = c.self.inside.sessions.items in
+    let n = c.args.session in
+    let answer = c.step_of-stepped.result in
+    let names : names_of c.put_hand.new.sessions.items ≡ names_of items = c.put_hand.ensures.names ∙ c.put_spare.ensures.names ∙ c.take_spare-spare.ensures.names ∙ c.take_hand-hand.ensures.names in
+    let hands : hands_of c.put_hand.new.sessions.items ≡ with_hand (hands_of items) n (hand_after answer) =
+    c.put_hand.ensures.hands
+    ∙ ap (λ (l : List (Option Hand)). set l n c.answered-answer.result.1) (c.put_spare.ensures.hands ∙ c.take_spare-spare.ensures.hands ∙ c.take_hand-hand.ensures.hands)
+    ∙ set-set (hands_of items) n None c.answered-answer.result.1
+    ∙ ap (λ (h : Option Hand). set (hands_of items) n h) c.answered-answer.ensures.hand in
+    let step = step_as g.D.Disk.told c.args.self.now (store_of c.self.inside.parts (names_of items) (hands_of items)) c.step_of-stepped.new.parts (names_of items) (names_of c.put_hand.new.sessions.items)
+    (with_hand (hands_of items) n (hand_after answer)) (hands_of c.put_hand.new.sessions.items) n (answer_of answer) c.answered-answer.result.0 c.self.view_is names hands c.answered-answer.ensures.answer
+    (is_step g.D.Disk.told c.laws_of_sessions.ensures c.self.inside.parts (names_of items) (hands_of items) (spares_of items) c.self.invariant c.step_of-stepped.new.parts n c.take_hand-hand.result
+    c.take_hand-hand.ensures.hand answer c.step_of-stepped.ensures.so) in
+    record {
+      steps = step.steps;
+      hand = step.hand;
+      holder = step.holder;
+      names = step.names;
+      leaves = step.leaves;
+      journal = step.journal;
+      ready = step.ready;
+      cause = step.cause;
+    }

@@ -1,27 +1,46 @@
-use Rattle.std.proofs.Common.{◌≡◌, ◌<◌, None, Some, ap, sym, ◌∙◌, set, length, subst, arith}
-use Rattle.statements.specs.declared.statement.Statement.{Statement}
-use Rattle.statements.specs.StatementFits.{IsStatementFor}
-use Rattle.statements.specs.StatementRequests.{refusal_at}
-use Rattle.session_core.specs.SessionList.{names_of, hands_of}
-use Rattle.session_core.specs.StoreInvariant.{sessions_of}
-use Rattle.session_core.specs.StoreState.{PagedStore, hand_of}
-use Rattle.session_core.specs.Submits.{submit_refusal}
-use Rattle.session_core.proofs.Keeping.{none_refused, kept_in_hand, kept_roomy}
+use Rattle.std.proofs.Common.{◌≡◌, ◌<◌, length, None, Some, sym, ap, subst, ◌∙◌, arith}
+use Rattle.block_model.specs.declared.reply.Refusal.TheVariants as refusals
+use Rattle.line_texts.specs.LineTexts.{Submits}
+use Rattle.store_parts.specs.declared.parts.Parts.{Parts}
+use Rattle.store_parts.specs.StepIs.{LeadsOn}
+use Rattle.store_parts.specs.StoreStates.{StoreState, store_of, with_hand}
+use Rattle.session_core.specs.SessionLists.{hands_of, names_of, spares_of}
+use Rattle.session_core.specs.Submitting.{refusal_here}
+use Rattle.session_core.proofs.Kept.{kept_as}
+use Rattle.session_core.proofs.Taking.{forgetting, is_taken, leads_refused, leads_short, taken_as}
 use Rattle.session_core.proofs.store.Store.submit.Goals as goal
 
-pub invariant_of-self : goal.invariant_of-self
-invariant_of-self g c =
-    kept_roomy g.D.Disk.told c.self.inside.tables c.hand_for.new.versions c.self.inside.journal c.hand_for.new.journal (names_of c.self.inside.sessions.items) (hands_of c.self.inside.sessions.items) c.self.invariant c.hand_for.ensures.kept
+pub returns-in-Some-clause-submits : goal.returns-in-Some-clause-submits
+returns-in-Some-clause-submits g c =
+    leads_refused g.D.Disk.told c.laws_of_sessions.ensures c.args.self.now c.args.session c.args.statement c.in-Some.refusal (sym c.refusal.ensures ∙ c.in-Some.is)
+
+pub returns-in_default-hand_for-clause-submits : goal.returns-in_default-hand_for-clause-submits
+returns-in_default-hand_for-clause-submits g c =
+    let items = c.self.inside.sessions.items in
+    subst (λ (s : StoreState _). LeadsOn g.D.Disk.told c.args.self.now s (λ p q. Submits p c.args.session c.args.statement (Some refusals.Memory) q))
+    (sym (ap (λ (q : Parts _). store_of q (names_of items) (hands_of items)) c.in_default-hand_for.ensures.same ∙ c.self.view_is))
+    (leads_short g.D.Disk.told c.laws_of_sessions.ensures c.args.self.now c.args.session c.args.statement (sym c.refusal.ensures ∙ c.in_default.is) c.in_default-hand_for.ensures.wants)
 
 pub invariant_of-self-2 : goal.invariant_of-self-2
 invariant_of-self-2 g c =
-    let before = sessions_of c.self.inside.tables c.self.inside.sessions.items c.self.inside.journal in
-    let none : submit_refusal before c.args.session c.args.statement ≡ None = ap (λ (s : PagedStore _). submit_refusal s.state c.args.session c.args.statement) c.self.view_is ∙ sym c.refusal.ensures ∙ c.in_default.is in
-    let free = none_refused (hand_of before c.args.session) (refusal_at before.database c.args.session c.args.statement) none in
-    let below : c.args.session < length (hands_of c.self.inside.sessions.items) = omega (arith, c.requires.session, ap (λ (s : PagedStore _). length s.state.names) c.self.view_is, c.self.invariant.sessions.a_hand_each) in
-    let done = c.in-Ok.ensures in
-    kept_in_hand g.D.Disk.told c.self.inside.tables c.hand_for.new.versions c.self.inside.journal c.hand_for.new.journal (names_of c.self.inside.sessions.items) (hands_of c.self.inside.sessions.items) c.args.session c.args.statement
-    c.self.invariant below free.0 free.1 (subst (λ (s : PagedStore _). IsStatementFor s.state.opening.layout.schema c.args.statement) (sym c.self.view_is) c.requires.statement)
-    done.kept done.begins_more done.room_more
-    (names_of c.put_hand.new.sessions.items) (hands_of c.put_hand.new.sessions.items) c.put_hand.ensures.names
-    (c.put_hand.ensures.hands ∙ ap (λ (statement : Statement). set (hands_of c.self.inside.sessions.items) c.args.session (Some statement)) done.ok)
+    let items = c.self.inside.sessions.items in
+    let n = c.args.session in
+    let there : n < length (names_of items) = omega (arith, c.requires.session, ap (λ (s : StoreState _). length s.names) c.self.view_is) in
+    let none : refusal_here (store_of c.self.inside.parts (names_of items) (hands_of items)) n c.args.statement ≡ None =
+    ap (λ (s : StoreState _). refusal_here s n c.args.statement) c.self.view_is ∙ sym c.refusal.ensures ∙ c.in_default.is in
+    let taken = is_taken g.D.Disk.told c.laws_of_sessions.ensures c.self.inside.parts (names_of items) (hands_of items) (spares_of items) c.self.invariant n c.args.statement there none c.in-Ok.hand
+    c.hand_for.new.parts c.clear.new.self (record { own = c.clear.ensures.own; others = c.clear.ensures.others }) c.in-Ok.ensures.taken in
+    kept_as g.D.Disk.told (forgetting c.hand_for.new.parts c.clear.new.self) (names_of items) (names_of c.put_hand.new.sessions.items) (with_hand (hands_of items) n (Some c.in-Ok.hand)) (hands_of c.put_hand.new.sessions.items)
+    (spares_of items) (spares_of c.put_hand.new.sessions.items) c.put_hand.ensures.names c.put_hand.ensures.hands c.put_hand.ensures.spares taken.kept_now
+
+pub returns-clause-submits : goal.returns-clause-submits
+returns-clause-submits g c =
+    let items = c.self.inside.sessions.items in
+    let n = c.args.session in
+    let there : n < length (names_of items) = omega (arith, c.requires.session, ap (λ (s : StoreState _). length s.names) c.self.view_is) in
+    let none : refusal_here (store_of c.self.inside.parts (names_of items) (hands_of items)) n c.args.statement ≡ None =
+    ap (λ (s : StoreState _). refusal_here s n c.args.statement) c.self.view_is ∙ sym c.refusal.ensures ∙ c.in_default.is in
+    let taken = is_taken g.D.Disk.told c.laws_of_sessions.ensures c.self.inside.parts (names_of items) (hands_of items) (spares_of items) c.self.invariant n c.args.statement there none c.in-Ok.hand
+    c.hand_for.new.parts c.clear.new.self (record { own = c.clear.ensures.own; others = c.clear.ensures.others }) c.in-Ok.ensures.taken in
+    taken_as g.D.Disk.told c.args.self.now (store_of c.self.inside.parts (names_of items) (hands_of items)) (forgetting c.hand_for.new.parts c.clear.new.self) (names_of items) (names_of c.put_hand.new.sessions.items)
+    (with_hand (hands_of items) n (Some c.in-Ok.hand)) (hands_of c.put_hand.new.sessions.items) (λ p q. Submits p n c.args.statement None q) c.self.view_is c.put_hand.ensures.names c.put_hand.ensures.hands taken.leads

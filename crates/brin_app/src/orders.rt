@@ -1,0 +1,164 @@
+//! What an order of a session does.
+
+ghost use Rattle.std.specs.Prelude.{◌≡◌, ◌<◌, None, IfOk, IfErr, OnErr, IsSome, length};
+ghost use Rattle.store_parts.specs.StoreStates.{hand_at};
+ghost use Rattle.session_core.specs.Sessions.{NamesASession};
+ghost use Rattle.query_words.specs.LineFits.{IsOrderFor};
+ghost use Rattle.statements.specs.StatementFits.{IsStatementFor};
+ghost use Rattle.brin_app.specs.Leading.{PlacesLead};
+ghost use Rattle.brin_app.specs.Orders.{IsCutShort, DoesSo, FinishesSo, IsHalted, IsInHandStill, IsNotMade, StepsSo, step_answer};
+
+use block_model::{Point, Refusal, Reply};
+use disk_trait::SteadyDisk;
+use query_words::Order;
+use script_run::AnswerFault;
+use session_core::{Step, Store, StoreFault};
+use statements::Statement;
+
+/// What an order of a session is answered: its statement is started; goes on behind a step of this name; ends with this reply; or this is why
+/// it isn't taken, or isn't stepped.
+#[derive(Debug, Drop)]
+pub enum Answer {
+    Started,
+    Moved(Point),
+    Ended(Reply),
+    Refused(Refusal),
+}
+
+/// Does what an order of the session says.
+pub fn act(store: &mut Store<SteadyDisk>, session: u32, order: Order) -> Result<Answer, AnswerFault>
+    requires session { session < length store.old.names }
+    requires order { IsOrderFor store.old.pages.layout.schema order }
+    requires ready { store.old.pages.failed ≡ None }
+    ensures ready { store.new.pages.failed ≡ None }
+    ensures names { store.new.names ≡ store.old.names }
+    ensures ok { IfOk result (λ answer. PlacesLead store.old store.new (DoesSo session order answer)) }
+    ensures stops { IfErr result (λ fault. PlacesLead store.old store.new (IsCutShort session order fault)) }
+{
+    match order {
+        Order::Whole(statement) => whole(store, session, statement),
+        Order::Start(statement) => Ok(start(store, session, statement)),
+        Order::Step => step_once(store, session),
+        Order::Finish => step_through(store, session),
+    }
+}
+
+/// Takes the statement and makes its steps, or says why it isn't taken.
+fn whole(
+    store: &mut Store<SteadyDisk>,
+    session: u32,
+    statement: Statement,
+) -> Result<Answer, AnswerFault>
+    requires session { session < length store.old.names }
+    requires statement { IsStatementFor store.old.pages.layout.schema statement }
+    requires ready { store.old.pages.failed ≡ None }
+    ensures ready { store.new.pages.failed ≡ None }
+    ensures names { store.new.names ≡ store.old.names }
+    ensures ok { IfOk result (λ answer. PlacesLead store.old store.new (DoesSo session (Order.Whole statement) answer)) }
+    ensures stops { IfErr result (λ fault. PlacesLead store.old store.new (IsCutShort session (Order.Whole statement) fault)) }
+{
+    match store.submit(session, statement) {
+        Ok(()) => finish(store, session),
+        Err(refusal) => Ok(Answer::Refused(refusal)),
+    }
+}
+
+/// Takes the statement, or says why it isn't taken.
+fn start(store: &mut Store<SteadyDisk>, session: u32, statement: Statement) -> Answer
+    requires session { session < length store.old.names }
+    requires statement { IsStatementFor store.old.pages.layout.schema statement }
+    requires ready { store.old.pages.failed ≡ None }
+    ensures ready { store.new.pages.failed ≡ None }
+    ensures names { store.new.names ≡ store.old.names }
+    ensures ok { PlacesLead store.old store.new (DoesSo session (Order.Start statement) result) }
+{
+    match store.submit(session, statement) {
+        Ok(()) => Answer::Started,
+        Err(refusal) => Answer::Refused(refusal),
+    }
+}
+
+/// Makes one step of the session's statement, or says that there is none.
+fn step_once(store: &mut Store<SteadyDisk>, session: u32) -> Result<Answer, AnswerFault>
+    requires session { session < length store.old.names }
+    requires ready { store.old.pages.failed ≡ None }
+    ensures ready { store.new.pages.failed ≡ None }
+    ensures names { store.new.names ≡ store.old.names }
+    ensures ok { IfOk result (λ answer. PlacesLead store.old store.new (DoesSo session Order.Step answer)) }
+    ensures stops { IfErr result (λ fault. PlacesLead store.old store.new (IsCutShort session Order.Step fault)) }
+{
+    if !store.in_hand(session) {
+        return Ok(Answer::Refused(Refusal::NothingStarted));
+    }
+    step(store, session)
+}
+
+/// Makes all steps that are left of the session's statement, or says that there is none.
+fn step_through(store: &mut Store<SteadyDisk>, session: u32) -> Result<Answer, AnswerFault>
+    requires session { session < length store.old.names }
+    requires ready { store.old.pages.failed ≡ None }
+    ensures ready { store.new.pages.failed ≡ None }
+    ensures names { store.new.names ≡ store.old.names }
+    ensures ok { IfOk result (λ answer. PlacesLead store.old store.new (DoesSo session Order.Finish answer)) }
+    ensures stops { IfErr result (λ fault. PlacesLead store.old store.new (IsCutShort session Order.Finish fault)) }
+{
+    if !store.in_hand(session) {
+        return Ok(Answer::Refused(Refusal::NothingStarted));
+    }
+    finish(store, session)
+}
+
+/// Makes the steps of the session's statement up to its reply, or up to one that waits. A statement comes to one of them behind far fewer
+/// steps than the loop makes; but nothing here says so, and behind the last round the answer would be want of memory, as it may be behind
+/// any step. No run comes there: at a step a nanosecond the rounds take five hundred years.
+fn finish(store: &mut Store<SteadyDisk>, session: u32) -> Result<Answer, AnswerFault>
+    requires hand { IsSome (hand_at store.old session) }
+    requires ready { store.old.pages.failed ≡ None }
+    ensures ready { store.new.pages.failed ≡ None }
+    ensures names { store.new.names ≡ store.old.names }
+    ensures ok { IfOk result (λ answer. PlacesLead store.old store.new (FinishesSo session answer)) }
+    ensures stops { IfErr result (λ fault. PlacesLead store.old store.new (IsHalted session fault)) }
+{
+    'steps: for _ in 0..u64::MAX {
+        match step(store, session)? {
+            Answer::Moved(_) => {}
+            answer => return Ok(answer),
+        }
+    }
+    Err(AnswerFault::Memory)
+}
+
+/// Makes one step of the session's statement.
+fn step(store: &mut Store<SteadyDisk>, session: u32) -> Result<Answer, AnswerFault>
+    requires hand { IsSome (hand_at store.old session) }
+    requires ready { store.old.pages.failed ≡ None }
+    ensures ready { store.new.pages.failed ≡ None }
+    ensures names { store.new.names ≡ store.old.names }
+    ensures hand { IfOk result (λ answer. IsInHandStill answer (hand_at store.new session)) }
+    ensures ok { IfOk result (λ answer. PlacesLead store.old store.new (StepsSo session answer)) }
+    ensures full { IfErr result (λ fault. fault ≡ AnswerFault.Full) }
+    ensures stops { OnErr result (PlacesLead store.old store.new (IsNotMade session)) }
+{
+    match store.step(session) {
+        Ok(step) => Ok(told(store, step)),
+        Err(StoreFault::Spent { .. }) => Err(AnswerFault::Full),
+        Err(StoreFault::Disk | StoreFault::Reopen { .. } | StoreFault::Damaged { .. }) => {
+            unreachable!()
+        }
+    }
+}
+
+/// What is told of a step. A session for which it waits goes by its name.
+fn told(store: &Store<SteadyDisk>, step: Step) -> Answer
+    requires { NamesASession (length store.now.names) step }
+    ensures { result ≡ step_answer store.now.names step }
+{
+    match step {
+        Step::Moved(point) => Answer::Moved(point),
+        Step::Done(reply) => Answer::Ended(reply),
+        Step::Blocked { what, holder } => {
+            let holder = store.name_of(holder);
+            Answer::Refused(Refusal::Blocked { what, holder })
+        }
+    }
+}

@@ -1,7 +1,0 @@
-pub mod Asked
-pub mod Leading
-pub mod Outputs
-pub mod Saying
-pub mod Simulated
-pub mod Starting
-pub mod Stepping

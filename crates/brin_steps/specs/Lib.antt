@@ -1,6 +1,0 @@
-pub mod Leading
-pub mod Orders
-pub mod SessionPlaces
-pub mod ScriptOutput
-pub mod Simulations
-pub mod WordsFaults

@@ -1,0 +1,39 @@
+-- a store without sessions
+use Rattle.std.proofs.Common.{◌≡◌, ℕ, zero, suc, ◌<◌, List, [], get_or, Option, None, sym, refl, ◌∙◌, arith}
+use Rattle.std.proofs.lemmas.Option.{none-some}
+use Rattle.disk_trait.specs.Told.{Told}
+use Rattle.statements.specs.declared.limits.TheConstants.{MAX_SESSIONS}
+use Rattle.store_layout.specs.DiskLayout.{DiskLayout}
+use Rattle.row_versions.specs.declared.sessions.Open.{Open}
+use Rattle.row_versions.specs.StoredVersions.{transaction_of}
+use Rattle.store_parts.specs.declared.parts.Parts.{Parts}
+use Rattle.store_parts.specs.HandFits.{FitsStore}
+use Rattle.store_parts.specs.ShareLaws.{shares_below}
+use Rattle.store_parts.specs.Shares.{share_of}
+use Rattle.store_parts.specs.StoreStates.{hand_in, store_of}
+use Rattle.store_starts.specs.OpenedParts.{AreOpened, ShowsStart}
+use Rattle.session_core.specs.StoreKept.{IsStoreKept}
+
+none_there : {A : Type 0} (n : ℕ) → get_or {A = Option A} [] n None ≡ None
+none_there zero = refl
+none_there (suc n) = refl
+
+no_share : (opens : List (Option Open)) → ((n : ℕ) → transaction_of opens n ≡ None) → (n : ℕ) → share_of (hand_in [] n) (transaction_of opens n) ≡ 0
+no_share opens idle n = λ i. share_of (none_there n i) (idle n i)
+
+no_shares : (count : ℕ) (opens : List (Option Open)) → ((n : ℕ) → transaction_of opens n ≡ None) → shares_below count [] opens ≡ 0
+no_shares zero opens idle = refl
+no_shares (suc n) opens idle = omega (arith, no_shares n opens idle, no_share opens idle n)
+
+pub kept_new : {D : Type 0} (told : D → Told) (layout : DiskLayout) (parts : Parts D) → AreOpened told parts → ((n : ℕ) → n < MAX_SESSIONS → FitsStore told (store_of parts [] []) n)
+    → ShowsStart layout (store_of parts [] []) → IsStoreKept told (store_of parts [] []) []
+kept_new told layout parts opened fits start = record {
+  few_sessions = omega arith;
+  a_hand_each = refl;
+  a_spare_each = refl;
+  fits = fits;
+  nobody = λ n high. record { transaction = opened.idle n; locks = opened.locks n; rights = λ table is. none-some n (sym (opened.free table) ∙ is) };
+  promised = opened.promised ∙ sym (no_shares MAX_SESSIONS parts.transactions.opens opened.idle);
+  spare = λ n. tt;
+  shown = λ tells ready. (start.0, start.2);
+}

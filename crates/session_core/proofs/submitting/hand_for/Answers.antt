@@ -1,0 +1,15 @@
+use Rattle.std.proofs.Common.{subst}
+use Rattle.statements.specs.declared.statement.Statement.{Statement}
+use Rattle.statements.specs.StatementFits.{IsStatementFor}
+use Rattle.session_core.proofs.Declared.{index_below}
+use Rattle.session_core.proofs.submitting.hand_for.Goals as goal
+
+pub summarise_hand-requires : goal.summarise_hand-requires
+summarise_hand-requires g c =
+    let schema = c.args.parts.now.pages.layout.schema in
+    index_below schema c.in-Summarize.index (subst (λ (s : Statement). IsStatementFor schema s) c.in-Summarize.is c.requires)
+
+pub desummarise_hand-requires : goal.desummarise_hand-requires
+desummarise_hand-requires g c =
+    let schema = c.args.parts.now.pages.layout.schema in
+    index_below schema c.in-Desummarize.index (subst (λ (s : Statement). IsStatementFor schema s) c.in-Desummarize.is c.requires)

@@ -1,0 +1,43 @@
+-- when a session is there, when a statement is taken, and what a session has in hand behind a step
+use Rattle.std.specs.Prelude.{◌≡◌, ℕ, ◌<◌, nat_lt, List, ◌++◌, [], ◌∷◌, length, true, false, Option, None, Some, IsSome, Result, Ok, Err, if◌then◌else◌}
+use Rattle.block_model.specs.declared.reply.Refusal.{Refusal}
+use Rattle.statements.specs.declared.limits.TheConstants.{MAX_SESSIONS}
+use Rattle.statements.specs.SessionNumbers.{session_number, with_session, is_past_sessions}
+use Rattle.store_parts.specs.declared.faults.Step.{Step}
+use Rattle.store_parts.specs.declared.faults.Step.TheVariants as steps
+use Rattle.store_parts.specs.declared.faults.StoreFault.{StoreFault}
+use Rattle.store_parts.specs.declared.hand.Hand.{Hand}
+use Rattle.store_parts.specs.StoreStates.{StoreState}
+use Rattle.session_core.specs.declared.faults.SessionFault.{SessionFault}
+use Rattle.session_core.specs.declared.faults.SessionFault.TheVariants as faults
+
+-- a session of that name is there, made where it is new, with nothing in hand
+abbrev pub with_name : {D : Type 0} → StoreState D → List ℕ → StoreState D
+with_name s name = record s {
+  names = with_session s.names name;
+  hands = if nat_lt (session_number s.names name) (length s.names) then s.hands else s.hands ++ None ∷ [];
+}
+
+-- A session of that name gets its number, and is one of the store's then. A further one than there may be is refused, exactly
+-- there; else memory may be short. After a refusal nothing is changed.
+abbrev pub HasSession : {D : Type 0} → StoreState D → List ℕ → StoreState D → Result ℕ SessionFault → Type 0
+HasSession s name s' (Ok n) = (is_past_sessions s.names name ≡ false) × (n ≡ session_number s.names name) × (s' ≡ with_name s name) × (n < length s'.names)
+HasSession s name s' (Err (faults.Limit limit)) = (is_past_sessions s.names name ≡ true) × (limit ≡ MAX_SESSIONS) × (s' ≡ s)
+HasSession s name s' (Err faults.Memory) = (is_past_sessions s.names name ≡ false) × (s' ≡ s)
+
+-- why a statement was refused, if it was
+abbrev pub refusal_in : {T : Type 0} → Result T Refusal → Option Refusal
+refusal_in (Ok _) = None
+refusal_in (Err refusal) = Some refusal
+
+-- behind a step the statement is in hand, but behind its reply nothing is
+abbrev pub IsInHandThen : Result Step StoreFault → Option Hand → Type 0
+IsInHandThen (Ok (steps.Moved point)) hand = IsSome hand
+IsInHandThen (Ok (steps.Done reply)) hand = hand ≡ None
+IsInHandThen (Ok (steps.Blocked what holder)) hand = IsSome hand
+IsInHandThen (Err fault) hand = IsSome hand
+
+-- where a step waits, it is for one of so many sessions
+abbrev pub NamesASession : ℕ → Step → Type 0
+NamesASession sessions (steps.Blocked what holder) = holder < sessions
+NamesASession sessions step = Unit {0}

@@ -1,0 +1,62 @@
+//! Which crate makes a statement's step, and what comes of it.
+
+ghost use Rattle.std.specs.Prelude.{◌≡◌, ◌+◌, ◌≤◌, IfSome};
+ghost use Rattle.page_locks.specs.LockHolders.{count_of};
+ghost use Rattle.brin_insert.specs.Inserts.{IsInsertFor};
+ghost use Rattle.store_parts.specs.declared.limits.TheConstants.{LOCKS_A_SESSION, MAX_LOCKS};
+ghost use Rattle.store_parts.specs.StepIs.{answer_of, hand_after};
+ghost use Rattle.store_parts.specs.Stepping.{IsFit, IsShown};
+ghost use Rattle.store_parts.specs.UndoneLaws.{StepsSo};
+
+use brin_insert::Insert;
+use disk_trait::Disk;
+use store_inserts::{insert_on, put_row};
+use store_marks::mark;
+use store_parts::{Hand, Parts, Step, Stepped, StoreFault};
+use store_scans::{begin_delete, begin_select, delete_on, select_on};
+use store_transactions::{begin, commit, roll_back};
+use store_upkeep::{desummarise_on, explain_on, summarise_on};
+
+/// Makes the next step of the statement. The session's spare machine serves the next row of its table.
+pub(crate) fn step_of<D: Disk + Drop>(
+    parts: &mut Parts<D>,
+    session: u32,
+    hand: Hand,
+    spare: &mut Option<Insert>,
+) -> Stepped
+    requires fit { IsFit D.told parts.old session hand }
+    requires few { count_of parts.old.locks + LOCKS_A_SESSION ≤ MAX_LOCKS }
+    requires shown { IsShown D.told parts.old session hand }
+    requires spare { IfSome spare.old (IsInsertFor parts.old.pages.layout) }
+    ensures so { StepsSo D.told parts.old parts.new session hand result }
+    ensures spare { IfSome spare.new (IsInsertFor parts.old.pages.layout) }
+{
+    match hand {
+        Hand::Begins(numbers) => begin(parts, session, numbers),
+        Hand::Commits => commit(parts, session),
+        Hand::RollsBack => roll_back(parts, session),
+        Hand::Puts { table, values } => put_row(parts, session, table, values, spare),
+        Hand::Inserts(insert) => insert_on(parts, session, insert, spare),
+        Hand::Selecting(query) => begin_select(parts, session, query),
+        Hand::Selects(scan) => select_on(parts, session, scan),
+        Hand::Deleting(query) => begin_delete(parts, session, query),
+        Hand::Deletes(scan) => delete_on(parts, session, scan),
+        Hand::Marks(marking) => mark(parts, session, marking),
+        Hand::Explains(explain) => explain_on(parts, session, explain),
+        Hand::Summarises(summarise) => summarise_on(parts, session, summarise),
+        Hand::Desummarises(desummarise) => desummarise_on(parts, session, desummarise),
+    }
+}
+
+/// The answer of a step, and what the session has in hand then.
+pub(crate) fn answered(stepped: Stepped) -> (Result<Step, StoreFault>, Option<Hand>)
+    ensures answer { result.0 ≡ answer_of stepped }
+    ensures hand { result.1 ≡ hand_after stepped }
+{
+    match stepped {
+        Stepped::Moved { point, hand } => (Ok(Step::Moved(point)), Some(hand)),
+        Stepped::Done(reply) => (Ok(Step::Done(reply)), None),
+        Stepped::Blocked { what, holder, hand } => (Ok(Step::Blocked { what, holder }), Some(hand)),
+        Stepped::Undone { fault, hand } => (Err(fault), Some(hand)),
+    }
+}

@@ -1,4 +1,0 @@
-use Rattle.session_steps.proofs.waiting.begin_select.Goals as goal
-
-pub unreachable-requires : goal.unreachable-requires
-unreachable-requires g c = ?

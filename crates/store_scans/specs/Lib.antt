@@ -1,0 +1,5 @@
+pub mod Looks
+pub mod FoundLists
+pub mod ScanSteps
+pub mod Finishes
+pub mod LookLaws
