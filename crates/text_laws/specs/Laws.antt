@@ -1,6 +1,6 @@
 -- what holds at every place to which a script comes
 use Rattle.std.specs.FinMap as map
-use Rattle.std.specs.Prelude.{◌≡◌, ◌≢◌, ◌⊎◌, ◌↔◌, ℕ, ◌≤◌, ◌<◌, false, List, Option, None, Some}
+use Rattle.std.specs.Prelude.{◌≡◌, ◌≢◌, ◌⊎◌, ◌↔◌, ℕ, ◌≤◌, ◌<◌, false, List, length, Option, None, Some}
 use Rattle.block_model.specs.declared.reply.Refusal.{Refusal}
 use Rattle.block_model.specs.declared.reply.Refusal.TheVariants as refusals
 use Rattle.block_model.specs.declared.reply.What.{What}
@@ -49,6 +49,11 @@ IsAlone p n = (m : ℕ) → (m ≡ n) ⊎ (p.hands m ≡ None)
 abbrev pub NoStepWaitsAlone : Type 0
 NoStepWaitsAlone = (layout : DiskLayout) (p q : Place) (n : ℕ) (hand : Hand) (told : Refusal) → first_broken_rule layout.schema layout.sizes ≡ None → IsReached layout p → p.hands n ≡ Some hand
     → IsAlone p n → StepsTo p n hand (Waits told) q → ⊥
+
+-- a session without a statement in hand is at nothing in any table of the layout, and a statement that is taken then begins there
+abbrev pub RestsWithoutStatement : Type 0
+RestsWithoutStatement = (layout : DiskLayout) (p : Place) (n table : ℕ) → first_broken_rule layout.schema layout.sizes ≡ None → IsReached layout p → p.hands n ≡ None
+    → table < length layout.schema.tables → (p.tables table).task n ≡ Resting
 
 -- a place behind lines that were answered is one to which the script comes
 abbrev pub AnsweredLinesReach : Type 0

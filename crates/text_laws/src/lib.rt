@@ -9,4 +9,7 @@ mod waiting;
 
 pub use looking::a_select_misses_nothing;
 pub use maintaining::{a_desummarize_answers_its_range, a_summarize_leaves_no_range_out};
-pub use waiting::{a_step_waits_for_a_statement_in_hand, answered_lines_lead_there};
+pub use waiting::{
+    a_session_without_statement_rests, a_step_waits_for_a_statement_in_hand,
+    answered_lines_lead_there,
+};
