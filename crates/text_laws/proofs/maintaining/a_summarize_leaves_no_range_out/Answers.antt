@@ -1,0 +1,18 @@
+use Rattle.std.proofs.Common.{None, refl}
+use Rattle.index_steps.specs.IndexTuples.{index_at}
+use Rattle.query_words.proofs.FitLemmas.{KnowsValues}
+use Rattle.statements.specs.declared.statement.Statement.TheVariants as statements
+use Rattle.store_layout.proofs.FirstBroken.{keeps_limits}
+use Rattle.text_laws.proofs.Fits.{home_below, home_in}
+use Rattle.text_laws.proofs.Reaching.{reached_is_orderly}
+use Rattle.text_laws.proofs.Summing.{summarize_counts}
+use Rattle.text_laws.proofs.maintaining.a_summarize_leaves_no_range_out.Goals as goal
+
+pub returns : goal.returns
+returns c = λ layout p q n index count within reached has rests finishes.
+    let limits = keeps_limits layout.schema layout.sizes within in
+    let knows : KnowsValues = record { denoted = c.value_of_is_denoted.ensures; of_kind = c.denoted_is_of_kind.ensures } in
+    let o = reached_is_orderly c.table_stays_covered.ensures.kept layout limits c.table_stays_covered.ensures.new knows p reached in
+    let fits = o.fits n _ has in
+    let below = home_below layout (statements.Summarize index None) _ limits fits (home_in layout p n (index_at p.layout index).table (statements.Summarize index None) o.same fits refl) in
+    summarize_counts p q n index count has rests (o.kept (index_at p.layout index).table below) finishes
