@@ -2,3 +2,5 @@ mod Rows
 mod Steps
 mod Numbers
 mod Fronts
+mod Copies
+mod Oldest
