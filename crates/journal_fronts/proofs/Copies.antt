@@ -110,7 +110,7 @@ module _ (T : TableState) where
     within_stays table (Look q) tags.Ok legal = stays_same
     within_stays table (Look q) tags.Full legal = stays_same
     within_stays table (Mark id) tag legal = mark_stays id (is_conflict s n x id)
-        (and_parts (contains_key x.view id) (is_ok_tag tag) (and_parts (not x.failed) (contains_key x.view id && is_ok_tag tag) legal).1).0
+        (and_parts (not x.failed) (contains_key x.view id) (and_parts (not x.failed && contains_key x.view id) (is_ok_tag tag) legal).0).1
     within_stays table Commit tag legal = λ y found. stays_over s n y found
     within_stays table Rollback tag legal = stays_over s n
     within_stays table Begin tag legal = stays_same

@@ -75,7 +75,7 @@ began_once o journal n m t one other =
 abbrev AllBegan : DatabaseState → List Entry → Type 0
 AllBegan o journal = (n : ℕ) (x : OpenTransaction) → get (serial_run o journal).sessions n ≡ Some x → Began o journal n x.t
 
-pub began_on : (o : DatabaseState) (journal : List Entry) (e : Entry) (n t : ℕ) → Began o journal n t → Began o (journal ++ e ∷ []) n t
+abbrev pub began_on : (o : DatabaseState) (journal : List Entry) (e : Entry) (n t : ℕ) → Began o journal n t → Began o (journal ++ e ∷ []) n t
 began_on o journal e n t front = record {
   before = front.before;
   entry = front.entry;
@@ -119,7 +119,7 @@ only_begin s e y idle found = go e.request (ap (λ (p : DatabaseState × Answer)
     go Rollback got = absurd (none_Some y (sym idle ∙ got))
 
 -- it began by this request
-pub begins_here : (o : DatabaseState) (journal : List Entry) (e : Entry) (t : ℕ) → get (serial_run o journal).sessions e.session ≡ None → e.request ≡ Begin → (serial_run o journal).next ≡ t → Began o (journal ++ e ∷ []) e.session t
+abbrev pub begins_here : (o : DatabaseState) (journal : List Entry) (e : Entry) (t : ℕ) → get (serial_run o journal).sessions e.session ≡ None → e.request ≡ Begin → (serial_run o journal).next ≡ t → Began o (journal ++ e ∷ []) e.session t
 begins_here o journal e t idle begins number = record { before = journal; entry = e; behind = []; split = refl; session = refl; begins = begins; idle = idle; number = number }
 
 began_own : (o : DatabaseState) (journal : List Entry) (e : Entry) → AllBegan o journal → (found : Option OpenTransaction) → get (serial_run o journal).sessions e.session ≡ found
