@@ -1,6 +1,6 @@
 -- an open transaction's copy and marks tell the table where it began
-use Rattle.std.proofs.Common.{◌≡◌, ℕ, ◌<◌, Bool, true, false, not, cond, ◌&&◌, ◌||◌, ◌==◌, ◌⊎◌, inl, inr, List, [], ◌∷◌, ◌++◌, if◌then◌else◌, refl, sym, ap, subst, ◌∙◌, Option, Some, None, is_some, arith, eq-eqb, ne_eqb, append_assoc}
-use Rattle.std.specs.FinMap.{get, insert, remove, contains_key, get-insert, get-remove}
+use Rattle.std.proofs.Common.{◌≡◌, ℕ, Bool, true, false, not, cond, ◌&&◌, ◌||◌, ◌==◌, inl, inr, List, [], ◌∷◌, ◌++◌, if◌then◌else◌, refl, sym, ap, subst, ◌∙◌, Option, Some, None, is_some, arith, eq-eqb, ne_eqb, append_assoc}
+use Rattle.std.specs.FinMap.{get, contains_key, get-insert, get-remove}
 use Rattle.std.specs.FinSet as set
 use Rattle.std.specs.Ordering.{eq_by_cmp}
 use Rattle.std.proofs.lemmas.Bool.{true≢false, false≢true, and_parts, cases_eq}
@@ -17,7 +17,7 @@ use Rattle.block_model.specs.TableState.{TableState, id_cmp, ids_total}
 use Rattle.block_model.specs.DatabaseState.{DatabaseState, OpenTransaction}
 use Rattle.block_model.specs.RequestEffect.{Answer, effect_within, after_request, after_put, after_mark, next_row, is_conflict, is_own, is_legal_at, is_legal_within, is_legal_request, is_ok_tag, with_transaction, without_transaction, new_transaction}
 use Rattle.block_model.specs.RequestLaws.{effect_by, others_stay, mark_effect}
-use Rattle.block_model.specs.SerialRun.{serial_run, serial_run-append, is_legal, IsLegal}
+use Rattle.block_model.specs.SerialRun.{serial_run, serial_run-append, is_legal}
 use Rattle.block_model.specs.NumberMaps.{found_after_put, found_after_removal, same_Some, none_Some}
 use Rattle.journal_fronts.specs.Openings.{NoneOpen, RowsAreEarlier}
 use Rattle.journal_fronts.specs.Beginnings.{Began}
@@ -132,9 +132,19 @@ record AllSo (o : DatabaseState) (journal : List Entry) : Type 0 where
 
 -- a front for a number that is the same
 so_by : (o : DatabaseState) (journal : List Entry) (n t : ℕ) (y : OpenTransaction) → y.t ≡ t → (front : Began o journal n t) → IsCopyOf (serial_run o front.before).table y → BeganSo o journal n y
-so_by o journal n t y same front copy = record { front = record {
-  before = front.before; entry = front.entry; behind = front.behind; split = front.split; session = front.session; begins = front.begins; idle = front.idle; number = front.number ∙ sym same };
-  copy = copy }
+so_by o journal n t y same front copy = record {
+  front = record {
+    before = front.before;
+    entry = front.entry;
+    behind = front.behind;
+    split = front.split;
+    session = front.session;
+    begins = front.begins;
+    idle = front.idle;
+    number = front.number ∙ sym same;
+  };
+  copy = copy;
+}
 
 so_own : (o : DatabaseState) (journal : List Entry) (e : Entry) → AllSo o journal → is_legal_request (serial_run o journal) e ≡ true → (found : Option OpenTransaction) → get (serial_run o journal).sessions e.session ≡ found
     → (y : OpenTransaction) → get (after_request (serial_run o journal) e).sessions e.session ≡ Some y → BeganSo o (journal ++ e ∷ []) e.session y

@@ -7,7 +7,7 @@ use Rattle.block_model.specs.declared.request.Entry.{Entry}
 use Rattle.block_model.specs.declared.request.Request.{Request}
 use Rattle.block_model.specs.declared.request.Request.TheVariants.{Begin, Put, Look, Mark, Commit, Rollback}
 use Rattle.block_model.specs.DatabaseState.{DatabaseState, OpenTransaction}
-use Rattle.block_model.specs.RequestEffect.{Answer, effect_at, effect_is, effect_outside, after_request, after_begin, new_transaction, with_transaction, without_transaction}
+use Rattle.block_model.specs.RequestEffect.{Answer, effect_outside, after_request, after_begin, new_transaction, with_transaction, without_transaction}
 use Rattle.block_model.specs.SerialRun.{serial_run, serial_run-append}
 use Rattle.block_model.specs.NumberMaps.{found_after_put, found_after_removal, same_Some, none_Some}
 use Rattle.block_model.specs.RequestLaws.{effect_by, within_leads, others_stay}
@@ -51,7 +51,7 @@ past_is_above o journal before behind n t front past =
     let there = serial_run o front.before in
     let entry : front.entry ≡ past.entry = (let same = past.next in cc) in
     let began : after_request there past.entry ≡ after_begin there front.entry.session = ap (after_request there) (sym entry)
-        ∙ begin_is there front.entry (ap (get there.sessions) front.session ∙ front.idle) front.begins in
+    ∙ begin_is there front.entry (ap (get there.sessions) front.session ∙ front.idle) front.begins in
     let grown : (after_request there past.entry).next ≡ there.next + 1 = ap (λ (s : DatabaseState). s.next) began in
     let on = run_next (after_request there past.entry) past.more in
     let reached : serial_run (after_request there past.entry) past.more ≡ serial_run o before = sym (serial_run-append o front.before (past.entry ∷ past.more)) ∙ ap (serial_run o) past.reaches in

@@ -1,5 +1,5 @@
 -- numbers rise over a journal, and what is gone stays so
-use Rattle.std.proofs.Common.{◌≡◌, ℕ, ◌+◌, ◌<◌, ◌≤◌, true, false, ◌⊎◌, inl, inr, List, [], ◌∷◌, refl, sym, ap, subst, ◌∙◌, Some, None, arith, ne_eqb}
+use Rattle.std.proofs.Common.{◌≡◌, ℕ, ◌<◌, ◌≤◌, true, inl, inr, List, [], ◌∷◌, sym, ap, subst, ◌∙◌, Some, arith, ne_eqb}
 use Rattle.std.specs.FinMap.{get, contains_key}
 use Rattle.std.proofs.lemmas.Bool.{true≢false, false_from_ne_true, cases_lt}
 use Rattle.block_model.specs.declared.row.RowId.{RowId}
@@ -9,10 +9,10 @@ use Rattle.block_model.specs.RequestEffect.{after_request, with_transaction, wit
 use Rattle.block_model.specs.RequestLaws.{after_merge}
 use Rattle.block_model.specs.SerialRun.{serial_run}
 use Rattle.block_model.specs.NumberMaps.{found_after_put, found_after_removal, none_Some}
-use Rattle.line_texts.specs.DeadRows.{IsOpen, HasEnded}
+use Rattle.line_texts.specs.DeadRows.{HasEnded}
 use Rattle.journal_fronts.specs.Openings.{NoneOpen, RowsAreEarlier}
 use Rattle.journal_fronts.specs.Numbers.{AreNumbered, NumbersRise}
-use Rattle.journal_fronts.specs.GoneRows.{IsGone, GoneRowsStayGone}
+use Rattle.journal_fronts.specs.GoneRows.{GoneRowsStayGone}
 use Rattle.journal_fronts.proofs.Rows.{merged_lacks}
 use Rattle.journal_fronts.proofs.Steps.{request_leads, request_step}
 

@@ -78,9 +78,11 @@ by_oldest o journal none b (Nobody nobody) =
     (journal, Whole (λ t under_way. nobody under_way.0 under_way.1 (b.below under_way.0 under_way.1 (sym (get-entries s.sessions under_way.0) ∙ under_way.2)) under_way.2) refl)
 by_oldest o journal none b (Oldest n x found oldest) =
     let s = serial_run o journal in
-    let front = all_began o journal none n x found in
-    (front.before, OfOldest n x found
-    (λ t under_way. subst (λ k. x.t ≤ k) under_way.3 (oldest under_way.0 under_way.1 (b.below under_way.0 under_way.1 (sym (get-entries s.sessions under_way.0) ∙ under_way.2)) under_way.2)) front refl)
+    let front = all_began o journal none n x found in (
+      front.before,
+      OfOldest n x found
+          (λ t under_way. subst (λ k. x.t ≤ k) under_way.3 (oldest under_way.0 under_way.1 (b.below under_way.0 under_way.1 (sym (get-entries s.sessions under_way.0) ∙ under_way.2)) under_way.2)) front refl,
+    )
 
 pub oldest_front_stands : OldestFrontStands
 oldest_front_stands o journal none =

@@ -1,5 +1,5 @@
 -- what one request leaves of the numbers, of what has ended and of what is gone
-use Rattle.std.proofs.Common.{◌≡◌, ℕ, ◌+◌, ◌<◌, ◌≤◌, true, false, ◌⊎◌, inl, inr, refl, sym, ap, subst, ◌∙◌, Option, Some, None, arith, ne_eqb}
+use Rattle.std.proofs.Common.{◌≡◌, ℕ, ◌<◌, ◌≤◌, false, inl, inr, refl, sym, ap, subst, ◌∙◌, Option, Some, None, arith, ne_eqb}
 use Rattle.std.specs.FinMap.{get, contains_key}
 use Rattle.block_model.specs.declared.row.RowId.{RowId}
 use Rattle.block_model.specs.declared.request.Entry.{Entry}
@@ -8,7 +8,7 @@ use Rattle.block_model.specs.DatabaseState.{DatabaseState, OpenTransaction}
 use Rattle.block_model.specs.RequestEffect.{Answer, effect_at, effect_is, effect_outside, after_request, with_transaction, without_transaction, after_begin, new_transaction}
 use Rattle.block_model.specs.NumberMaps.{found_after_put, found_after_removal}
 use Rattle.block_model.specs.RequestLaws.{effect_by, within_leads, outside_leads, after_merge}
-use Rattle.line_texts.specs.DeadRows.{IsOpen, HasEnded}
+use Rattle.line_texts.specs.DeadRows.{IsOpen}
 use Rattle.journal_fronts.specs.GoneRows.{IsGone}
 use Rattle.journal_fronts.proofs.Rows.{merged_lacks}
 
