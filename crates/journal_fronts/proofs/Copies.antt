@@ -23,7 +23,7 @@ use Rattle.journal_fronts.specs.Openings.{NoneOpen, RowsAreEarlier}
 use Rattle.journal_fronts.specs.Beginnings.{Began}
 use Rattle.journal_fronts.specs.Copies.{IsCopyOf, CopiesAreOfTheirFronts}
 use Rattle.journal_fronts.proofs.Rows.{same_ids}
-use Rattle.journal_fronts.proofs.Numbers.{numbered_after, earlier_step}
+use Rattle.journal_fronts.proofs.Commits.{rows_ended}
 use Rattle.journal_fronts.proofs.Fronts.{began_on, begins_here, own_number, only_begin, open_transactions_began}
 
 -- ---- tests
@@ -126,9 +126,8 @@ record BeganSo (o : DatabaseState) (journal : List Entry) (n : ℕ) (x : OpenTra
   front : Began o journal n x.t
   copy : IsCopyOf (serial_run o front.before).table x
 
-record AllSo (o : DatabaseState) (journal : List Entry) : Type 0 where
-  so : (n : ℕ) (x : OpenTransaction) → get (serial_run o journal).sessions n ≡ Some x → BeganSo o journal n x
-  earlier : RowsAreEarlier (serial_run o journal)
+abbrev AllSo : DatabaseState → List Entry → Type 0
+AllSo o journal = (n : ℕ) (x : OpenTransaction) → get (serial_run o journal).sessions n ≡ Some x → BeganSo o journal n x
 
 -- a front for a number that is the same
 so_by : (o : DatabaseState) (journal : List Entry) (n t : ℕ) (y : OpenTransaction) → y.t ≡ t → (front : Began o journal n t) → IsCopyOf (serial_run o front.before).table y → BeganSo o journal n y
@@ -146,42 +145,39 @@ so_by o journal n t y same front copy = record {
   copy = copy;
 }
 
-so_own : (o : DatabaseState) (journal : List Entry) (e : Entry) → AllSo o journal → is_legal_request (serial_run o journal) e ≡ true → (found : Option OpenTransaction) → get (serial_run o journal).sessions e.session ≡ found
-    → (y : OpenTransaction) → get (after_request (serial_run o journal) e).sessions e.session ≡ Some y → BeganSo o (journal ++ e ∷ []) e.session y
-so_own o journal e all legal None idle y got =
-    let s = serial_run o journal in
-    let new = only_begin s e y idle got in
-    so_by o (journal ++ e ∷ []) e.session s.next y (ap (λ (v : OpenTransaction). v.t) new.1) (begins_here o journal e s.next idle new.0 refl)
-    (subst (IsCopyOf s.table) (sym new.1) (copy_begun s all.earlier))
-so_own o journal e all legal (Some x) was y got =
-    let s = serial_run o journal in
-    let so = all.so e.session x was in
-    so_by o (journal ++ e ∷ []) e.session x.t y (own_number s e x was y got) (began_on o journal e e.session x.t so.front)
-    (own_copy (serial_run o so.front.before).table s e x was legal so.copy y got)
+-- from an opening on
+module _ (o : DatabaseState) (none : NoneOpen o) (earlier : RowsAreEarlier o) where
+  so_own : (journal : List Entry) (e : Entry) → AllSo o journal → is_legal_request (serial_run o journal) e ≡ true → (found : Option OpenTransaction) → get (serial_run o journal).sessions e.session ≡ found
+      → (y : OpenTransaction) → get (after_request (serial_run o journal) e).sessions e.session ≡ Some y → BeganSo o (journal ++ e ∷ []) e.session y
+  so_own journal e all legal None idle y got =
+      let s = serial_run o journal in
+      let new = only_begin s e y idle got in
+      so_by o (journal ++ e ∷ []) e.session s.next y (ap (λ (v : OpenTransaction). v.t) new.1) (begins_here o journal e s.next idle new.0 refl)
+      (subst (IsCopyOf s.table) (sym new.1) (copy_begun s (λ id has. (rows_ended o journal none earlier id has).0)))
+  so_own journal e all legal (Some x) was y got =
+      let s = serial_run o journal in
+      let so = all e.session x was in
+      so_by o (journal ++ e ∷ []) e.session x.t y (own_number s e x was y got) (began_on o journal e e.session x.t so.front)
+      (own_copy (serial_run o so.front.before).table s e x was legal so.copy y got)
 
-so_step : (o : DatabaseState) (journal : List Entry) (e : Entry) → NoneOpen o → AllSo o journal → is_legal_request (serial_run o journal) e ≡ true → AllSo o (journal ++ e ∷ [])
-so_step o journal e none all legal =
-    let s = serial_run o journal in
-    let run : serial_run o (journal ++ e ∷ []) ≡ after_request s e = serial_run-append o journal (e ∷ []) in
-    record {
-      so = λ n y found. let got : get (after_request s e).sessions n ≡ Some y = ap (λ (s' : DatabaseState). get s'.sessions n) (sym run) ∙ found in
-          elim (cases_eq n e.session) [
-            | inl own ↦ subst (λ m. BeganSo o (journal ++ e ∷ []) m y) (sym own) (so_own o journal e all legal (get s.sessions e.session) refl y (ap (get (after_request s e).sessions) (sym own) ∙ got))
-            | inr apart ↦ let so = all.so n y (sym (others_stay s e n apart) ∙ got) in so_by o (journal ++ e ∷ []) n y.t y refl (began_on o journal e n y.t so.front) so.copy
-          ];
-      earlier = subst RowsAreEarlier (sym run) (earlier_step s e (numbered_after o journal none).below all.earlier);
-    }
+  so_step : (journal : List Entry) (e : Entry) → AllSo o journal → is_legal_request (serial_run o journal) e ≡ true → AllSo o (journal ++ e ∷ [])
+  so_step journal e all legal n y found =
+      let s = serial_run o journal in
+      let got : get (after_request s e).sessions n ≡ Some y = ap (λ (s' : DatabaseState). get s'.sessions n) (sym (serial_run-append o journal (e ∷ []))) ∙ found in
+      elim (cases_eq n e.session) [
+        | inl own ↦ subst (λ m. BeganSo o (journal ++ e ∷ []) m y) (sym own) (so_own journal e all legal (get s.sessions e.session) refl y (ap (get (after_request s e).sessions) (sym own) ∙ got))
+        | inr apart ↦ let so = all n y (sym (others_stay s e n apart) ∙ got) in so_by o (journal ++ e ∷ []) n y.t y refl (began_on o journal e n y.t so.front) so.copy
+      ]
 
-so_run : (o : DatabaseState) (done rest : List Entry) → NoneOpen o → is_legal (serial_run o done) rest ≡ true → AllSo o done → AllSo o (done ++ rest)
-so_run o done [] none legal all = subst (AllSo o) (sym (append-nil done)) all
-so_run o done (e ∷ es) none legal all =
-    let s = serial_run o done in
-    let parts = and_parts (is_legal_request s e) (is_legal (after_request s e) es) legal in
-    subst (AllSo o) (append_assoc done (e ∷ []) es)
-    (so_run o (done ++ e ∷ []) es none (ap (λ (s' : DatabaseState). is_legal s' es) (serial_run-append o done (e ∷ [])) ∙ parts.1) (so_step o done e none all parts.0))
+  so_run : (done rest : List Entry) → is_legal (serial_run o done) rest ≡ true → AllSo o done → AllSo o (done ++ rest)
+  so_run done [] legal all = subst (AllSo o) (sym (append-nil done)) all
+  so_run done (e ∷ es) legal all =
+      let s = serial_run o done in
+      let parts = and_parts (is_legal_request s e) (is_legal (after_request s e) es) legal in
+      subst (AllSo o) (append_assoc done (e ∷ []) es)
+      (so_run (done ++ e ∷ []) es (ap (λ (s' : DatabaseState). is_legal s' es) (serial_run-append o done (e ∷ [])) ∙ parts.1) (so_step done e all parts.0))
 
 pub copies_are_of_their_fronts : CopiesAreOfTheirFronts
 copies_are_of_their_fronts o journal none earlier legal n x found front =
-    let all = so_run o [] journal none legal (record { so = λ m y got. absurd (none_Some y (sym (none m) ∙ got)); earlier = earlier }) in
-    let so = all.so n x found in
+    let so = so_run o none earlier [] journal legal (λ m y got. absurd (none_Some y (sym (none m) ∙ got))) n x found in
     subst (λ (l : List Entry). IsCopyOf (serial_run o l).table x) (open_transactions_began.once o journal n n x.t so.front front) so.copy

@@ -1,5 +1,5 @@
 -- where open transactions began
-use Rattle.std.proofs.Common.{◌≡◌, ℕ, ◌+◌, ◌<◌, ◌≤◌, ◌⊎◌, inl, inr, List, [], ◌∷◌, ◌++◌, refl, sym, ap, subst, ◌∙◌, Option, Some, None, arith, append_assoc}
+use Rattle.std.proofs.Common.{◌≡◌, ℕ, ◌+◌, ◌<◌, ◌≤◌, inl, inr, List, [], ◌∷◌, ◌++◌, refl, sym, ap, subst, ◌∙◌, Option, Some, None, arith, append_assoc}
 use Rattle.std.specs.FinMap.{get}
 use Rattle.std.proofs.lemmas.Bool.{cases_eq}
 use Rattle.std.proofs.lemmas.List.{append-nil}
@@ -13,29 +13,11 @@ use Rattle.block_model.specs.NumberMaps.{found_after_put, found_after_removal, s
 use Rattle.block_model.specs.RequestLaws.{effect_by, within_leads, others_stay}
 use Rattle.journal_fronts.specs.Openings.{NoneOpen}
 use Rattle.journal_fronts.specs.Beginnings.{Began, OpenTransactionsBegan}
+use Rattle.journal_fronts.proofs.Splits.{IsPast, fronts}
 use Rattle.journal_fronts.proofs.Steps.{begin_is}
 use Rattle.journal_fronts.proofs.Numbers.{run_next, numbered_after}
 
--- ---- of two fronts of a journal one goes on to the other
-
-pub record IsPast (short long behind rest : List Entry) : Type 0 where
-  pub entry : Entry
-  pub more : List Entry
-  pub reaches : short ++ entry ∷ more ≡ long
-  pub next : rest ≡ entry ∷ (more ++ behind)
-
-pub fronts : (a b c d : List Entry) → a ++ b ≡ c ++ d → ((more : List Entry) × (a ++ more ≡ c)) ⊎ IsPast c a b d
-fronts [] b c d same = inl (c, refl)
-fronts (x ∷ a) b [] d same = inr (record { entry = x; more = a; reaches = refl; next = sym same })
-fronts (x ∷ a) b (y ∷ c) d same =
-    let head : x ≡ y = cc in
-    let tail : a ++ b ≡ c ++ d = cc in
-    elim (fronts a b c d tail) [
-      | inl on ↦ inl (on.0, λ i. head i ∷ on.1 i)
-      | inr past ↦ inr (record { entry = past.entry; more = past.more; reaches = λ i. sym head i ∷ past.reaches i; next = past.next })
-    ]
-
-pub one_of_two : (a b more rest : List Entry) → a ++ more ≡ b → b ++ rest ≡ a → a ≡ b
+one_of_two : (a b more rest : List Entry) → a ++ more ≡ b → b ++ rest ≡ a → a ≡ b
 one_of_two [] [] more rest on back = refl
 one_of_two [] (y ∷ b) more rest on back = absurd (cc)
 one_of_two (x ∷ a) [] more rest on back = absurd (cc)
@@ -60,7 +42,7 @@ past_is_above o journal before behind n t front past =
 
 pub goes_on : (o : DatabaseState) (journal before behind : List Entry) (n t : ℕ) (front : Began o journal n t) → before ++ behind ≡ journal → (serial_run o before).next ≤ t → (more : List Entry) × (before ++ more ≡ front.before)
 goes_on o journal before behind n t front split low = elim (fronts before behind front.before (front.entry ∷ front.behind) (split ∙ sym front.split)) [
-  | inl on ↦ on
+  | inl on ↦ (on.0, on.1)
   | inr past ↦ let above = past_is_above o journal before behind n t front past in absurd (omega (arith, above, low))
 ]
 

@@ -1,6 +1,9 @@
 mod Rows
 mod Steps
 mod Numbers
+mod Splits
 mod Fronts
+mod Commits
 mod Copies
 mod Oldest
+mod Unseen

@@ -1,26 +1,23 @@
 -- numbers rise over a journal, and what is gone stays so
-use Rattle.std.proofs.Common.{◌≡◌, ℕ, ◌<◌, ◌≤◌, true, inl, inr, List, [], ◌∷◌, sym, ap, subst, ◌∙◌, Some, arith, ne_eqb}
-use Rattle.std.specs.FinMap.{get, contains_key}
-use Rattle.std.proofs.lemmas.Bool.{true≢false, false_from_ne_true, cases_lt}
-use Rattle.block_model.specs.declared.row.RowId.{RowId}
+use Rattle.std.proofs.Common.{◌≡◌, ℕ, ◌<◌, ◌≤◌, inl, inr, List, [], ◌∷◌, sym, ap, subst, ◌∙◌, Some, arith}
+use Rattle.std.specs.FinMap.{get}
 use Rattle.block_model.specs.declared.request.Entry.{Entry}
 use Rattle.block_model.specs.DatabaseState.{DatabaseState, OpenTransaction}
-use Rattle.block_model.specs.RequestEffect.{after_request, with_transaction, without_transaction, after_begin, new_transaction, merged}
+use Rattle.block_model.specs.RequestEffect.{after_request, with_transaction, without_transaction, after_begin, new_transaction}
 use Rattle.block_model.specs.RequestLaws.{after_merge}
 use Rattle.block_model.specs.SerialRun.{serial_run}
 use Rattle.block_model.specs.NumberMaps.{found_after_put, found_after_removal, none_Some}
 use Rattle.line_texts.specs.DeadRows.{HasEnded}
-use Rattle.journal_fronts.specs.Openings.{NoneOpen, RowsAreEarlier}
+use Rattle.journal_fronts.specs.Openings.{NoneOpen}
 use Rattle.journal_fronts.specs.Numbers.{AreNumbered, NumbersRise}
 use Rattle.journal_fronts.specs.GoneRows.{GoneRowsStayGone}
-use Rattle.journal_fronts.proofs.Rows.{merged_lacks}
 use Rattle.journal_fronts.proofs.Steps.{request_leads, request_step}
 
 pub run_next : (s : DatabaseState) (journal : List Entry) → s.next ≤ (serial_run s journal).next
 run_next s [] = omega arith
 run_next s (e ∷ es) = let first : s.next ≤ (after_request s e).next = (request_step s e).next in let rest = run_next (after_request s e) es in omega (arith, first, rest)
 
-ended_step : (s : DatabaseState) (e : Entry) (t : ℕ) → HasEnded s t → HasEnded (after_request s e) t
+pub ended_step : (s : DatabaseState) (e : Entry) (t : ℕ) → HasEnded s t → HasEnded (after_request s e) t
 ended_step s e t ended = let step = request_step s e in (omega (arith, ended.0, step.next), λ under_way. ended.1 (step.opens t ended.0 under_way))
 
 pub run_ended : (s : DatabaseState) (journal : List Entry) (t : ℕ) → HasEnded s t → HasEnded (serial_run s journal) t
@@ -107,14 +104,3 @@ numbered_after o journal none =
 
 pub numbers_rise : NumbersRise
 numbers_rise = record { next = run_next; ended = run_ended; numbered = numbered_after }
-
--- ---- rows have earlier numbers
-
-earlier_merged : (s : DatabaseState) (x : OpenTransaction) → RowsAreEarlier s → x.t < s.next → (id : RowId) → contains_key (merged s.table x) id ≡ true → id.t < s.next
-earlier_merged s x h low id there = elim (cases_lt id.t s.next) [
-  | inl below ↦ below
-  | inr high ↦ absurd (true≢false (sym there ∙ merged_lacks s.table x id (ne_eqb id.t x.t (λ own. omega (arith, own, low, high))) (false_from_ne_true (contains_key s.table id) (λ has. let under = h id has in omega (arith, under, high)))))
-]
-
-pub earlier_step : (s : DatabaseState) (e : Entry) → ((n : ℕ) (x : OpenTransaction) → get s.sessions n ≡ Some x → x.t < s.next) → RowsAreEarlier s → RowsAreEarlier (after_request s e)
-earlier_step s e below h = request_leads RowsAreEarlier s e h (λ id has. let low = h id has in omega (arith, low)) (λ x y got same. h) h (λ x got. earlier_merged s x h (below e.session x got))

@@ -92,7 +92,7 @@ oldest_front_stands o journal none =
 -- ---- what is dead
 
 -- what is gone at a front is gone where it goes on to
-gone_on : (o : DatabaseState) (before more later : List Entry) (id : RowId) → before ++ more ≡ later → IsGone (serial_run o before) id → IsGone (serial_run o later) id
+pub gone_on : (o : DatabaseState) (before more later : List Entry) (id : RowId) → before ++ more ≡ later → IsGone (serial_run o before) id → IsGone (serial_run o later) id
 gone_on o before more later id is gone = subst (λ (s : DatabaseState). IsGone s id) (sym (serial_run-append o before more) ∙ ap (serial_run o) is) (run_gone (serial_run o before) more id gone)
 
 module _ (p : Place) (id : RowId) where

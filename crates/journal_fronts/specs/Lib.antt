@@ -4,3 +4,6 @@ pub mod GoneRows
 pub mod Beginnings
 pub mod Copies
 pub mod OldestFront
+pub mod Commits
+pub mod TableRows
+pub mod UnseenRows

@@ -10,6 +10,9 @@ ghost use Rattle.journal_fronts.specs.GoneRows.{GoneRowsStayGone};
 ghost use Rattle.journal_fronts.specs.Beginnings.{OpenTransactionsBegan};
 ghost use Rattle.journal_fronts.specs.Copies.{CopiesAreOfTheirFronts};
 ghost use Rattle.journal_fronts.specs.OldestFront.{OldestFrontStands, DeadByOldestFront};
+ghost use Rattle.journal_fronts.specs.Commits.{CommitsStand};
+ghost use Rattle.journal_fronts.specs.TableRows.{RowsAreOfCommits};
+ghost use Rattle.journal_fronts.specs.UnseenRows.{DeadRowsAreUnseen};
 
 /// The next number never falls, what has ended stays ended, and open transactions have numbers of their own, below the next
 /// and not below the opening's.
@@ -40,4 +43,20 @@ pub fn oldest_front_stands()
 /// A row is dead exactly where its transaction was rolled back since the opening, or where it was gone at that front.
 pub fn dead_by_oldest_front()
     ensures { DeadByOldestFront }
+{}
+
+/// A request adds its own commit to those of a journal, and no other. What a journal commits began since the opening, and has
+/// ended.
+pub fn commits_stand()
+    ensures { CommitsStand }
+{}
+
+/// Each row of the table has stood there since the opening, or a commit of the journal put it; and its transaction has ended.
+pub fn rows_are_of_commits()
+    ensures { RowsAreOfCommits }
+{}
+
+/// A dead row is in no open transaction's copy, in none's marks and not in the table.
+pub fn dead_rows_are_unseen()
+    ensures { DeadRowsAreUnseen }
 {}
