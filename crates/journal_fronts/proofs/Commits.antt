@@ -26,11 +26,15 @@ use Rattle.journal_fronts.proofs.Splits.{fronts}
 
 -- ---- one request
 
--- a commit ends its transaction
+-- the state behind a commit
+pub commit_is : (s : DatabaseState) (e : Entry) (t : ℕ) (c : CommitsAt s e t) → after_request s e ≡ after_commit s e.session c.transaction
+commit_is s e t c = ap (λ (p : DatabaseState × Answer). p.0) (effect_by s e (Some c.transaction) c.under_way ∙ ap (λ r. effect_within s e.session c.transaction e.table r e.tag) c.commits)
+
+-- it ends its transaction
 ends_here : (first : ℕ) (s : DatabaseState) (e : Entry) (t : ℕ) → AreNumbered first s → CommitsAt s e t → HasEnded (after_request s e) t
 ends_here first s e t h c =
     let x = c.transaction in
-    let after : after_request s e ≡ after_commit s e.session x = ap (λ (p : DatabaseState × Answer). p.0) (effect_by s e (Some x) c.under_way ∙ ap (λ r. effect_within s e.session x e.table r e.tag) c.commits) in
+    let after : after_request s e ≡ after_commit s e.session x = commit_is s e t c in
     let low : x.t < s.next = h.below e.session x c.under_way in
     subst (λ (s' : DatabaseState). HasEnded s' t) (sym after) (
       subst (λ k. k < s.next) c.number low,

@@ -3,7 +3,7 @@ use Rattle.std.proofs.Common.{◌≡◌, ℕ, Bool, true, false, not, cond, ◌&
 use Rattle.std.specs.FinMap.{get, contains_key, get-insert, get-remove}
 use Rattle.std.specs.FinSet as set
 use Rattle.std.specs.Ordering.{eq_by_cmp}
-use Rattle.std.proofs.lemmas.Bool.{true≢false, false≢true, and_parts, cases_eq}
+use Rattle.std.proofs.lemmas.Bool.{true≢false, false≢true, and_parts, cases_eq, and_from, or_left, or_right}
 use Rattle.std.proofs.lemmas.List.{append-nil}
 use Rattle.block_model.specs.declared.row.RowId.{RowId}
 use Rattle.block_model.specs.declared.row.Row.{Row}
@@ -17,11 +17,11 @@ use Rattle.block_model.specs.TableState.{TableState, id_cmp, ids_total}
 use Rattle.block_model.specs.DatabaseState.{DatabaseState, OpenTransaction}
 use Rattle.block_model.specs.RequestEffect.{Answer, effect_within, after_request, after_put, after_mark, next_row, is_conflict, is_own, is_legal_at, is_legal_within, is_legal_request, is_ok_tag, with_transaction, without_transaction, new_transaction}
 use Rattle.block_model.specs.RequestLaws.{effect_by, others_stay, mark_effect}
-use Rattle.block_model.specs.SerialRun.{serial_run, serial_run-append, is_legal}
+use Rattle.block_model.specs.SerialRun.{serial_run, serial_run-append, is_legal, IsLegal}
 use Rattle.block_model.specs.NumberMaps.{found_after_put, found_after_removal, same_Some, none_Some}
 use Rattle.journal_fronts.specs.Openings.{NoneOpen, RowsAreEarlier}
 use Rattle.journal_fronts.specs.Beginnings.{Began}
-use Rattle.journal_fronts.specs.Copies.{IsCopyOf, CopiesAreOfTheirFronts}
+use Rattle.journal_fronts.specs.Copies.{IsCopyOf, HasOfOthers, CopiesAreOfTheirFronts}
 use Rattle.journal_fronts.proofs.Rows.{same_ids}
 use Rattle.journal_fronts.proofs.Commits.{rows_ended}
 use Rattle.journal_fronts.proofs.Fronts.{began_on, begins_here, own_number, only_begin, open_transactions_began}
@@ -177,7 +177,20 @@ module _ (o : DatabaseState) (none : NoneOpen o) (earlier : RowsAreEarlier o) wh
       subst (AllSo o) (append_assoc done (e ∷ []) es)
       (so_run (done ++ e ∷ []) es (ap (λ (s' : DatabaseState). is_legal s' es) (serial_run-append o done (e ∷ [])) ∙ parts.1) (so_step done e all parts.0))
 
-pub copies_are_of_their_fronts : CopiesAreOfTheirFronts
-copies_are_of_their_fronts o journal none earlier legal n x found front =
+pub copy_of_front : (o : DatabaseState) (journal : List Entry) → NoneOpen o → RowsAreEarlier o → IsLegal o journal → (n : ℕ) (x : OpenTransaction)
+    → get (serial_run o journal).sessions n ≡ Some x → (front : Began o journal n x.t) → IsCopyOf (serial_run o front.before).table x
+copy_of_front o journal none earlier legal n x found front =
     let so = so_run o none earlier [] journal legal (λ m y got. absurd (none_Some y (sym (none m) ∙ got))) n x found in
     subst (λ (l : List Entry). IsCopyOf (serial_run o l).table x) (open_transactions_began.once o journal n n x.t so.front front) so.copy
+
+-- whose rows it has
+has_of_others : (T : TableState) (x : OpenTransaction) (id : RowId) → IsCopyOf T x → HasOfOthers x id → contains_key T id ≡ true
+has_of_others T x id copy (inl seen) = copy id ∙ or_left (contains_key x.view id && not (is_own x id)) (set.contains x.marks id) (and_from (contains_key x.view id) (not (is_own x id)) seen.0 (ap not seen.1))
+has_of_others T x id copy (inr marked) = copy id ∙ or_right (contains_key x.view id && not (is_own x id)) (set.contains x.marks id) marked
+
+pub copies_are_of_their_fronts : CopiesAreOfTheirFronts
+copies_are_of_their_fronts = record {
+  copy = copy_of_front;
+  ended = λ o journal none earlier legal n x found front id has. rows_ended o front.before none earlier id
+      (has_of_others (serial_run o front.before).table x id (copy_of_front o journal none earlier legal n x found front) has);
+}

@@ -1,3 +1,4 @@
+mod Openings
 mod Rows
 mod Steps
 mod Numbers
@@ -6,4 +7,5 @@ mod Fronts
 mod Commits
 mod Copies
 mod Oldest
+mod Taken
 mod Unseen

@@ -38,8 +38,16 @@ lacks_with_rows table (e ∷ es) q apart none = get-insert ids_total (with_rows 
       | false ↦ λ rest. lacks_with_rows table es q rest none
     ] apart
 
--- a row that another transaction put, and that isn't in the table, isn't there after a commit
-pub merged_lacks : (table : TableState) (x : OpenTransaction) (id : RowId) → is_own x id ≡ false → contains_key table id ≡ false → contains_key (merged table x) id ≡ false
-merged_lacks table x id other absent = ap is_some (lacks_with_rows (retain_keys table (λ i. not (set.contains x.marks i))) (entries (own_rows x)) id
+-- a row of another transaction, where what the commit keeps of the table lacks it
+other_lacks : (table : TableState) (x : OpenTransaction) (id : RowId) → is_own x id ≡ false → cond (not (set.contains x.marks id)) (get table id) None ≡ None → contains_key (merged table x) id ≡ false
+other_lacks table x id other lacks = ap is_some (lacks_with_rows (retain_keys table (λ i. not (set.contains x.marks i))) (entries (own_rows x)) id
     (sym (get-entries (own_rows x) id) ∙ kept_at x.view (is_own x) id ∙ ap (λ b. cond b (get x.view id) None) other)
-    (kept_at table (λ i. not (set.contains x.marks i)) id ∙ none_kept (not (set.contains x.marks id)) (get table id) (no_row (get table id) absent)))
+    (kept_at table (λ i. not (set.contains x.marks i)) id ∙ lacks))
+
+-- one that isn't in the table isn't there after the commit
+pub merged_lacks : (table : TableState) (x : OpenTransaction) (id : RowId) → is_own x id ≡ false → contains_key table id ≡ false → contains_key (merged table x) id ≡ false
+merged_lacks table x id other absent = other_lacks table x id other (none_kept (not (set.contains x.marks id)) (get table id) (no_row (get table id) absent))
+
+-- and one that was marked isn't
+pub merged_takes : (table : TableState) (x : OpenTransaction) (id : RowId) → is_own x id ≡ false → set.contains x.marks id ≡ true → contains_key (merged table x) id ≡ false
+merged_takes table x id other marked = other_lacks table x id other (ap (λ b. cond (not b) (get table id) None) marked)

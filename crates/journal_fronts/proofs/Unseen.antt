@@ -19,7 +19,7 @@ use Rattle.journal_fronts.specs.GoneRows.{IsGone}
 use Rattle.journal_fronts.specs.UnseenRows.{IsUnseen, DeadRowsAreUnseen}
 use Rattle.journal_fronts.proofs.Fronts.{goes_on, all_began}
 use Rattle.journal_fronts.proofs.Commits.{CommittedIn, committed_on, to_place, rows_of_commits}
-use Rattle.journal_fronts.proofs.Copies.{copies_are_of_their_fronts}
+use Rattle.journal_fronts.proofs.Copies.{copy_of_front}
 use Rattle.journal_fronts.proofs.Oldest.{gone_on}
 
 -- a copy of a table that lacks the row lacks it
@@ -40,7 +40,7 @@ module _ (p : Place) (none : NoneOpen p.opening) (earlier : RowsAreEarlier p.ope
       let lacks = λ (n : ℕ) (x : OpenTransaction) (found : get (database_at p).sessions n ≡ Some x).
       (let front = all_began p.opening p.journal none n x found in
       let free = fronts n x found front in
-      copy_lacks (serial_run p.opening front.before).table x id (copies_are_of_their_fronts p.opening p.journal none earlier legal n x found front) free.0 (ne_eqb id.t x.t free.1)) in
+      copy_lacks (serial_run p.opening front.before).table x id (copy_of_front p.opening p.journal none earlier legal n x found front) free.0 (ne_eqb id.t x.t free.1)) in
       record { table = absent; copies = λ n x found. (lacks n x found).0; marks = λ n x found. (lacks n x found).1 }
 
   -- the row of a transaction that was rolled back was never in the table

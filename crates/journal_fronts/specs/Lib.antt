@@ -7,3 +7,4 @@ pub mod OldestFront
 pub mod Commits
 pub mod TableRows
 pub mod UnseenRows
+pub mod TakenRows
