@@ -23,7 +23,7 @@ use Rattle.store_parts.specs.UndoneLaws.{StepsSo}
 use Rattle.store_parts.specs.StoreStates.{StoreState, hand_at, hand_in, store_of, with_hand}
 use Rattle.session_core.specs.SessionLaws.{SessionLaws}
 use Rattle.session_core.specs.SessionLists.{spare_in}
-use Rattle.session_core.specs.Sessions.{IsInHandThen, NamesASession}
+use Rattle.session_core.specs.Sessions.{IsInHandThen, IsSameStatement, LeavesTheRest, NamesASession, StaysStill}
 use Rattle.session_core.specs.StoreKept.{IsStoreKept}
 use Rattle.session_core.proofs.Kept.{fits_now, nobody_now, promised_now, session_below}
 use Rattle.session_core.proofs.Lists.{spares_set}
@@ -34,6 +34,9 @@ pub record IsStepOf {D : Type 0} (told : D → Told) (old new : StoreState D) (n
   pub hand : IsInHandThen answer (hand_at new n)
   pub holder : IfOk answer (NamesASession (length old.names))
   pub names : new.names ≡ old.names
+  pub others : LeavesTheRest told old new n
+  pub statement : IsSameStatement (hand_at old n) (hand_at new n)
+  pub still : StaysStill told old new answer
   pub leaves : Leaves told old.pages new.pages
   pub journal : OnErr answer (new.journal.entries ≡ old.journal.entries)
   pub ready : OnOk answer (StaysReady old.pages new.pages)
@@ -56,6 +59,24 @@ module _ {D : Type 0} (told : D → Told) (old new : StoreState D) (n : ℕ) (ha
   enters_nothing (stepped.Undone stops.Disk now) stays = stays.0
   enters_nothing (stepped.Undone (stops.Reopen faults) now) stays = stays.0
   enters_nothing (stepped.Undone (stops.Damaged at) now) stays = stays.0
+
+  stays_still : (answer : Stepped) → StaysWhereUndone told old new n hand answer → StaysStill told old new (answer_of answer)
+  stays_still (stepped.Moved point now) stays = tt
+  stays_still (stepped.Done reply) stays = tt
+  stays_still (stepped.Blocked what holder now) stays = stays.0
+  stays_still (stepped.Undone (stops.Spent entries) now) stays = stays.0
+  stays_still (stepped.Undone stops.Disk now) stays = tt
+  stays_still (stepped.Undone (stops.Reopen faults) now) stays = tt
+  stays_still (stepped.Undone (stops.Damaged at) now) stays = tt
+
+  stays_the_same : (answer : Stepped) → StaysWhereUndone told old new n hand answer → IsSameStatement (Some hand) (hand_after answer)
+  stays_the_same (stepped.Moved point now) stays = stays
+  stays_the_same (stepped.Done reply) stays = tt
+  stays_the_same (stepped.Blocked what holder now) stays = stays.1
+  stays_the_same (stepped.Undone (stops.Spent entries) now) stays = stays.1
+  stays_the_same (stepped.Undone stops.Disk now) stays = stays.1
+  stays_the_same (stepped.Undone (stops.Reopen faults) now) stays = stays.1
+  stays_the_same (stepped.Undone (stops.Damaged at) now) stays = stays.1
 
   stays_ready : (answer : Stepped) → HasCause told old.pages new.pages answer → OnOk (answer_of answer) (StaysReady old.pages new.pages)
   stays_ready (stepped.Moved point now) cause = cause
@@ -143,6 +164,10 @@ module _ {D : Type 0} (told : D → Told) (laws : SessionLaws told) (parts : Par
     hand = subst (λ (h : Option Hand). IsInHandThen (answer_of answer) h) (sym changes.own) (hand_then answer);
     holder = holder_is told before after n hand answer is_session (so.stays names hands is);
     names = refl;
+    others = record { hands = changes.others; sessions = others };
+    statement = subst (λ (h : Option Hand). IsSameStatement h (hand_in now n)) (sym is)
+        (subst (λ (h : Option Hand). IsSameStatement (Some hand) h) (sym changes.own) (stays_the_same told before after n hand answer (so.stays names hands is)));
+    still = stays_still told before after n hand answer (so.stays names hands is);
     leaves = others.leaves;
     journal = enters_nothing told before after n hand answer (so.stays names hands is);
     ready = stays_ready told before after n hand answer so.cause;

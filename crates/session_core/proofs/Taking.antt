@@ -1,5 +1,5 @@
 -- a store in which a session's statement is taken, or isn't
-use Rattle.std.proofs.Common.{◌≡◌, ℕ, ◌+◌, ◌<◌, ◌≤◌, true, false, Bool, List, length, Option, None, Some, IsSome, if◌then◌else◌, refl, sym, ap, subst, ◌∙◌, arith, length-set}
+use Rattle.std.proofs.Common.{◌≡◌, ℕ, ◌+◌, ◌<◌, ◌≤◌, true, false, Bool, List, length, Option, None, Some, IsSome, MatchOption, if◌then◌else◌, refl, sym, ap, subst, ◌∙◌, arith, length-set}
 use Rattle.std.proofs.lemmas.Option.{none-some}
 use Rattle.block_model.specs.declared.reply.Refusal.{Refusal}
 use Rattle.block_model.specs.declared.reply.Refusal.TheVariants as refusals
@@ -36,7 +36,7 @@ use Rattle.store_parts.specs.StoreStates.{StoreState, hand_at, hand_in, shown_of
 use Rattle.store_parts.specs.SubmitLaws.{ForgetsDropped, HasNotBegun}
 use Rattle.session_core.specs.SessionLaws.{SessionLaws}
 use Rattle.session_core.specs.StoreKept.{IsStoreKept}
-use Rattle.session_core.specs.Submitting.{Allows, TakesHand, begin_refusal, end_refusal, refusal_here, request_refusal, standing_refusal}
+use Rattle.session_core.specs.Submitting.{Allows, IsTakenUp, TakesHand, begin_refusal, end_refusal, refusal_here, request_refusal, standing_refusal}
 use Rattle.session_core.proofs.Kept.{fits_now, nobody_now, promised_now}
 use Rattle.session_core.proofs.Lists.{has_hand_set}
 
@@ -152,6 +152,18 @@ pub leads_short : {D : Type 0} (told : D → Told) → SessionLaws told → (s :
     → LeadsOn told s s (λ p q. Submits p n statement (Some refusals.Memory) q)
 leads_short told laws s n statement none wants = λ tells before after p shows. (p, shows, WantsMemory (sym (refusal_shown told laws s p n statement shows) ∙ none) wants)
 
+-- the refusal is the one that comes first, or want of memory where none does
+abbrev IsRefusedSo : {D : Type 0} → StoreState D → ℕ → Statement → Refusal → Type 0
+IsRefusedSo s n statement refusal = MatchOption (refusal_here s n statement) ((refusal ≡ refusals.Memory) × (may_want_memory statement ≡ true)) (λ because. refusal ≡ because)
+
+pub judged_refused : {D : Type 0} (s : StoreState D) (n : ℕ) (statement : Statement) (refusal : Refusal) → refusal_here s n statement ≡ Some refusal → IsRefusedSo s n statement refusal
+judged_refused s n statement refusal is =
+    subst (λ (o : Option Refusal). MatchOption o ((refusal ≡ refusals.Memory) × (may_want_memory statement ≡ true)) (λ because. refusal ≡ because)) (sym is) refl
+
+pub judged_short : {D : Type 0} (s : StoreState D) (n : ℕ) (statement : Statement) → refusal_here s n statement ≡ None → may_want_memory statement ≡ true → IsRefusedSo s n statement refusals.Memory
+judged_short s n statement none wants =
+    subst (λ (o : Option Refusal). MatchOption o ((refusals.Memory ≡ refusals.Memory) × (may_want_memory statement ≡ true)) (λ because. refusals.Memory ≡ because)) (sym none) (refl, wants)
+
 -- ---- one that is taken
 
 -- the parts of the store then, in which what the session asked for in vain is forgotten
@@ -238,11 +250,22 @@ module _ {D : Type 0} (told : D → Told) (laws : SessionLaws told) (parts : Par
   pub record IsTaken (new : Parts D) : Type 0 where
     pub kept_now : IsStoreKept told (store_of new names now) spares
     pub leads : LeadsOn told before (store_of new names now) (λ p q. Submits p n statement None q)
+    pub up : IsTakenUp before (store_of new names now) n statement
 
   pub is_taken : (new : Parts D) (dropped : List (List Dropped)) → ForgetsDropped new.dropped dropped n → TakesHand parts new statement hand → IsTaken (forgetting new dropped)
   is_taken new dropped forgets takes = subst (λ (q : Parts D). IsTaken (forgetting q dropped)) (sym takes.rest) (record {
     kept_now = kept_taken new.journal dropped forgot takes.entries takes.promised takes.statement_is takes.fresh fits;
     leads = leads_taken new.journal dropped forgot takes.entries takes.promised takes.statement_is takes.fresh fits;
+    up = record {
+      hand = hand;
+      in_hand = changes.own;
+      statement_is = takes.statement_is;
+      fresh = takes.fresh;
+      others = changes.others;
+      dropped = forgot;
+      entries = takes.entries;
+      rest = refl;
+    };
   })
     where
       forgot : ForgetsDropped parts.dropped dropped n
@@ -251,9 +274,9 @@ module _ {D : Type 0} (told : D → Told) (laws : SessionLaws told) (parts : Par
       fits : IsHandFor parts.pages.layout (transaction_of parts.transactions.opens n) hand
       fits = takes.fit (transaction_of parts.transactions.opens n) (is_allowed before n statement none)
 
-pub taken_as : {D : Type 0} (told : D → Told) (old before : StoreState D) (new : Parts D) (names more : List (List ℕ)) (hands now : List (Option Hand)) (P : Place → Place → Type 0)
-    → before ≡ old → more ≡ names → now ≡ hands → LeadsOn told before (store_of new names hands) P → LeadsOn told old (store_of new more now) P
-taken_as told old before new names more hands now P a b c leads =
-    subst (λ (s : StoreState _). LeadsOn told s (store_of new more now) P) a
-    (subst (λ (l : List (List ℕ)). LeadsOn told before (store_of new l now) P) (sym b)
-    (subst (λ (l : List (Option Hand)). LeadsOn told before (store_of new names l) P) (sym c) leads))
+pub taken_as : {D : Type 0} (P : StoreState D → StoreState D → Type 0) (old before : StoreState D) (new : Parts D) (names more : List (List ℕ)) (hands now : List (Option Hand))
+    → before ≡ old → more ≡ names → now ≡ hands → P before (store_of new names hands) → P old (store_of new more now)
+taken_as P old before new names more hands now a b c is =
+    subst (λ (s : StoreState _). P s (store_of new more now)) a
+    (subst (λ (l : List (List ℕ)). P before (store_of new l now)) (sym b)
+    (subst (λ (l : List (Option Hand)). P before (store_of new names l)) (sym c) is))

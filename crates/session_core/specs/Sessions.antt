@@ -1,13 +1,17 @@
 -- when a session is there, when a statement is taken, and what a session has in hand behind a step
-use Rattle.std.specs.Prelude.{◌≡◌, ℕ, ◌<◌, nat_lt, List, ◌++◌, [], ◌∷◌, length, true, false, Option, None, Some, IsSome, Result, Ok, Err, if◌then◌else◌}
+use Rattle.std.specs.Prelude.{◌≡◌, ◌≢◌, ℕ, ◌<◌, nat_lt, List, ◌++◌, [], ◌∷◌, length, true, false, Option, None, Some, IsSome, Result, Ok, Err, if◌then◌else◌}
 use Rattle.block_model.specs.declared.reply.Refusal.{Refusal}
+use Rattle.disk_trait.specs.Told.{Told}
 use Rattle.statements.specs.declared.limits.TheConstants.{MAX_SESSIONS}
 use Rattle.statements.specs.SessionNumbers.{session_number, with_session, is_past_sessions}
 use Rattle.store_parts.specs.declared.faults.Step.{Step}
 use Rattle.store_parts.specs.declared.faults.Step.TheVariants as steps
 use Rattle.store_parts.specs.declared.faults.StoreFault.{StoreFault}
+use Rattle.store_parts.specs.declared.faults.StoreFault.TheVariants as stops
 use Rattle.store_parts.specs.declared.hand.Hand.{Hand}
-use Rattle.store_parts.specs.StoreStates.{StoreState}
+use Rattle.store_parts.specs.Hands.{statement_of}
+use Rattle.store_parts.specs.StepAnswers.{LeavesSessions, StaysAsItWas}
+use Rattle.store_parts.specs.StoreStates.{StoreState, hand_at}
 use Rattle.session_core.specs.declared.faults.SessionFault.{SessionFault}
 use Rattle.session_core.specs.declared.faults.SessionFault.TheVariants as faults
 
@@ -41,3 +45,19 @@ IsInHandThen (Err fault) hand = IsSome hand
 abbrev pub NamesASession : ℕ → Step → Type 0
 NamesASession sessions (steps.Blocked what holder) = holder < sessions
 NamesASession sessions step = Unit {0}
+
+-- of the other sessions each has in hand what it had, and keeps its transaction, its locks, and what it asked for in vain
+pub record LeavesTheRest {D : Type 0} (told : D → Told) (old new : StoreState D) (n : ℕ) : Type 0 where
+  pub hands : (m : ℕ) → m ≢ n → hand_at new m ≡ hand_at old m
+  pub sessions : LeavesSessions told old new n
+
+-- what stays in hand is the statement that was in hand
+abbrev pub IsSameStatement : (old new : Option Hand) → Type 0
+IsSameStatement (Some was) (Some hand) = statement_of hand ≡ statement_of was
+IsSameStatement old new = Unit {0}
+
+-- where a step waits, and where the journal lacks room for it, nothing is changed
+abbrev pub StaysStill : {D : Type 0} → (D → Told) → (old new : StoreState D) → Result Step StoreFault → Type 0
+StaysStill told old new (Ok (steps.Blocked what holder)) = StaysAsItWas told old new
+StaysStill told old new (Err (stops.Spent entries)) = StaysAsItWas told old new
+StaysStill told old new answer = Unit {0}

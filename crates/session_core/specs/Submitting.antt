@@ -1,5 +1,5 @@
 -- which statements of a session are taken, and what they are in hand
-use Rattle.std.specs.Prelude.{◌≡◌, ℕ, ◌+◌, Option, None, Some, IsSome}
+use Rattle.std.specs.Prelude.{◌≡◌, ◌≢◌, ℕ, ◌+◌, true, Option, None, Some, IsSome, Result, Ok, Err, MatchOption}
 use Rattle.block_model.specs.declared.reply.Refusal.{Refusal}
 use Rattle.block_model.specs.declared.reply.Refusal.TheVariants as refusals
 use Rattle.statements.specs.declared.statement.Statement.{Statement}
@@ -9,14 +9,14 @@ use Rattle.row_versions.specs.declared.standing.Standing.{Standing}
 use Rattle.row_versions.specs.declared.standing.Standing.TheVariants as standings
 use Rattle.row_versions.specs.StoredVersions.{transaction_of}
 use Rattle.transactions.specs.Sessions.{open_standing}
-use Rattle.line_texts.specs.LineTexts.{block_refusal, in_hand_refusal, or_else}
+use Rattle.line_texts.specs.LineTexts.{block_refusal, in_hand_refusal, may_want_memory, or_else}
 use Rattle.store_parts.specs.declared.hand.Hand.{Hand}
 use Rattle.store_parts.specs.declared.parts.Parts.{Parts}
 use Rattle.store_parts.specs.HandFits.{IsHandFor, IsUnderWay}
 use Rattle.store_parts.specs.Hands.{statement_of}
 use Rattle.store_parts.specs.Shares.{hand_share}
 use Rattle.store_parts.specs.StoreStates.{StoreState, hand_at}
-use Rattle.store_parts.specs.SubmitLaws.{HasNotBegun}
+use Rattle.store_parts.specs.SubmitLaws.{ForgetsDropped, HasNotBegun}
 
 -- by how the session stands: a begin where a transaction is under way, an end where none is, and the rest of a transaction but in one that hasn't failed
 abbrev pub begin_refusal : Standing → Option Refusal
@@ -64,3 +64,19 @@ pub record TakesHand {D : Type 0} (old new : Parts D) (statement : Statement) (h
   pub entries : new.journal.entries ≡ old.journal.entries
   pub promised : new.journal.promised ≡ old.journal.promised + hand_share (Some hand)
   pub rest : new ≡ record old { journal = new.journal }
+
+-- The store takes it exactly where nothing speaks against it and there is memory; a refusal is that which speaks against it, or want of memory where nothing does.
+abbrev pub IsJudged : {D T : Type 0} → StoreState D → ℕ → Statement → Result T Refusal → Type 0
+IsJudged s n statement (Ok x) = refusal_here s n statement ≡ None
+IsJudged s n statement (Err refusal) = MatchOption (refusal_here s n statement) ((refusal ≡ refusals.Memory) × (may_want_memory statement ≡ true)) (λ because. refusal ≡ because)
+
+-- Session n has the statement in hand, before its first step, and what it asked for in vain is forgotten; the journal may promise more. All else is as it was.
+pub record IsTakenUp {D : Type 0} (old new : StoreState D) (n : ℕ) (statement : Statement) : Type 0 where
+  pub hand : Hand
+  pub in_hand : hand_at new n ≡ Some hand
+  pub statement_is : statement_of hand ≡ statement
+  pub fresh : HasNotBegun old.pages.layout hand
+  pub others : (m : ℕ) → m ≢ n → hand_at new m ≡ hand_at old m
+  pub dropped : ForgetsDropped old.dropped new.dropped n
+  pub entries : new.journal.entries ≡ old.journal.entries
+  pub rest : new ≡ record old { hands = new.hands; dropped = new.dropped; journal = new.journal }

@@ -13,8 +13,8 @@ ghost use Rattle.store_parts.specs.StepAnswers.{HasFaultCause, StaysReady};
 ghost use Rattle.store_parts.specs.StepIs.{LeadsOn, StepIs};
 ghost use Rattle.store_parts.specs.StoreStates.{hand_at};
 ghost use Rattle.store_starts.specs.OpenedParts.{NeverFails};
-ghost use Rattle.session_core.specs.Sessions.{HasSession, IsInHandThen, NamesASession, refusal_in};
-ghost use Rattle.session_core.specs.Submitting.{refusal_here};
+ghost use Rattle.session_core.specs.Sessions.{HasSession, IsInHandThen, IsSameStatement, LeavesTheRest, NamesASession, StaysStill, refusal_in};
+ghost use Rattle.session_core.specs.Submitting.{IsJudged, IsTakenUp, refusal_here};
 
 use crate::faults::SessionFault;
 use crate::laws::laws_of_sessions;
@@ -65,6 +65,7 @@ impl<D: Disk + Drop> Store<D> {
         ensures nothing { IfOk result (λ store. LeavesNothing (D.told store.pages.disk)) }
         ensures layout { IfOk result (λ store. store.pages.layout ≡ layout) }
         ensures ready { IfOk result (λ store. store.pages.failed ≡ None) }
+        ensures fresh { IfOk result (λ store. (store.names ≡ []) × (store.hands ≡ []) × (store.journal.entries ≡ [])) }
     {
         let parts = plain_parts(alloc, disk, layout)?;
         let sessions = Vec::new(alloc);
@@ -118,6 +119,8 @@ impl<D: Disk + Drop> Store<D> {
         ensures names { self.new.names ≡ self.old.names }
         ensures same { OnErr result (self.new ≡ self.old) }
         ensures in_hand { OnOk result (IsSome (hand_at self.new session)) }
+        ensures judged { IsJudged self.old session statement result }
+        ensures taken { OnOk result (IsTakenUp self.old self.new session statement) }
     {
         laws_of_sessions(&self.parts);
         if let Some(refusal) = self.refusal(session, &statement) {
@@ -139,6 +142,9 @@ impl<D: Disk + Drop> Store<D> {
         ensures hand { IsInHandThen result (hand_at self.new session) }
         ensures holder { IfOk result (NamesASession (length self.old.names)) }
         ensures names { self.new.names ≡ self.old.names }
+        ensures others { LeavesTheRest D.told self.old self.new session }
+        ensures statement { IsSameStatement (hand_at self.old session) (hand_at self.new session) }
+        ensures still { StaysStill D.told self.old self.new result }
         ensures leaves { Leaves D.told self.old.pages self.new.pages }
         ensures journal { OnErr result (self.new.journal.entries ≡ self.old.journal.entries) }
         ensures ready { OnOk result (StaysReady self.old.pages self.new.pages) }

@@ -5,6 +5,10 @@ use Rattle.block_model.specs.declared.row.Query.{Query}
 use Rattle.page_store.specs.declared.faults.StoreError.{StoreError}
 use Rattle.page_store.specs.Keeps.{Untold}
 use Rattle.page_store.specs.Outcome.{Refused}
+use Rattle.page_store.specs.PageMap.{View}
+use Rattle.logged_pages.specs.Survives.{Survives}
+use Rattle.tx_table.specs.Durable.{IsBefore}
+use Rattle.tx_table.proofs.Parts.{passed_none}
 use Rattle.tx_table.proofs.Stores.{keeps_same}
 use Rattle.brin_scan.specs.Finds.{FindHand}
 use Rattle.store_parts.specs.declared.faults.StoreFault.{StoreFault}
@@ -29,6 +33,12 @@ module _ {D : Type 0} (told : D → Told) (parts : Parts D) (n : ℕ) where
   refused_at_once hand fit error refused fault is other other_is =
       subst (λ (a : Stepped). StepsSo told parts parts n hand a) (λ i. stepped.Undone (sym is i) (sym other_is i))
       (refused_is_undone told parts parts n hand error fit (fit_of_parts told parts n hand fit).over (keeps_same told parts.pages).leaves (record { transactions = refl; locks = refl; rights = refl; journal = refl; queue = refl; dropped = refl }) refused)
+
+  -- and a crash leaves what one left before
+  pub passes_nothing : (mid : Parts D) → mid ≡ record parts { journal = mid.journal } → (pages : View D) → pages ≡ mid.pages → Survives told (λ passed. ⊥) parts.pages parts.pages
+      → Survives told (IsBefore parts.pages) parts.pages pages
+  passes_nothing mid rest pages is stays = subst (λ (v : View D). Survives told (IsBefore parts.pages) parts.pages v) (sym (is ∙ ap (λ (p : Parts D). p.pages) rest))
+      (passed_none told (IsBefore parts.pages) parts.pages parts.pages stays)
 
   module _ (looking : Looking) (query : Query) (fit : IsFit told parts n (first_hand_of looking query)) (mid : Parts D) (entries : mid.journal.entries ≡ parts.journal.entries)
       (rest : mid ≡ record parts { journal = mid.journal }) where

@@ -16,6 +16,7 @@ pub mod Ahead
 pub mod Frames
 pub mod Steps
 pub mod Short
+pub mod Behind
 pub mod Listed
 pub mod Marked
 pub mod Machine

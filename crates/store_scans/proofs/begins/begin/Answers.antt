@@ -1,11 +1,5 @@
-use Rattle.std.proofs.Common.{sym, ap, ◌∙◌, subst}
-use Rattle.logged_pages.specs.Survives.{Survives}
-use Rattle.page_store.specs.PageMap.{View}
-use Rattle.tx_table.specs.Durable.{IsBefore}
-use Rattle.tx_table.proofs.Parts.{passed_none}
-use Rattle.store_parts.specs.declared.parts.Parts.{Parts}
 use Rattle.store_scans.specs.Looks.{first_hand_of}
-use Rattle.store_scans.proofs.Begun.{may_scan, refused_at_once, scan_so, short_so}
+use Rattle.store_scans.proofs.Begun.{may_scan, passes_nothing, refused_at_once, scan_so, short_so}
 use Rattle.store_scans.proofs.begins.begin.Goals as goal
 
 pub returns-in-Err-clause-so : goal.returns-in-Err-clause-so
@@ -29,7 +23,4 @@ returns-in-Err-scan_for-clause-so g c =
 
 pub returns-in-Err-scan_for-clause-survives : goal.returns-in-Err-scan_for-clause-survives
 returns-in-Err-scan_for-clause-survives g c =
-    let parts = c.args.parts.now in
-    subst (λ (v : View g.row.D.Denot). Survives g.D.Disk.told (IsBefore parts.pages) parts.pages v)
-    (sym (c.lacks_memory_at_once.ensures.pages ∙ ap (λ (p : Parts g.row.D.Denot). p.pages) c.scan_for.ensures.rest))
-    (passed_none g.D.Disk.told (IsBefore parts.pages) parts.pages parts.pages c.ready.ensures.stays)
+    passes_nothing g.D.Disk.told c.args.parts.now c.args.session c.scan_for.new.parts c.scan_for.ensures.rest c.lacks_memory_at_once.new.parts.pages c.lacks_memory_at_once.ensures.pages c.ready.ensures.stays

@@ -1,13 +1,11 @@
-use Rattle.std.proofs.Common.{◌+◌, ◌<◌, ◌≤◌, ◌∷◌, ◌++◌, [], List, length, sym, ap, ◌∙◌, arith}
+use Rattle.std.proofs.Common.{◌+◌, ◌<◌, ◌≤◌, length, sym, ap, ◌∙◌, arith}
 use Rattle.std.proofs.lemmas.Bool.{false≢true}
-use Rattle.block_model.specs.declared.request.Entry.{Entry}
-use Rattle.block_model.specs.declared.row.Query.{Query}
 use Rattle.statements.specs.declared.limits.TheConstants.{MAX_ENTRIES}
 use Rattle.store_parts.specs.declared.faults.StoreFault.{StoreFault}
 use Rattle.store_parts.specs.declared.hand.Stepped.TheVariants as stepped
 use Rattle.store_scans.specs.Looks.{hand_before}
 use Rattle.store_scans.specs.ScanSteps.{parts_before}
-use Rattle.store_scans.proofs.Refusals.{refused_entry}
+use Rattle.store_scans.proofs.Behind.{refused_entered}
 use Rattle.store_scans.proofs.Short.{short_refused, short_spent}
 use Rattle.store_scans.proofs.Words.{promised_is, scan_share, share_is}
 use Rattle.store_scans.proofs.refusing.lacks_memory.Goals as goal
@@ -29,7 +27,6 @@ returns-clause-so g c =
     let may = c.requires.may in
     short_refused g.D.Disk.told c.laws_of_looks.ensures (parts_before scan.judging.stage parts) c.args.session c.args.looking scan may.fit may.find may.fresh c.requires.ready c.refuse_look.new.parts c.refuse_look.result
     c.refuse_look.ensures.answer c.refuse_look.ensures.failed
-    (c.refuse_look.ensures.entries ∙ ap (λ (l : List Entry). l ++ refused_entry c.args.session c.into_query.result ∷ []) c.release.ensures.entries
-    ∙ ap (λ (q : Query). parts.journal.entries ++ refused_entry c.args.session q ∷ []) c.into_query.ensures)
+    (refused_entered parts.journal.entries c.release.new.self.entries c.refuse_look.new.parts.journal.entries c.args.session scan.judging.query c.into_query.result c.release.ensures.entries c.into_query.ensures c.refuse_look.ensures.entries)
     c.refuse_look.ensures.rest (c.fits.ensures.0 c.if-not-fits.false) (scan_share scan.judging.stage) parts.journal.promised (share_is c.args.looking scan scan.judging.stage)
     (promised_is scan.judging.stage parts.journal.promised may.promised) (omega (arith, c.refuse_look.ensures.promised, c.release.ensures.promised))
