@@ -1,0 +1,11 @@
+mod Openings
+mod Rows
+mod Steps
+mod Numbers
+mod Splits
+mod Fronts
+mod Commits
+mod Copies
+mod Oldest
+mod Taken
+mod Unseen

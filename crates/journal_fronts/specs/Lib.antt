@@ -1,0 +1,10 @@
+pub mod Openings
+pub mod Numbers
+pub mod GoneRows
+pub mod Beginnings
+pub mod Copies
+pub mod OldestFront
+pub mod Commits
+pub mod TableRows
+pub mod UnseenRows
+pub mod TakenRows
