@@ -5,6 +5,4 @@
 #[cfg(test)]
 mod serial;
 #[cfg(test)]
-mod sessions;
-#[cfg(test)]
 mod snapshots;
