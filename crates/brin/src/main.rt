@@ -1,7 +1,26 @@
 //! The program: runs a script of session lines over tables. The words of the command line, standard input and standard
 //! output are handed to `brin_main`, which does all else; its status is the program's, and a status that isn't 0 has a text
 //! on standard error.
+//!
+//! Its tests are worked scripts, each run through `brin_main` in memory: what is written and the status are those of the row,
+//! whether bytes come and go one by one or in large pieces; and every interleaving of the steps of two statements. Texts are worked
+//! out by hand from what a line means, and none is the program's own.
 #![tactic(auto)]
+
+#[cfg(test)]
+mod limit_rows;
+#[cfg(test)]
+mod line_rows;
+#[cfg(test)]
+mod orders;
+#[cfg(test)]
+mod pairs;
+#[cfg(test)]
+mod row_runs;
+#[cfg(test)]
+mod step_rows;
+#[cfg(test)]
+mod word_rows;
 
 ghost use Rattle.std.specs.Prelude.{◌≡◌, ◌↔◌, None};
 ghost use Rattle.std.specs.IoError.{error_kind};

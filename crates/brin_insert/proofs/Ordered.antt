@@ -7,7 +7,7 @@ use Rattle.page_store.specs.Keeps.{Tells}
 use Rattle.page_store.specs.PageMap.{View, page_at}
 use Rattle.heap_rows.specs.Heaps.{relation_of as heap_of}
 use Rattle.heap_rows.specs.LeavesOthers.{LeavesOthers as LeavesOtherTables}
-use Rattle.opened_pages.specs.PageOrder.{IsIndexInOrder}
+use Rattle.store_opening.specs.PageOrder.{IsIndexInOrder}
 use Rattle.index_contents.specs.IndexContents.{index_page, relation_of}
 use Rattle.index_contents.specs.IndexChanges.{LeavesOthers}
 use Rattle.index_order.specs.KeepsOrder.{KeepsOrder}

@@ -6,7 +6,7 @@ use Rattle.store_layout.specs.DiskLayout.{DiskLayout}
 use Rattle.page_layout.specs.PageContents.{Slot}
 use Rattle.page_locks.specs.LockHolders.{LockState}
 use Rattle.page_store.specs.PageMap.{PageMap}
-use Rattle.opened_pages.specs.PageOrder.{IsIndexInOrder}
+use Rattle.store_opening.specs.PageOrder.{IsIndexInOrder}
 use Rattle.coverage.specs.IsCovered.{IndexState, IsIndexKept, index_view}
 use Rattle.coverage.specs.Statements.{Holding, Maintaining, Phase}
 use Rattle.table_coverage.specs.Machines.{Unseen, table_state}

@@ -14,7 +14,7 @@ ghost use Rattle.table_coverage.specs.StepsLeft.{HasAtMostTuples, IsSummarise, s
 ghost use Rattle.table_coverage.specs.Table.{Job, Maintains, Restarts, Task};
 ghost use Rattle.table_coverage.specs.TableCovered.{IsTableKept};
 ghost use Rattle.table_coverage.specs.TablePoints.{WaitedFor};
-ghost use Rattle.opened_pages.specs.PageOrder.{IsIndexInOrder};
+ghost use Rattle.store_opening.specs.PageOrder.{IsIndexInOrder};
 ghost use Rattle.coverage.specs.Statements.{Phase};
 ghost use Rattle.index_contents.specs.IndexContents.{index_page};
 ghost use Rattle.index_steps.specs.ShownRows.{shown_by};

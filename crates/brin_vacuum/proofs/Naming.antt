@@ -10,7 +10,7 @@ use Rattle.page_store.specs.Outcome.{NamesPage}
 use Rattle.page_store.specs.PageMap.{View}
 use Rattle.page_store.specs.declared.faults.StoreError.{StoreError}
 use Rattle.page_store.specs.declared.faults.StoreError.TheVariants as errors
-use Rattle.opened_pages.specs.PageOrder.{IsIndexInOrder}
+use Rattle.store_opening.specs.PageOrder.{IsIndexInOrder}
 use Rattle.tx_table.specs.LeavesRest.{NamesStatuses}
 use Rattle.tx_table.specs.Statuses.{status_relation}
 use Rattle.heap_rows.specs.Heaps.{relation_of as table_relation}

@@ -6,7 +6,7 @@ use Rattle.block_model.specs.declared.place.Place.{Place}
 use Rattle.disk_trait.specs.Told.{Told}
 use Rattle.page_store.specs.Keeps.{Keeps, Tells, keeps_on}
 use Rattle.page_store.specs.PageMap.{PageMap, View, block_at, page_at}
-use Rattle.opened_pages.specs.PageOrder.{kind_of}
+use Rattle.store_opening.specs.PageOrder.{kind_of}
 use Rattle.coverage.specs.Counts.{IsCountOf}
 use Rattle.index_layout.specs.IndexPages.{IsRegular}
 use Rattle.index_layout.specs.IndexReading.{is_regular, slots_of}

@@ -9,7 +9,7 @@ use Rattle.page_store.specs.declared.faults.StoreError.TheVariants as errors
 use Rattle.page_store.specs.Keeps.{Keeps, Leaves, Untold}
 use Rattle.page_store.specs.Outcome.{Outcome, Refused}
 use Rattle.page_store.specs.PageMap.{PageMap, View}
-use Rattle.opened_pages.specs.Reaches.{ReachesAny}
+use Rattle.store_opening.specs.Reaches.{ReachesAny}
 use Rattle.logged_pages.specs.Made.{IsOfDisk}
 use Rattle.logged_pages.specs.Survives.{Survives}
 use Rattle.engine_pages.specs.Kinds.{LeavesNothing, beside}

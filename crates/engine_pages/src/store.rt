@@ -14,7 +14,7 @@ ghost use Rattle.page_store.specs.PageRoom.{IsRoom, NamesSlot};
 ghost use Rattle.page_store.specs.Started.{AreFirst, started_count};
 ghost use Rattle.page_store.specs.FirstRoom.{IsFirstRoomOf};
 ghost use Rattle.index_layout.specs.IndexReading.{map_pages_of};
-ghost use Rattle.opened_pages.specs.Opens.{OpensAs};
+ghost use Rattle.store_opening.specs.Opens.{OpensAs};
 ghost use Rattle.logged_pages.specs.Survives.{Survives};
 ghost use Rattle.logged_pages.specs.Made.{IsOfDisk};
 ghost use Rattle.engine_pages.specs.Kinds.{LeavesNothing};

@@ -13,7 +13,7 @@ use Rattle.log_area.specs.Frames.{HoldsFrames}
 use Rattle.log_area.specs.Log.{area_start, chosen_area}
 use Rattle.page_store.specs.Forms.{IsPageIn}
 use Rattle.page_store.specs.PageMap.{unstarted_page}
-use Rattle.opened_pages.specs.Opens.{OpensAs, disk_page}
+use Rattle.store_opening.specs.Opens.{OpensAs, disk_page}
 use Rattle.store_format.specs.FreshStore.{IsClosed, IsFormatted, IsOldOrNew}
 use Rattle.store_format.proofs.Places.{fresh_status}
 use Rattle.fresh_store.specs.FreshPages.{IsOldOrFresh, fresh_pages}

@@ -10,7 +10,7 @@ use Rattle.store_layout.specs.RelationCounts.{blocks_of_index, blocks_of_statuse
 use Rattle.index_layout.specs.IndexPages.{map_bytes, meta_bytes}
 use Rattle.page_store.specs.PageMap.{block_at, block_limit}
 use Rattle.page_store.specs.PageMap as pages
-use Rattle.opened_pages.specs.PageOrder.{AreInOrder, IsIndexInOrder, StartsFirst, kind_of, map_pages}
+use Rattle.store_opening.specs.PageOrder.{AreInOrder, IsIndexInOrder, StartsFirst, kind_of, map_pages}
 use Rattle.store_format.specs.FreshStore.{fresh_index_page, unstarted_page, unused_statuses}
 use Rattle.store_format.proofs.Places.{fresh_index, fresh_status, fresh_table, index_others}
 use Rattle.fresh_store.specs.FreshPages.{fresh_pages}

@@ -6,7 +6,7 @@ use Rattle.store_layout.specs.DiskLayout.{DiskLayout}
 use Rattle.control_page.specs.ControlPage.{HasControl}
 use Rattle.disk_trait.specs.Told.{Told}
 use Rattle.page_store.specs.PageMap.{PageMap}
-use Rattle.opened_pages.specs.Opens.{OpensAs}
+use Rattle.store_opening.specs.Opens.{OpensAs}
 use Rattle.store_format.specs.FreshStore.{fresh_index_page, unstarted_page, unused_statuses}
 
 -- each status is unused, no page of a table is started, and each index has a metapage and one page of the map

@@ -6,8 +6,8 @@ ghost use Rattle.store_layout.specs.DiskLayout.{IsPlace};
 ghost use Rattle.disk_trait.specs.Told.{Told};
 ghost use Rattle.page_store.specs.Forms.{IsPageIn};
 ghost use Rattle.page_store.specs.PageMap.{IsWhole, page_at};
-ghost use Rattle.opened_pages.specs.Opens.{OpensAs};
-ghost use Rattle.opened_pages.specs.PageOrder.{AreInOrder};
+ghost use Rattle.store_opening.specs.Opens.{OpensAs};
+ghost use Rattle.store_opening.specs.PageOrder.{AreInOrder};
 ghost use Rattle.store_format.specs.FreshStore.{IsFormatted, IsOldOrNew, fresh_page};
 ghost use Rattle.fresh_store.specs.FreshPages.{IsOldOrFresh, fresh_pages};
 

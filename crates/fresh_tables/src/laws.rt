@@ -3,7 +3,7 @@
 ghost use Rattle.std.specs.Prelude.{◌≡◌, ◌<◌, ℕ, Bool, List, [], None, length, replicate};
 ghost use Rattle.block_model.specs.DatabaseState.{initial_state};
 ghost use Rattle.block_model.specs.declared.place.Place.{Place as AnyPlace};
-ghost use Rattle.opened_pages.specs.PageOrder.{IsIndexInOrder};
+ghost use Rattle.store_opening.specs.PageOrder.{IsIndexInOrder};
 ghost use Rattle.page_locks.specs.LockHolders.{LockState, holder};
 ghost use Rattle.heap_rows.specs.HeapBlocks.{HasBlocks};
 ghost use Rattle.snapshot_core.specs.declared.statuses.Status.{Status};

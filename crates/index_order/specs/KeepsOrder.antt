@@ -3,7 +3,7 @@ use Rattle.std.specs.Prelude.{◌≡◌, ◌≢◌, ◌⊎◌, ℕ, ◌<◌, Lis
 use Rattle.disk_trait.specs.Told.{Told}
 use Rattle.page_store.specs.Keeps.{Tells}
 use Rattle.page_store.specs.PageMap.{View}
-use Rattle.opened_pages.specs.PageOrder.{IsIndexInOrder, kind_of}
+use Rattle.store_opening.specs.PageOrder.{IsIndexInOrder, kind_of}
 use Rattle.index_contents.specs.IndexContents.{index_page}
 
 -- pages of the index that stood in order still do

@@ -6,7 +6,7 @@ use Rattle.disk_trait.specs.Told.{Told}
 use Rattle.store_layout.specs.DiskLayout.{DiskLayout}
 use Rattle.page_store.specs.Keeps.{Keeps}
 use Rattle.page_store.specs.PageMap.{PageMap, View, block_at}
-use Rattle.opened_pages.specs.PageOrder.{AreInOrder, IsIndexInOrder, IsOfTuples, empty_page, kind_of, map_pages}
+use Rattle.store_opening.specs.PageOrder.{AreInOrder, IsIndexInOrder, IsOfTuples, empty_page, kind_of, map_pages}
 use Rattle.index_contents.specs.IndexContents.{index_page, relation_of}
 use Rattle.index_contents.specs.PageLaws.{StayBeside}
 use Rattle.index_order.specs.KeepsOrder.{HasTuples, KeepsOrder, StandFirst}

@@ -6,7 +6,7 @@ use Rattle.disk_trait.specs.Told.{Told}
 use Rattle.store_layout.specs.DiskLayout.{DiskLayout}
 use Rattle.page_store.specs.Keeps.{Tells}
 use Rattle.page_store.specs.PageMap.{PageMap, View}
-use Rattle.opened_pages.specs.PageOrder.{IsIndexInOrder, kind_of, map_pages}
+use Rattle.store_opening.specs.PageOrder.{IsIndexInOrder, kind_of, map_pages}
 use Rattle.index_layout.specs.declared.format.TheConstants.{META, REGULAR, EVACUATED}
 use Rattle.index_layout.specs.IndexReading.{is_regular, map_pages_of, number_at}
 use Rattle.coverage.specs.IndexView.{Regular, Unstarted}

@@ -3,7 +3,7 @@
 ghost use Rattle.std.specs.Prelude.{◌≡◌, ◌<◌, ◌≤◌, ℕ, List, length};
 ghost use Rattle.store_layout.specs.DiskLayout.{DiskLayout};
 ghost use Rattle.page_store.specs.PageMap.{PageMap};
-ghost use Rattle.opened_pages.specs.PageOrder.{AreInOrder, IsIndexInOrder, kind_of, map_pages};
+ghost use Rattle.store_opening.specs.PageOrder.{AreInOrder, IsIndexInOrder, kind_of, map_pages};
 ghost use Rattle.index_contents.specs.IndexContents.{index_page};
 ghost use Rattle.index_contents.specs.PageLaws.{StayBeside};
 ghost use Rattle.index_order.specs.KeepsOrder.{HasTuples, StandFirst};

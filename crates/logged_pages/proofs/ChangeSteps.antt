@@ -23,7 +23,7 @@ use Rattle.logged_pages.specs.Contents.{HoldsAlike}
 use Rattle.logged_pages.specs.KeptPages.{KeptPages, LeftStore}
 use Rattle.logged_pages.specs.Made.{IsDamaged, IsOfDisk}
 use Rattle.logged_pages.specs.Room.{HasRoom, IsLoggable, bytes_for, bytes_with}
-use Rattle.opened_pages.specs.Reaches.{Reaches}
+use Rattle.store_opening.specs.Reaches.{Reaches}
 
 -- What is said of the pages after a call that changes none
 

@@ -19,9 +19,9 @@ use Rattle.buffer_pool.specs.NextDirty.{IsNextDirty}
 use Rattle.buffer_pool.specs.PoolState.{HeldPage, PoolState, held_at}
 use Rattle.buffer_pool.specs.WritesPage.{IsCleanable, LieWithin, WritesAt, place_of}
 use Rattle.change_buffer.specs.Waiting.{Waiting, no_changes}
-use Rattle.pooled_pages.specs.Safe.{is_marked}
-use Rattle.pooled_pages.specs.ShownLaws.{offset_of}
-use Rattle.pooled_pages.specs.ShownPages.{shown_pages}
+use Rattle.store_opening.specs.Safe.{is_marked}
+use Rattle.store_opening.specs.ShownLaws.{offset_of}
+use Rattle.store_opening.specs.ShownPages.{shown_pages}
 use Rattle.logged_pages.specs.Clean.{AreClean}
 use Rattle.logged_pages.specs.Contents.{HoldsAlike}
 use Rattle.logged_pages.specs.KeptPages.{KeptPages}

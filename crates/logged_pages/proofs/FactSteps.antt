@@ -16,9 +16,9 @@ use Rattle.page_store.specs.PageFacts.{facts_in, facts_on, no_facts}
 use Rattle.page_store.specs.PageMap.{PageMap, block_limit, page_at}
 use Rattle.page_store.proofs.FactsKept.{OneList}
 use Rattle.page_store.proofs.Rooms.{free_there, slot_there}
-use Rattle.pooled_pages.specs.PageNumbers.{page_number}
-use Rattle.pooled_pages.specs.ShownLaws.{same_place}
-use Rattle.pooled_pages.specs.ShownPages.{content_at}
+use Rattle.store_opening.specs.PageNumbers.{page_number}
+use Rattle.store_opening.specs.ShownLaws.{same_place}
+use Rattle.store_opening.specs.ShownPages.{content_at}
 use Rattle.logged_pages.specs.Noted.{noted}
 use Rattle.logged_pages.specs.StoreFacts.{AreFactsOf, IsFactPlace, IsSlotOf, facts_at}
 

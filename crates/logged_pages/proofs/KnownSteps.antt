@@ -13,10 +13,10 @@ use Rattle.page_store.specs.Forms.{IsPageIn, form_of}
 use Rattle.page_store.specs.PageFacts.{facts_on}
 use Rattle.page_store.specs.PageMap.{PageMap, page_at}
 use Rattle.page_store.proofs.FactsKept.{OneList}
-use Rattle.opened_pages.specs.Opens.{disk_page}
-use Rattle.pooled_pages.specs.PageNumbers.{page_number}
-use Rattle.pooled_pages.specs.ShownLaws.{one_number, shown_at}
-use Rattle.pooled_pages.specs.ShownPages.{content_at, shown_pages}
+use Rattle.store_opening.specs.Opens.{disk_page}
+use Rattle.store_opening.specs.PageNumbers.{page_number}
+use Rattle.store_opening.specs.ShownLaws.{one_number, shown_at}
+use Rattle.store_opening.specs.ShownPages.{content_at, shown_pages}
 use Rattle.logged_pages.specs.Contents.{AddsOnly, HoldsAlike}
 use Rattle.logged_pages.proofs.FactSteps.{known_still, noted_known}
 use Rattle.logged_pages.specs.KeptPages.{KeptPages}

@@ -21,13 +21,13 @@ use Rattle.change_buffer.specs.Waiting.{Waiting, no_changes}
 use Rattle.page_store.specs.Forms.{IsPageIn}
 use Rattle.page_store.specs.PageMap.{PageMap, page_at}
 use Rattle.wal_record.specs.Changes.{LoggedChange}
-use Rattle.opened_pages.specs.Opens.{disk_page}
-use Rattle.opened_pages.specs.Reaches.{OpensToOr}
-use Rattle.pooled_pages.specs.PageNumbers.{page_number}
-use Rattle.pooled_pages.specs.Safe.{IsSafe, is_marked}
-use Rattle.pooled_pages.specs.SafeLaws.{SamePages, same_pages, switch_reaches, switched_safe}
-use Rattle.pooled_pages.specs.ShownLaws.{shown_at, shown_whole}
-use Rattle.pooled_pages.specs.ShownPages.{shown_page, shown_pages}
+use Rattle.store_opening.specs.Opens.{disk_page}
+use Rattle.store_opening.specs.Reaches.{OpensToOr}
+use Rattle.store_opening.specs.PageNumbers.{page_number}
+use Rattle.store_opening.specs.Safe.{IsSafe, is_marked}
+use Rattle.store_opening.specs.SafeLaws.{SamePages, same_pages, switch_reaches, switched_safe}
+use Rattle.store_opening.specs.ShownLaws.{shown_at, shown_whole}
+use Rattle.store_opening.specs.ShownPages.{shown_page, shown_pages}
 use Rattle.logged_pages.specs.Clean.{AreClean}
 use Rattle.logged_pages.specs.Standing.{IsSound, IsStanding}
 use Rattle.logged_pages.proofs.Steps.{OneByOne, checked_map, no_bytes, pages_alike, shown_alike}

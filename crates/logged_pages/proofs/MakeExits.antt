@@ -15,12 +15,12 @@ use Rattle.change_buffer.specs.Waiting.{Waiting}
 use Rattle.page_redo.specs.Redo.{Fits}
 use Rattle.page_store.specs.Changed.{Changed}
 use Rattle.page_store.specs.PageMap.{page_at}
-use Rattle.opened_pages.specs.Opens.{disk_page}
+use Rattle.store_opening.specs.Opens.{disk_page}
 use Rattle.page_store.specs.Forms.{FitsIn, IsPageIn, form_of}
-use Rattle.pooled_pages.specs.PageNumbers.{page_number}
-use Rattle.pooled_pages.specs.Safe.{is_marked}
-use Rattle.pooled_pages.specs.ShownLaws.{one_number, shown_at}
-use Rattle.pooled_pages.specs.ShownPages.{content_at}
+use Rattle.store_opening.specs.PageNumbers.{page_number}
+use Rattle.store_opening.specs.Safe.{is_marked}
+use Rattle.store_opening.specs.ShownLaws.{one_number, shown_at}
+use Rattle.store_opening.specs.ShownPages.{content_at}
 use Rattle.logged_pages.specs.Begun.{HoldsOf, MakesHeld, RedoesHeld, Touched}
 use Rattle.logged_pages.specs.Contents.{HoldsAlike}
 use Rattle.logged_pages.specs.KeptPages.{LeftStore}

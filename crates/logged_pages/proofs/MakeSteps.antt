@@ -22,13 +22,13 @@ use Rattle.page_store.specs.Changed.{Changed}
 use Rattle.page_store.specs.Forms.{IsPageIn, form_of}
 use Rattle.page_store.specs.PageMap.{PageMap, block_limit, page_at, unstarted_page}
 use Rattle.page_store.proofs.Maps.{blocks_in, relations_in}
-use Rattle.opened_pages.specs.LoggedChanges.{AreChangesOf, BeginAnew, changes_at}
-use Rattle.opened_pages.specs.Opens.{disk_page}
-use Rattle.pooled_pages.specs.PageNumbers.{page_number}
-use Rattle.pooled_pages.specs.Safe.{Rebuilds, is_marked}
-use Rattle.pooled_pages.specs.SafeLaws.{all_append, at_append}
-use Rattle.pooled_pages.specs.ShownLaws.{one_number, same_place, shown_at, shown_whole}
-use Rattle.pooled_pages.specs.ShownPages.{shown_page, shown_pages}
+use Rattle.store_opening.specs.LoggedChanges.{AreChangesOf, BeginAnew, changes_at}
+use Rattle.store_opening.specs.Opens.{disk_page}
+use Rattle.store_opening.specs.PageNumbers.{page_number}
+use Rattle.store_opening.specs.Safe.{Rebuilds, is_marked}
+use Rattle.store_opening.specs.SafeLaws.{all_append, at_append}
+use Rattle.store_opening.specs.ShownLaws.{one_number, same_place, shown_at, shown_whole}
+use Rattle.store_opening.specs.ShownPages.{shown_page, shown_pages}
 use Rattle.logged_pages.specs.Begun.{MakesHeld, Touched, logged_for, with_changes}
 use Rattle.logged_pages.proofs.PoolSteps.{put_apart, put_here}
 use Rattle.logged_pages.specs.Room.{HasRoom, bytes_for, is_anew}

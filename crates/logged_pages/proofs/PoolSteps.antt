@@ -26,15 +26,15 @@ use Rattle.buffer_pool.specs.WritesPage.{IsCleanable, WritesAt, place_of}
 use Rattle.change_buffer.specs.Waiting.{Waiting, no_changes}
 use Rattle.page_store.specs.Forms.{IsPageIn}
 use Rattle.page_store.specs.PageMap.{PageMap}
-use Rattle.opened_pages.specs.LoggedChanges.{AreChangesOf, changes_at}
-use Rattle.opened_pages.specs.Opens.{disk_page}
-use Rattle.opened_pages.specs.Reaches.{OpensToOr}
-use Rattle.pooled_pages.specs.InPool.{Holds, IsHeldPage}
-use Rattle.pooled_pages.specs.PageNumbers.{page_number}
-use Rattle.pooled_pages.specs.Safe.{IsSafe, is_marked}
-use Rattle.pooled_pages.specs.SafeLaws.{torn_reaches, torn_safe}
-use Rattle.pooled_pages.specs.ShownLaws.{offset_of, one_number, same_place, same_shown}
-use Rattle.pooled_pages.specs.ShownPages.{content_at, shown_page, shown_pages}
+use Rattle.store_opening.specs.LoggedChanges.{AreChangesOf, changes_at}
+use Rattle.store_opening.specs.Opens.{disk_page}
+use Rattle.store_opening.specs.Reaches.{OpensToOr}
+use Rattle.store_opening.specs.InPool.{Holds, IsHeldPage}
+use Rattle.store_opening.specs.PageNumbers.{page_number}
+use Rattle.store_opening.specs.Safe.{IsSafe, is_marked}
+use Rattle.store_opening.specs.SafeLaws.{torn_reaches, torn_safe}
+use Rattle.store_opening.specs.ShownLaws.{offset_of, one_number, same_place, same_shown}
+use Rattle.store_opening.specs.ShownPages.{content_at, shown_page, shown_pages}
 use Rattle.logged_pages.specs.Contents.{HoldsAlike}
 use Rattle.logged_pages.specs.Room.{IsDurable}
 use Rattle.logged_pages.specs.Standing.{IsSound, IsStanding}

@@ -4,7 +4,7 @@ use Rattle.block_model.specs.declared.place.Place.{Place}
 use Rattle.store_layout.specs.DiskLayout.{DiskLayout}
 use Rattle.log_area.specs.Log.{Log}
 use Rattle.change_buffer.specs.Waiting.{Waiting, no_changes}
-use Rattle.pooled_pages.specs.Safe.{is_marked}
+use Rattle.store_opening.specs.Safe.{is_marked}
 use Rattle.logged_pages.specs.LoggedState.{LoggedState}
 use Rattle.logged_pages.specs.Room.{HasLogRoom, HasRoom, IsEmptied, bytes_with}
 

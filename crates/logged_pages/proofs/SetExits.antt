@@ -13,10 +13,10 @@ use Rattle.buffer_pool.specs.PoolState.{HeldPage, PoolState, IsClean, held_at}
 use Rattle.buffer_pool.specs.SetsPage.{IsAllDirty, SetsPage}
 use Rattle.page_store.specs.Forms.{IsPageIn}
 use Rattle.page_store.specs.PageMap.{page_at}
-use Rattle.opened_pages.specs.Opens.{disk_page}
-use Rattle.pooled_pages.specs.PageNumbers.{page_number}
-use Rattle.pooled_pages.specs.ShownLaws.{shown_at}
-use Rattle.pooled_pages.specs.ShownPages.{shown_pages}
+use Rattle.store_opening.specs.Opens.{disk_page}
+use Rattle.store_opening.specs.PageNumbers.{page_number}
+use Rattle.store_opening.specs.ShownLaws.{shown_at}
+use Rattle.store_opening.specs.ShownPages.{shown_pages}
 use Rattle.logged_pages.specs.Contents.{AddsOnly}
 use Rattle.logged_pages.specs.KeptPages.{KeptPages}
 use Rattle.logged_pages.specs.LoggedState.{LoggedState, store_of}

@@ -18,11 +18,11 @@ use Rattle.buffer_pool.specs.SetLaws.{held_after}
 use Rattle.change_buffer.specs.Waiting.{Waiting}
 use Rattle.page_store.specs.Forms.{IsPageIn}
 use Rattle.page_store.specs.PageMap.{PageMap, page_at}
-use Rattle.opened_pages.specs.Opens.{disk_page}
-use Rattle.pooled_pages.specs.PageNumbers.{page_number}
-use Rattle.pooled_pages.specs.Safe.{IsSafe}
-use Rattle.pooled_pages.specs.ShownLaws.{one_number, same_place, same_shown, shown_at}
-use Rattle.pooled_pages.specs.ShownPages.{content_at, shown_page, shown_pages}
+use Rattle.store_opening.specs.Opens.{disk_page}
+use Rattle.store_opening.specs.PageNumbers.{page_number}
+use Rattle.store_opening.specs.Safe.{IsSafe}
+use Rattle.store_opening.specs.ShownLaws.{one_number, same_place, same_shown, shown_at}
+use Rattle.store_opening.specs.ShownPages.{content_at, shown_page, shown_pages}
 use Rattle.logged_pages.specs.Contents.{AddsOnly}
 use Rattle.logged_pages.specs.Standing.{IsStanding}
 

@@ -6,13 +6,13 @@ use Rattle.page_store.specs.declared.facts.PageFacts.{PageFacts}
 use Rattle.page_store.specs.Forms.{IsPageIn, form_of}
 use Rattle.page_store.specs.PageFacts.{facts_on}
 use Rattle.buffer_pool.specs.PoolState.{held_at}
-use Rattle.opened_pages.specs.Opens.{OpensAs}
+use Rattle.store_opening.specs.Opens.{OpensAs}
 use Rattle.change_buffer.specs.Waiting.{no_changes}
-use Rattle.pooled_pages.specs.PageNumbers.{page_number}
-use Rattle.pooled_pages.specs.ShownLaws.{shown_at, shown_whole}
-use Rattle.pooled_pages.specs.ShownPages.{shown_pages}
-use Rattle.pooled_pages.specs.SafeLaws.{opens_safe}
-use Rattle.log_redo.proofs.Pooling.{lent_held}
+use Rattle.store_opening.specs.PageNumbers.{page_number}
+use Rattle.store_opening.specs.ShownLaws.{shown_at, shown_whole}
+use Rattle.store_opening.specs.ShownPages.{shown_pages}
+use Rattle.store_opening.specs.SafeLaws.{opens_safe}
+use Rattle.store_opening.proofs.Pooling.{lent_held}
 use Rattle.store_opening.specs.Opened.{IsOpened}
 use Rattle.store_opening.specs.declared.opening.Opened.{Opened}
 use Rattle.store_opening.specs.StartCauses.{StartCause}

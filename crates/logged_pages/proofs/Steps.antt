@@ -17,15 +17,15 @@ use Rattle.buffer_pool.specs.PoolState.{PoolState}
 use Rattle.change_buffer.specs.Waiting.{Waiting, no_changes}
 use Rattle.page_store.specs.Forms.{IsPageIn}
 use Rattle.page_store.specs.PageMap.{PageMap, page_at}
-use Rattle.opened_pages.specs.LoggedChanges.{AreChangesOf}
-use Rattle.opened_pages.proofs.Once.{some}
-use Rattle.opened_pages.specs.Opens.{OpensAs}
-use Rattle.opened_pages.specs.Reaches.{OpensToOr, Reaches}
-use Rattle.pooled_pages.specs.PageNumbers.{page_number}
-use Rattle.pooled_pages.specs.Safe.{IsSafe}
-use Rattle.pooled_pages.specs.SafeLaws.{SamePages, append_reaches, appended_safe, opens_safe, same_pages}
-use Rattle.pooled_pages.specs.ShownPages.{content_at, shown_page, shown_pages}
-use Rattle.pooled_pages.specs.ShownLaws.{same_shown, shown_at, shown_whole}
+use Rattle.store_opening.specs.LoggedChanges.{AreChangesOf}
+use Rattle.store_opening.proofs.Once.{some}
+use Rattle.store_opening.specs.Opens.{OpensAs}
+use Rattle.store_opening.specs.Reaches.{OpensToOr, Reaches}
+use Rattle.store_opening.specs.PageNumbers.{page_number}
+use Rattle.store_opening.specs.Safe.{IsSafe}
+use Rattle.store_opening.specs.SafeLaws.{SamePages, append_reaches, appended_safe, opens_safe, same_pages}
+use Rattle.store_opening.specs.ShownPages.{content_at, shown_page, shown_pages}
+use Rattle.store_opening.specs.ShownLaws.{same_shown, shown_at, shown_whole}
 use Rattle.logged_pages.specs.KeptPages.{KeptPages, LeftStore}
 use Rattle.logged_pages.specs.LoggedState.{LoggedState, store_of}
 use Rattle.logged_pages.specs.Standing.{IsStanding}

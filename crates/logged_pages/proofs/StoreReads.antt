@@ -24,7 +24,7 @@ use Rattle.page_store.proofs.FactsKept.{OneList}
 use Rattle.page_store.proofs.Maps.{blocks_in, relations_in}
 use Rattle.page_store.proofs.PageKinds.{kind_unstarted, unstarted_is, zero_kind}
 use Rattle.page_store.proofs.Rooms.{free_there, lowest_same}
-use Rattle.pooled_pages.specs.ShownLaws.{shown_whole}
+use Rattle.store_opening.specs.ShownLaws.{shown_whole}
 use Rattle.logged_pages.specs.LoggedState.{LoggedState, store_of}
 use Rattle.logged_pages.proofs.RelationSteps.{count_known, facts_long, first_known, maps_known, room_known}
 use Rattle.logged_pages.specs.StoreFacts.{AreKnown, IsSlotOf, facts_at}

@@ -7,11 +7,11 @@ use Rattle.disk_trait.specs.Told.{Told}
 use Rattle.disk_trait.specs.ThroughoutLaws.{weaker}
 use Rattle.page_store.specs.Keeps.{Keeps, Leaves}
 use Rattle.page_store.specs.PageMap.{PageMap, View, page_at}
-use Rattle.opened_pages.specs.Opens.{OpensAs, disk_page}
-use Rattle.opened_pages.specs.Reaches.{Reaches, ReachesAny}
-use Rattle.pooled_pages.specs.PageNumbers.{page_number}
-use Rattle.pooled_pages.specs.ShownLaws.{shown_at}
-use Rattle.pooled_pages.specs.ShownPages.{content_at}
+use Rattle.store_opening.specs.Opens.{OpensAs, disk_page}
+use Rattle.store_opening.specs.Reaches.{Reaches, ReachesAny}
+use Rattle.store_opening.specs.PageNumbers.{page_number}
+use Rattle.store_opening.specs.ShownLaws.{shown_at}
+use Rattle.store_opening.specs.ShownPages.{content_at}
 use Rattle.logged_pages.specs.KeptPages.{KeptPages, LeftStore}
 use Rattle.logged_pages.specs.LoggedState.{LoggedState, store_of}
 use Rattle.logged_pages.specs.Survives.{Survives, survives_none}

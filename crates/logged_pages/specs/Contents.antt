@@ -1,7 +1,7 @@
 -- what is held in a pool before and after a call
 use Rattle.std.specs.Prelude.{◌≡◌, ◌⊎◌, ℕ, List, Some}
 use Rattle.buffer_pool.specs.PoolState.{PoolState}
-use Rattle.pooled_pages.specs.ShownPages.{content_at}
+use Rattle.store_opening.specs.ShownPages.{content_at}
 
 -- the same pages are held, with the same bytes
 abbrev pub HoldsAlike : PoolState → PoolState → Type 0

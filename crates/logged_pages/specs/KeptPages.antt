@@ -6,8 +6,8 @@ use Rattle.disk_trait.specs.Told.{Told}
 use Rattle.disk_trait.specs.Throughout.{Throughout}
 use Rattle.page_store.specs.PageMap.{PageMap, View}
 use Rattle.page_store.specs.Keeps.{Tells}
-use Rattle.opened_pages.specs.Opens.{OpensAs}
-use Rattle.opened_pages.specs.Reaches.{OpensToOr, Reaches}
+use Rattle.store_opening.specs.Opens.{OpensAs}
+use Rattle.store_opening.specs.Reaches.{OpensToOr, Reaches}
 
 -- At every moment of the call, and once it is done, each image comes from one that was there when it began, and opens to the pages
 -- that the store had then or to what that one did. A disk that has an image tells its contents.

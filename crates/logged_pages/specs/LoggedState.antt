@@ -9,7 +9,7 @@ use Rattle.log_area.specs.Log.{Log}
 use Rattle.buffer_pool.specs.PoolState.{PoolState, coded_pool}
 use Rattle.change_buffer.specs.Waiting.{Waiting}
 use Rattle.page_store.specs.PageMap.{View}
-use Rattle.pooled_pages.specs.ShownPages.{shown_pages}
+use Rattle.store_opening.specs.ShownPages.{shown_pages}
 
 -- the disk and its layout, its log, the pages that are held, which pages the log begins anew, the changes that wait for the log,
 -- and the count of the disk's faults that was kept when one came

@@ -9,7 +9,7 @@ use Rattle.page_layout.specs.PageContents.{IsPageOf}
 use Rattle.buffer_pool.specs.PoolState.{PoolState}
 use Rattle.page_store.specs.declared.faults.StoreError.{StoreError}
 use Rattle.page_store.specs.declared.faults.StoreError.TheVariants as errors
-use Rattle.pooled_pages.specs.ShownPages.{content_at}
+use Rattle.store_opening.specs.ShownPages.{content_at}
 
 -- the page of that number is what the change makes of it, and the others are held as they were
 pub record MakesPage (form : Form) (number : ℕ) (change : LoggedChange) (old new : PoolState) : Type 0 where

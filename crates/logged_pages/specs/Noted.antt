@@ -7,7 +7,7 @@ use Rattle.page_store.specs.PageFacts.{IsMadeFrom, facts_on}
 use Rattle.page_layout.specs.PageContents.{IsPageOf}
 use Rattle.wal_record.specs.Changes.{LoggedChange}
 use Rattle.buffer_pool.specs.PoolState.{PoolState}
-use Rattle.pooled_pages.specs.ShownPages.{content_at}
+use Rattle.store_opening.specs.ShownPages.{content_at}
 
 -- the page at the place has these facts, and the others have theirs
 abbrev pub noted : List (List PageFacts) → Place → PageFacts → List (List PageFacts)

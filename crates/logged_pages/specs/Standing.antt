@@ -10,10 +10,10 @@ use Rattle.wal_record.specs.Changes.{LoggedChange}
 use Rattle.buffer_pool.specs.PoolState.{PoolState}
 use Rattle.change_buffer.specs.Waiting.{Waiting}
 use Rattle.page_store.specs.Forms.{IsPageIn}
-use Rattle.opened_pages.specs.LoggedChanges.{AreChangesOf}
-use Rattle.pooled_pages.specs.ShownPages.{shown_page, shown_pages}
-use Rattle.pooled_pages.specs.InPool.{HoldsPages, IsInPool, WaitsAtMost}
-use Rattle.pooled_pages.specs.Safe.{IsSafe}
+use Rattle.store_opening.specs.LoggedChanges.{AreChangesOf}
+use Rattle.store_opening.specs.ShownPages.{shown_page, shown_pages}
+use Rattle.store_opening.specs.InPool.{HoldsPages, IsInPool, WaitsAtMost}
+use Rattle.store_opening.specs.Safe.{IsSafe}
 
 -- the bytes that wait are those of some changes; pages in the pool stand to disk and log as they should, and each image is safe
 pub record IsSound (disk : Told) (layout : DiskLayout) (log : Log) (pool : PoolState) (marks : List Bool) (waiting : Waiting) : Type 0 where

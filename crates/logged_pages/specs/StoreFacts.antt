@@ -10,8 +10,8 @@ use Rattle.page_store.specs.Forms.{form_of}
 use Rattle.page_store.specs.PageFacts.{facts_in, facts_on}
 use Rattle.page_store.specs.PageMap.{PageMap, page_at}
 use Rattle.disk_trait.specs.Told.{Told}
-use Rattle.pooled_pages.specs.PageNumbers.{page_number}
-use Rattle.pooled_pages.specs.ShownPages.{content_at}
+use Rattle.store_opening.specs.PageNumbers.{page_number}
+use Rattle.store_opening.specs.ShownPages.{content_at}
 use Rattle.logged_pages.specs.LoggedState.{LoggedState, store_of}
 
 -- of each relation the facts of its pages, by their blocks

@@ -7,8 +7,8 @@ use Rattle.disk_trait.specs.Throughout.{Throughout}
 use Rattle.disk_trait.specs.ThroughoutLaws.{started, weaker}
 use Rattle.page_store.specs.PageMap.{PageMap, View}
 use Rattle.page_store.specs.Keeps.{Tells}
-use Rattle.opened_pages.specs.Opens.{OpensAs}
-use Rattle.opened_pages.specs.Reaches.{OpensWith, ReachesAny}
+use Rattle.store_opening.specs.Opens.{OpensAs}
+use Rattle.store_opening.specs.Reaches.{OpensWith, ReachesAny}
 
 -- At every moment of the calls, and once they are done, each image comes from one that was there when they began, and opens to
 -- pages that they passed or to what that one did. A disk that has an image tells its contents.

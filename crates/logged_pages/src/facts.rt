@@ -9,7 +9,7 @@ ghost use Rattle.page_store.specs.Forms.{form_of, forms_of};
 ghost use Rattle.page_store.specs.Keeps.{Untold};
 ghost use Rattle.page_store.specs.Outcome.{NamesPage, Outcome};
 ghost use Rattle.buffer_pool.specs.PoolState.{held_at};
-ghost use Rattle.pooled_pages.specs.PageNumbers.{page_number};
+ghost use Rattle.store_opening.specs.PageNumbers.{page_number};
 ghost use Rattle.logged_pages.specs.KeptPages.{KeptPages};
 ghost use Rattle.logged_pages.specs.LoggedState.{store_of};
 ghost use Rattle.logged_pages.specs.StoreFacts.{AreKnown, IsFactPlace, facts_at};

@@ -3,9 +3,9 @@
 ghost use Rattle.std.specs.Prelude.{◌≡◌, ℕ, List, IsTrue, None, IfErr, IfOk, MatchResult};
 ghost use Rattle.disk_trait.specs.Throughout.{Throughout};
 ghost use Rattle.page_store.specs.Keeps.{Tells};
-ghost use Rattle.opened_pages.specs.Opens.{OpensAs};
-ghost use Rattle.opened_pages.specs.PageOrder.{AreInOrder};
-ghost use Rattle.opened_pages.specs.Reaches.{OpensAsBefore};
+ghost use Rattle.store_opening.specs.Opens.{OpensAs};
+ghost use Rattle.store_opening.specs.PageOrder.{AreInOrder};
+ghost use Rattle.store_opening.specs.Reaches.{OpensAsBefore};
 ghost use Rattle.store_opening.specs.StartCauses.{HasStore};
 ghost use Rattle.store_opening.specs.Untouched.{IsUntouched};
 ghost use Rattle.logged_pages.specs.Refused.{IsRefused};

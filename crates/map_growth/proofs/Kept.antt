@@ -2,7 +2,7 @@
 use Rattle.std.proofs.Common.{◌≡◌, ℕ, ◌<◌, Option, sym, subst, ◌∙◌}
 use Rattle.store_layout.specs.DiskLayout.{DiskLayout}
 use Rattle.page_store.specs.PageMap.{PageMap}
-use Rattle.opened_pages.specs.PageOrder.{IsIndexInOrder}
+use Rattle.store_opening.specs.PageOrder.{IsIndexInOrder}
 use Rattle.coverage.specs.IndexView.{Mapping, PageKind, Pages, Unstarted, next_map_page}
 use Rattle.coverage.specs.IsCovered.{IndexState, IsIndexKept, index_view}
 use Rattle.coverage.specs.Knowing.{Knows}

@@ -18,7 +18,7 @@ use Rattle.engine_pages.specs.SurvivesLaws.{survives_on}
 use Rattle.index_contents.specs.Calls.{refused_then}
 use Rattle.index_contents.specs.IndexContents.{contents, index_page, relation_of}
 use Rattle.index_contents.specs.IndexChanges.{LeavesOthers}
-use Rattle.opened_pages.specs.PageOrder.{IsIndexInOrder}
+use Rattle.store_opening.specs.PageOrder.{IsIndexInOrder}
 use Rattle.index_steps.specs.IndexTuples.{shape_of}
 use Rattle.index_steps.specs.StepAnswers.{BlockedWell}
 use Rattle.index_steps.specs.SwapAnswers.{FaultNamesPageOf, LeavesLocks, MachineOutcome, NamesHeld, SaysFullIn}

@@ -13,7 +13,7 @@ use Rattle.page_locks.specs.declared.held.Held.{Held}
 use Rattle.page_locks.specs.LockCounts.{locks_of}
 use Rattle.page_locks.specs.LockHolders.{LockState, holder}
 use Rattle.logged_pages.specs.Survives.{Survives}
-use Rattle.opened_pages.specs.PageOrder.{IsIndexInOrder}
+use Rattle.store_opening.specs.PageOrder.{IsIndexInOrder}
 use Rattle.index_contents.specs.IndexContents.{contents, index_page, relation_of}
 use Rattle.index_contents.specs.IndexChanges.{LeavesOthers}
 use Rattle.index_steps.specs.IndexTuples.{shape_of}

@@ -3,7 +3,7 @@
 ghost use Rattle.std.specs.Prelude.{◌≡◌, ℕ, Option};
 ghost use Rattle.store_layout.specs.DiskLayout.{DiskLayout};
 ghost use Rattle.page_store.specs.PageMap.{PageMap};
-ghost use Rattle.opened_pages.specs.PageOrder.{IsIndexInOrder};
+ghost use Rattle.store_opening.specs.PageOrder.{IsIndexInOrder};
 ghost use Rattle.coverage.specs.IsCovered.{IndexState, IsIndexKept, index_view};
 ghost use Rattle.coverage.specs.Statements.{Maintaining};
 ghost use Rattle.index_contents.specs.IndexContents.{IndexContents, contents, index_page};

@@ -18,7 +18,7 @@ use Rattle.page_store.specs.Forms.{FitsIn, IsPageIn, form_of}
 use Rattle.page_store.specs.Keeps.{Leaves, Tells}
 use Rattle.page_store.specs.PageMap.{PageMap, View, block_at, page_at}
 use Rattle.wal_record.specs.Changes.{Evacuate, LoggedChange, MapPage, MetaSet, PageStart}
-use Rattle.opened_pages.specs.PageOrder.{IsIndexInOrder, kind_of}
+use Rattle.store_opening.specs.PageOrder.{IsIndexInOrder, kind_of}
 use Rattle.index_layout.specs.declared.format.TheConstants.{UNSTARTED, META, MAP, EVACUATED, MAP_ENTRIES}
 use Rattle.index_layout.specs.IndexPages.{IsLastUsed, IsMeta, IsRegular, Slot}
 use Rattle.index_layout.specs.IndexReading.{is_regular, map_pages_of, number_at, slots_of}

@@ -5,7 +5,7 @@ use Rattle.std.proofs.lemmas.List.{length-replicate, replicate-append-replicate}
 use Rattle.std.proofs.lemmas.Option.{none-some}
 use Rattle.block_model.specs.declared.limits.TheConstants.{PAGE_SIZE}
 use Rattle.block_model.specs.declared.place.Spot.{Spot}
-use Rattle.opened_pages.specs.PageOrder.{empty_page}
+use Rattle.store_opening.specs.PageOrder.{empty_page}
 use Rattle.index_layout.specs.declared.format.TheConstants.{MAP, MAP_ENTRIES}
 use Rattle.index_layout.specs.IndexPages.{AreEntries, IsMap, entries_bytes, header, map_bytes}
 use Rattle.index_layout.specs.IndexReading.{entries_of}

@@ -4,7 +4,7 @@ use Rattle.std.specs.Prelude.{◌==◌, if◌then◌else◌}
 use Rattle.std.proofs.lemmas.Bool.{cases_eq}
 use Rattle.store_layout.specs.DiskLayout.{DiskLayout}
 use Rattle.page_store.specs.PageMap.{PageMap}
-use Rattle.opened_pages.specs.PageOrder.{IsIndexInOrder, IsOfTuples, empty_page, kind_of, map_pages}
+use Rattle.store_opening.specs.PageOrder.{IsIndexInOrder, IsOfTuples, empty_page, kind_of, map_pages}
 use Rattle.index_layout.specs.declared.format.TheConstants.{META}
 use Rattle.index_layout.specs.IndexReading.{map_pages_of, number_at}
 use Rattle.coverage.specs.IndexView.{Mapping, next_map_page}

@@ -3,7 +3,7 @@
 ghost use Rattle.std.specs.Prelude.{◌≡◌, ◌<◌, ℕ};
 ghost use Rattle.store_layout.specs.DiskLayout.{DiskLayout};
 ghost use Rattle.page_store.specs.PageMap.{PageMap};
-ghost use Rattle.opened_pages.specs.PageOrder.{IsIndexInOrder};
+ghost use Rattle.store_opening.specs.PageOrder.{IsIndexInOrder};
 ghost use Rattle.coverage.specs.IndexView.{Mapping, next_map_page};
 ghost use Rattle.index_contents.specs.IndexContents.{contents, index_page};
 ghost use Rattle.map_pages.specs.declared.next.PageState.{PageState};

@@ -5,7 +5,7 @@ ghost use Rattle.store_layout.specs.DiskLayout.{DiskLayout};
 ghost use Rattle.page_store.specs.PageMap.{PageMap};
 ghost use Rattle.range_tuple.specs.ExactTuples.{IsExactTuple};
 ghost use Rattle.range_tuple.specs.Tuples.{Tuple, parts_of};
-ghost use Rattle.opened_pages.specs.PageOrder.{IsIndexInOrder};
+ghost use Rattle.store_opening.specs.PageOrder.{IsIndexInOrder};
 ghost use Rattle.coverage.specs.IsCovered.{IndexState, IsIndexKept, index_view};
 ghost use Rattle.coverage.specs.Statements.{Maintaining};
 ghost use Rattle.index_contents.specs.IndexContents.{IndexContents, contents, index_page};

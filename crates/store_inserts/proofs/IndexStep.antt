@@ -13,7 +13,7 @@ use Rattle.block_model.specs.RequestEffect.{Inserted}
 use Rattle.page_store.specs.PageMap.{block_at, page_at}
 use Rattle.page_locks.specs.LockHolders.{holder}
 use Rattle.page_locks.specs.RightHolders.{right_of}
-use Rattle.opened_pages.specs.PageOrder.{IsIndexInOrder}
+use Rattle.store_opening.specs.PageOrder.{IsIndexInOrder}
 use Rattle.heap_rows.specs.HeapBlocks.{HasBlocks}
 use Rattle.heap_rows.specs.Heaps.{relation_of as heap_of}
 use Rattle.row_versions.specs.declared.sessions.Open.{Open}

@@ -20,7 +20,7 @@ use Rattle.page_store.specs.PageMap.{page_at}
 use Rattle.page_locks.specs.declared.did.Did.{Did}
 use Rattle.page_locks.specs.LockHolders.{holder}
 use Rattle.page_locks.specs.RightHolders.{right_of}
-use Rattle.opened_pages.specs.PageOrder.{IsIndexInOrder}
+use Rattle.store_opening.specs.PageOrder.{IsIndexInOrder}
 use Rattle.heap_rows.specs.HeapBlocks.{HasBlocks}
 use Rattle.heap_rows.specs.Heaps.{relation_of as heap_of, slots_a_page}
 use Rattle.heap_rows.specs.RowPlaces.{FillsSlot, new_row}

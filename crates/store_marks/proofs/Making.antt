@@ -27,7 +27,7 @@ use Rattle.heap_rows.specs.HeapBlocks.{HasBlocks, OfBlocks}
 use Rattle.heap_rows.specs.Heaps.{relation_of}
 use Rattle.heap_rows.specs.LeavesOthers.{LeavesOthers as LeavesOtherTables}
 use Rattle.heap_rows.specs.RowPlaces.{ChangesSlot, MarksRow, MarksSlot, slot_at, with_slot}
-use Rattle.opened_pages.specs.PageOrder.{IsIndexInOrder}
+use Rattle.store_opening.specs.PageOrder.{IsIndexInOrder}
 use Rattle.page_store.specs.PageMap.{View}
 use Rattle.store_layout.specs.DiskLayout.{DiskLayout}
 use Rattle.index_contents.specs.IndexContents.{relation_of as index_relation}

@@ -12,9 +12,9 @@ use Rattle.page_store.specs.declared.facts.PageFacts.{PageFacts}
 use Rattle.page_store.specs.PageFacts.{facts_in}
 use Rattle.page_store.specs.PageMap.{PageMap, block_at, block_limit}
 use Rattle.buffer_pool.specs.PoolState.{PoolState}
-use Rattle.opened_pages.specs.PageOrder.{AreInOrder, IsIndexInOrder, IsOfTuples, StartsFirst, empty_page, kind_of}
-use Rattle.pooled_pages.specs.ShownLaws.{shown_at}
-use Rattle.pooled_pages.specs.ShownPages.{shown_pages}
+use Rattle.store_opening.specs.PageOrder.{AreInOrder, IsIndexInOrder, IsOfTuples, StartsFirst, empty_page, kind_of}
+use Rattle.store_opening.specs.ShownLaws.{shown_at}
+use Rattle.store_opening.specs.ShownPages.{shown_pages}
 use Rattle.store_opening.specs.Judged.{AreJudgedIn, IsJudged}
 use Rattle.store_opening.specs.Orders.{AreFirstStarted, IsLate, OrderedAt, StandsInIndex, StandsInOrder, kind_in}
 

@@ -11,13 +11,13 @@ use Rattle.disk_trait.specs.Told.{Told}
 use Rattle.disk_trait.specs.ThroughoutLaws.{started}
 use Rattle.log_area.specs.Frames.{LogFrame}
 use Rattle.buffer_pool.specs.PoolState.{PoolState, held_at}
-use Rattle.opened_pages.specs.Reaches.{OpensAsBefore}
-use Rattle.pooled_pages.specs.PageNumbers.{page_number}
-use Rattle.log_redo.specs.PooledPages.{HoldsDurablePages}
-use Rattle.log_redo.specs.RedoesFrame.{AreRedone}
-use Rattle.log_redo.specs.Redoing.{HasLog, KeepsTheRest}
-use Rattle.log_redo.proofs.Images.{rest_kept}
-use Rattle.log_redo.proofs.Places.{pooled_absent}
+use Rattle.store_opening.specs.Reaches.{OpensAsBefore}
+use Rattle.store_opening.specs.PageNumbers.{page_number}
+use Rattle.store_opening.specs.PooledPages.{HoldsDurablePages}
+use Rattle.store_opening.specs.RedoesFrame.{AreRedone}
+use Rattle.store_opening.specs.Redoing.{HasLog, KeepsTheRest}
+use Rattle.store_opening.proofs.Images.{rest_kept}
+use Rattle.store_opening.proofs.Places.{pooled_absent}
 
 -- a pool of so many frames that holds no page
 abbrev pub empty_pool : ℕ → PoolState

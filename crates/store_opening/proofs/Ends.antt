@@ -18,19 +18,19 @@ use Rattle.page_redo.specs.Redo.{ForgetPage, IsAnew, Redone}
 use Rattle.page_store.specs.Forms.{IsPageIn, form_of}
 use Rattle.wal_record.specs.Changes.{LoggedChange}
 use Rattle.buffer_pool.specs.PoolState.{PoolState}
-use Rattle.opened_pages.specs.LoggedChanges.{changes_at}
-use Rattle.opened_pages.specs.Opens.{OpensAs, disk_page}
-use Rattle.opened_pages.specs.Reaches.{OpensAsBefore}
-use Rattle.pooled_pages.specs.InPool as InPool
-use Rattle.pooled_pages.specs.InPool.{IsInPool}
-use Rattle.log_redo.specs.PooledPages as Held
-use Rattle.pooled_pages.specs.Safe.{IsSafe, Rebuilds, is_marked}
-use Rattle.pooled_pages.specs.ShownLaws.{shown_at, shown_whole}
-use Rattle.pooled_pages.specs.ShownPages.{shown_page, shown_pages}
-use Rattle.log_redo.specs.RedoesFrame.{AreRedone}
-use Rattle.log_redo.specs.Redoing.{KeepsTheRest}
-use Rattle.log_redo.proofs.Changes.{none_or_some}
-use Rattle.log_redo.proofs.Images.{area_same, control_same, redo_any, same_byte}
+use Rattle.store_opening.specs.LoggedChanges.{changes_at}
+use Rattle.store_opening.specs.Opens.{OpensAs, disk_page}
+use Rattle.store_opening.specs.Reaches.{OpensAsBefore}
+use Rattle.store_opening.specs.InPool as InPool
+use Rattle.store_opening.specs.InPool.{IsInPool}
+use Rattle.store_opening.specs.PooledPages as Held
+use Rattle.store_opening.specs.Safe.{IsSafe, Rebuilds, is_marked}
+use Rattle.store_opening.specs.ShownLaws.{shown_at, shown_whole}
+use Rattle.store_opening.specs.ShownPages.{shown_page, shown_pages}
+use Rattle.store_opening.specs.RedoesFrame.{AreRedone}
+use Rattle.store_opening.specs.Redoing.{KeepsTheRest}
+use Rattle.store_opening.proofs.Changes.{none_or_some}
+use Rattle.store_opening.proofs.Images.{area_same, control_same, redo_any, same_byte}
 
 -- images from the moment before a read or a sync on
 pub after_before : (old mid new : Told) → ((image : List ℕ) → IsTrue (mid.now image) → IsTrue (old.now image)) → Throughout old mid (OpensAsBefore old) → Throughout mid new (OpensAsBefore mid) → Throughout old new (OpensAsBefore old)

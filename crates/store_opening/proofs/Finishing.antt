@@ -15,15 +15,15 @@ use Rattle.page_redo.specs.Redo.{ForgetPage, IsAnew, Redone}
 use Rattle.page_store.specs.Forms.{form_of, IsPageIn}
 use Rattle.wal_record.specs.Changes.{LoggedChange}
 use Rattle.buffer_pool.specs.PoolState.{PoolState}
-use Rattle.opened_pages.specs.LoggedChanges.{changes_at}
-use Rattle.opened_pages.specs.Opens.{OpensAs, disk_page}
-use Rattle.opened_pages.specs.PageOrder.{AreInOrder}
-use Rattle.pooled_pages.specs.ShownLaws.{shown_at, shown_whole}
-use Rattle.pooled_pages.specs.ShownPages.{shown_page, shown_pages}
-use Rattle.log_redo.specs.Damage.{HasFrameAmiss}
-use Rattle.log_redo.specs.PooledPages as Held
-use Rattle.log_redo.specs.RedoesFrame.{AreRedone}
-use Rattle.log_redo.specs.Redoing.{HasLog}
+use Rattle.store_opening.specs.LoggedChanges.{changes_at}
+use Rattle.store_opening.specs.Opens.{OpensAs, disk_page}
+use Rattle.store_opening.specs.PageOrder.{AreInOrder}
+use Rattle.store_opening.specs.ShownLaws.{shown_at, shown_whole}
+use Rattle.store_opening.specs.ShownPages.{shown_page, shown_pages}
+use Rattle.store_opening.specs.Damage.{HasFrameAmiss}
+use Rattle.store_opening.specs.PooledPages as Held
+use Rattle.store_opening.specs.RedoesFrame.{AreRedone}
+use Rattle.store_opening.specs.Redoing.{HasLog}
 use Rattle.store_opening.specs.Begun.{IsBegun}
 use Rattle.store_opening.specs.declared.beginning.Begun.{Begun}
 use Rattle.store_opening.specs.Damaged.{HasPages, IsDamaged}

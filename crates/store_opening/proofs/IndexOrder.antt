@@ -3,7 +3,7 @@ use Rattle.std.proofs.Common.{◌≡◌, ◌⊎◌, inl, inr, ℕ, ◌+◌, ◌<
 use Rattle.std.proofs.lemmas.Bool.{cases_eq, ne_eqb}
 use Rattle.index_layout.specs.IndexReading.{map_pages_of, number_at}
 use Rattle.page_store.specs.declared.facts.PageFacts.{PageFacts}
-use Rattle.opened_pages.specs.PageOrder.{empty_page, IsIndexInOrder, IsOfTuples, kind_of, map_pages}
+use Rattle.store_opening.specs.PageOrder.{empty_page, IsIndexInOrder, IsOfTuples, kind_of, map_pages}
 use Rattle.page_store.proofs.PageKinds.{kind_without_maps}
 use Rattle.store_opening.specs.Orders.{HasIndexKinds, IsTupleKind, MayStand, StandsInIndex, kind_in}
 use Rattle.store_opening.proofs.KindsStand.{no_tuple}

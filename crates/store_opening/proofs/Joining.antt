@@ -5,8 +5,8 @@ use Rattle.disk_trait.specs.Told.{Told}
 use Rattle.disk_trait.specs.Throughout.{Throughout}
 use Rattle.disk_trait.specs.ThroughoutLaws.{goes_on, joined, started, weaker}
 use Rattle.disk_trait.specs.GoesOn.{GoesOn}
-use Rattle.opened_pages.specs.Reaches.{OpensAsBefore}
-use Rattle.log_redo.proofs.Steps.{moments_read}
+use Rattle.store_opening.specs.Reaches.{OpensAsBefore}
+use Rattle.store_opening.proofs.Steps.{moments_read}
 use Rattle.store_opening.specs.Untouched.{IsUntouched}
 
 -- each image of a moment was there at that moment

@@ -2,7 +2,7 @@
 use Rattle.std.proofs.Common.{◌≡◌, ◌≢◌, inl, inr, ℕ, zero, suc, ◌+◌, ◌-◌, ◌<◌, ◌≤◌, List, [], ◌∷◌, length, get_or, refl, ◌∙◌, ap, ⊎_elim, arith}
 use Rattle.std.specs.Prelude.{replicate}
 use Rattle.block_model.specs.declared.limits.TheConstants.{PAGE_SIZE}
-use Rattle.opened_pages.specs.PageOrder.{empty_page}
+use Rattle.store_opening.specs.PageOrder.{empty_page}
 use Rattle.store_opening.specs.Orders.{IsTupleKind, MayStand}
 
 pub at_meta : (maps block kind : ℕ) → block ≡ 0 → kind ≡ 3 → MayStand maps block kind

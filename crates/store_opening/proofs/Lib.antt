@@ -1,3 +1,17 @@
+pub mod Once
+pub mod Written
+pub mod Relations
+pub mod Changes
+pub mod Places
+pub mod Images
+pub mod Rooms
+pub mod Steps
+pub mod Changing
+pub mod Pooling
+pub mod Making
+pub mod InFrames
+pub mod Logs
+pub mod Answering
 pub mod Begins
 pub mod Ends
 pub mod Undamaged

@@ -18,11 +18,11 @@ use Rattle.page_store.specs.PageFacts.{facts_on, no_facts}
 use Rattle.page_store.specs.PageMap.{unstarted_page}
 use Rattle.page_store.proofs.PageKinds.{kind_unstarted, unstarted_facts, unstarted_is}
 use Rattle.buffer_pool.specs.PoolState.{HeldPage, PoolState, held_at}
-use Rattle.pooled_pages.specs.PageNumbers.{page_number}
-use Rattle.pooled_pages.specs.ShownPages.{shown_page}
-use Rattle.log_redo.specs.PooledPages.{HoldsDurablePages}
-use Rattle.log_redo.proofs.Places.{pooled_absent, pooled_held, read_there}
-use Rattle.log_redo.proofs.Pooling.{held_checked, lent_held, none_held}
+use Rattle.store_opening.specs.PageNumbers.{page_number}
+use Rattle.store_opening.specs.ShownPages.{shown_page}
+use Rattle.store_opening.specs.PooledPages.{HoldsDurablePages}
+use Rattle.store_opening.proofs.Places.{pooled_absent, pooled_held, read_there}
+use Rattle.store_opening.proofs.Pooling.{held_checked, lent_held, none_held}
 use Rattle.store_opening.specs.Judged.{IsJudged}
 use Rattle.store_opening.specs.PageCauses.{HasPageAmiss}
 

@@ -10,12 +10,12 @@ use Rattle.wal_record.specs.Changes.{LoggedChange, place_of}
 use Rattle.page_redo.specs.Redo.{Redone}
 use Rattle.page_store.specs.Forms.{form_of, IsPageIn}
 use Rattle.page_store.specs.PageMap.{IsWhole, PageMap, page_at}
-use Rattle.opened_pages.specs.LoggedChanges.{AreLogged, BeginAnew, changes_at}
-use Rattle.opened_pages.specs.Opens.{Opens, disk_page}
-use Rattle.opened_pages.specs.PageOrder.{AreInOrder}
-use Rattle.log_redo.specs.Redoing.{CanBeRedone}
-use Rattle.log_redo.proofs.Changes.{NoneBeginsAnother, all_front, changes_at-append, front_begins, logged_once, logged_split}
-use Rattle.log_redo.proofs.Changing.{redone_split}
+use Rattle.store_opening.specs.LoggedChanges.{AreLogged, BeginAnew, changes_at}
+use Rattle.store_opening.specs.Opens.{Opens, disk_page}
+use Rattle.store_opening.specs.PageOrder.{AreInOrder}
+use Rattle.store_opening.specs.Redoing.{CanBeRedone}
+use Rattle.store_opening.proofs.Changes.{NoneBeginsAnother, all_front, changes_at-append, front_begins, logged_once, logged_split}
+use Rattle.store_opening.proofs.Changing.{redone_split}
 use Rattle.store_opening.specs.Damaged.{HasFrameDamaged, HasPageDamaged, IsDamaged}
 use Rattle.store_opening.specs.Orders.{StandsInOrder}
 use Rattle.store_opening.proofs.AllOrder.{order_of_one, stands_at}

@@ -8,9 +8,9 @@ use Rattle.log_area.specs.Started.{IsDamagedAt}
 use Rattle.wal_record.specs.Changes.{LoggedChange}
 use Rattle.page_store.specs.Forms.{IsPageIn}
 use Rattle.page_store.specs.PageMap.{IsWhole, PageMap, page_at}
-use Rattle.opened_pages.specs.LoggedChanges.{AreLogged}
-use Rattle.log_redo.specs.Damage.{HasFrameAmiss}
-use Rattle.log_redo.specs.Redoing.{MakePages}
+use Rattle.store_opening.specs.LoggedChanges.{AreLogged}
+use Rattle.store_opening.specs.Damage.{HasFrameAmiss}
+use Rattle.store_opening.specs.Redoing.{MakePages}
 use Rattle.store_opening.specs.Orders.{StandsInOrder}
 
 -- an opened frame of the chosen area isn't of its form, and its gate is this byte

@@ -7,8 +7,8 @@ use Rattle.page_store.specs.declared.facts.PageFacts.{PageFacts}
 use Rattle.page_store.specs.Forms.{IsPageIn, form_of}
 use Rattle.page_store.specs.PageFacts.{facts_in, facts_on}
 use Rattle.buffer_pool.specs.PoolState.{HeldPage, PoolState, held_at}
-use Rattle.pooled_pages.specs.PageNumbers.{page_number}
-use Rattle.pooled_pages.specs.ShownPages.{shown_page}
+use Rattle.store_opening.specs.PageNumbers.{page_number}
+use Rattle.store_opening.specs.ShownPages.{shown_page}
 
 -- the facts of the page at a place
 abbrev pub facts_at : List (List PageFacts) → Place → PageFacts

@@ -3,10 +3,10 @@ use Rattle.std.specs.Prelude.{◌≡◌, ℕ, ◌*◌, IsTrue, List, [], length}
 use Rattle.block_model.specs.declared.limits.TheConstants.{PAGE_SIZE}
 use Rattle.store_layout.specs.DiskLayout.{area_size, disk_size}
 use Rattle.disk_trait.specs.Told.{Told}
-use Rattle.opened_pages.specs.PageOrder.{AreInOrder}
-use Rattle.pooled_pages.specs.InPool.{HoldsPages, IsInPool, WaitsAtMost}
-use Rattle.pooled_pages.specs.Safe.{IsSafe}
-use Rattle.pooled_pages.specs.ShownPages.{shown_pages}
+use Rattle.store_opening.specs.PageOrder.{AreInOrder}
+use Rattle.store_opening.specs.InPool.{HoldsPages, IsInPool, WaitsAtMost}
+use Rattle.store_opening.specs.Safe.{IsSafe}
+use Rattle.store_opening.specs.ShownPages.{shown_pages}
 use Rattle.store_opening.specs.Judged.{AreJudged}
 use Rattle.store_opening.specs.declared.opening.Opened.{Opened}
 

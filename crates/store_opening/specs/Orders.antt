@@ -8,8 +8,8 @@ use Rattle.page_store.specs.declared.facts.PageFacts.{PageFacts}
 use Rattle.page_store.specs.PageFacts.{facts_in}
 use Rattle.buffer_pool.specs.PoolState.{PoolState}
 use Rattle.page_store.specs.PageMap.{PageMap, block_at, block_limit, page_at}
-use Rattle.opened_pages.specs.PageOrder.{IsIndexInOrder, IsOfTuples, StartsFirst, empty_page, kind_of, map_pages}
-use Rattle.pooled_pages.specs.ShownPages.{shown_pages}
+use Rattle.store_opening.specs.PageOrder.{IsIndexInOrder, IsOfTuples, StartsFirst, empty_page, kind_of, map_pages}
+use Rattle.store_opening.specs.ShownPages.{shown_pages}
 use Rattle.store_opening.specs.declared.fault.StartFault.{StartFault}
 use Rattle.store_opening.specs.declared.fault.StartFault.TheVariants.{NoStore, Damaged, Disk, Memory}
 

@@ -6,7 +6,7 @@ use Rattle.store_layout.specs.DiskLayout.{DiskLayout, IsPlace, page_offset}
 use Rattle.disk_trait.specs.Told.{Told}
 use Rattle.page_store.specs.Forms.{IsPageIn}
 use Rattle.buffer_pool.specs.PoolState.{PoolState}
-use Rattle.pooled_pages.specs.ShownPages.{shown_page}
+use Rattle.store_opening.specs.ShownPages.{shown_page}
 use Rattle.store_opening.specs.declared.fault.StartFault.{StartFault}
 use Rattle.store_opening.specs.declared.fault.StartFault.TheVariants.{NoStore, Damaged, Disk, Memory}
 

@@ -6,8 +6,8 @@ use Rattle.store_layout.specs.DiskLayout.{DiskLayout, area_size, disk_size}
 use Rattle.log_area.specs.Frames.{LogFrame}
 use Rattle.log_area.specs.Started.{IsDamagedAt}
 use Rattle.buffer_pool.specs.PoolState.{PoolState}
-use Rattle.log_redo.specs.Damage.{HasFrameAmiss}
-use Rattle.log_redo.specs.RedoesFrame.{AreRedone}
+use Rattle.store_opening.specs.Damage.{HasFrameAmiss}
+use Rattle.store_opening.specs.RedoesFrame.{AreRedone}
 use Rattle.control_page.specs.ControlPage.{HasControl}
 use Rattle.disk_trait.specs.Told.{Told}
 use Rattle.store_opening.specs.declared.fault.StartFault.{StartFault}

@@ -8,20 +8,21 @@ ghost use Rattle.page_store.specs.PageFacts.{facts_in, no_facts};
 ghost use Rattle.store_layout.specs.DiskLayout.{IsPlace, disk_size, relation_blocks};
 ghost use Rattle.store_opening.specs.Judged.{AreJudged, AreJudgedIn, IsJudged};
 ghost use Rattle.store_opening.specs.PageCauses.{PageCause};
-ghost use Rattle.log_redo.specs.PooledPages.{HoldsDurablePages};
-ghost use Rattle.opened_pages.specs.PageOrder.{AreInOrder};
-ghost use Rattle.pooled_pages.specs.ShownPages.{shown_pages};
+ghost use Rattle.store_opening.specs.PooledPages.{HoldsDurablePages};
+ghost use Rattle.store_opening.specs.PageOrder.{AreInOrder};
+ghost use Rattle.store_opening.specs.ShownPages.{shown_pages};
 ghost use Rattle.store_opening.specs.StartCauses.{JudgeCause};
 
 use crate::fault::StartFault;
+use crate::number::number_of;
 use crate::order::judge_order;
+use crate::page::read_page;
+use crate::place::form_of;
 use block_model::Place;
 use buffer_pool::Pool;
 use disk_trait::Disk;
-use log_redo::{form_of, read_page};
 use page_layout::{Form, UNSTARTED, check};
 use page_store::{FactList, PageFacts, facts_of};
-use pooled_pages::number_of;
 use std::alloc::Global;
 use store_layout::{Layout, blocks_of, count_relations, pages_fill_the_disk};
 

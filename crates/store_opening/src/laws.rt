@@ -1,8 +1,8 @@
 //! What a store's disk is not.
 
 ghost use Rattle.std.specs.Prelude.{List, ℕ};
-ghost use Rattle.opened_pages.specs.Opens.{Opens};
-ghost use Rattle.opened_pages.specs.PageOrder.{AreInOrder};
+ghost use Rattle.store_opening.specs.Opens.{Opens};
+ghost use Rattle.store_opening.specs.PageOrder.{AreInOrder};
 ghost use Rattle.page_store.specs.PageMap.{PageMap};
 ghost use Rattle.store_opening.specs.Damaged.{IsDamaged};
 

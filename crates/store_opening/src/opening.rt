@@ -3,9 +3,9 @@
 ghost use Rattle.std.specs.Prelude.{◌≡◌, IsTrue, IfErr, IfOk};
 ghost use Rattle.disk_trait.specs.IsStable.{IsStable};
 ghost use Rattle.disk_trait.specs.Throughout.{Throughout};
-ghost use Rattle.opened_pages.specs.Opens.{OpensAs};
-ghost use Rattle.opened_pages.specs.Reaches.{OpensAsBefore};
-ghost use Rattle.pooled_pages.specs.ShownPages.{shown_pages};
+ghost use Rattle.store_opening.specs.Opens.{OpensAs};
+ghost use Rattle.store_opening.specs.Reaches.{OpensAsBefore};
+ghost use Rattle.store_opening.specs.ShownPages.{shown_pages};
 ghost use Rattle.store_opening.specs.Begun.{IsBegun};
 ghost use Rattle.store_opening.specs.Opened.{IsOpened};
 ghost use Rattle.store_opening.specs.StartCauses.{StartCause};

@@ -3,24 +3,24 @@
 ghost use Rattle.std.specs.Prelude.{◌≡◌, ◌⊎◌, ◌+◌, ◌^◌, ◌<◌, ◌≤◌, ℕ, true, false, IsTrue, IfOk, IfSome, IfNone, OnOk, length, slice_index};
 ghost use Rattle.block_model.specs.Causes.{HasCause};
 ghost use Rattle.store_layout.specs.DiskLayout.{IsPlace, disk_size, relation_blocks};
-ghost use Rattle.opened_pages.specs.PageOrder.{AreInOrder, IsIndexInOrder, empty_page};
+ghost use Rattle.store_opening.specs.PageOrder.{AreInOrder, IsIndexInOrder, empty_page};
 ghost use Rattle.page_store.specs.PageMap.{block_at};
-ghost use Rattle.pooled_pages.specs.ShownPages.{shown_page, shown_pages};
+ghost use Rattle.store_opening.specs.ShownPages.{shown_page, shown_pages};
 ghost use Rattle.store_opening.specs.Judged.{AreJudged, AreJudgedIn};
 ghost use Rattle.page_store.specs.PageFacts.{facts_in};
 ghost use Rattle.store_opening.specs.Orders.{AreFirstStarted, HasIndexKinds, IsLate, MayStand, OrderCause, OrderedAt, StandsInOrder, kind_in};
 ghost use Rattle.page_layout.specs.declared.format.TheConstants.{STATUS};
 ghost use Rattle.index_layout.specs.declared.format.TheConstants.{MAP};
-ghost use Rattle.log_redo.specs.PooledPages.{HoldsDurablePages};
+ghost use Rattle.store_opening.specs.PooledPages.{HoldsDurablePages};
 
 use crate::fault::StartFault;
+use crate::number::number_of;
+use crate::page::read_page;
 use block_model::Place;
 use buffer_pool::Pool;
 use disk_trait::{Disk, DiskFault};
-use log_redo::read_page;
 use page_layout::{EVACUATED, MAP, META, Page, REGULAR, STATUS, UNSTARTED};
 use page_store::FactList;
-use pooled_pages::number_of;
 use store_layout::{Layout, blocks_of, count_relations, pages_fill_the_disk};
 
 /// The relation of the statuses; the tables come next.

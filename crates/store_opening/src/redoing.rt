@@ -4,15 +4,16 @@ ghost use Rattle.std.specs.Prelude.{◌≡◌, ◌+◌, ◌*◌, ◌^◌, ◌<�
 ghost use Rattle.block_model.specs.declared.limits.TheConstants.{PAGE_SIZE};
 ghost use Rattle.store_layout.specs.DiskLayout.{disk_size};
 ghost use Rattle.log_area.specs.Frames.{row_of};
-ghost use Rattle.log_redo.specs.PooledPages.{IsReady};
-ghost use Rattle.log_redo.specs.RedoesFrame.{KeepsMomentsOfLog, RedoesLog};
+ghost use Rattle.store_opening.specs.PooledPages.{IsReady};
+ghost use Rattle.store_opening.specs.RedoesFrame.{KeepsMomentsOfLog, RedoesLog};
 ghost use Rattle.store_opening.specs.StartCauses.{RedoCause};
 
 use crate::fault::StartFault;
+use crate::frames::redo;
+use crate::redo_fault::RedoFault;
 use buffer_pool::Pool;
 use disk_trait::Disk;
 use log_area::Frames;
-use log_redo::{RedoFault, redo};
 use store_layout::Layout;
 
 /// Redoes the changes of the frames.

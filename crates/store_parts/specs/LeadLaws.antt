@@ -9,7 +9,7 @@ use Rattle.page_layout.specs.PageContents.{Slot}
 use Rattle.page_layout.specs.PageWrites.{marked}
 use Rattle.page_layout.specs.RowBytes.{StoredRow}
 use Rattle.page_store.specs.PageMap.{block_at}
-use Rattle.opened_pages.specs.PageOrder.{IsIndexInOrder}
+use Rattle.store_opening.specs.PageOrder.{IsIndexInOrder}
 use Rattle.heap_rows.specs.Heaps.{relation_of as heap_of}
 use Rattle.heap_rows.specs.RowPlaces.{ChangesSlot, FillsSlot, slot_at, with_row}
 use Rattle.snapshot_core.specs.declared.statuses.Status.{Status}

@@ -7,7 +7,7 @@ use Rattle.block_model.specs.RequestEffect.{rows_found}
 use Rattle.block_model.specs.SerialRun.{IsLegal}
 use Rattle.page_layout.specs.PageContents.{Slot}
 use Rattle.page_locks.specs.RightHolders.{right_of}
-use Rattle.opened_pages.specs.PageOrder.{IsIndexInOrder}
+use Rattle.store_opening.specs.PageOrder.{IsIndexInOrder}
 use Rattle.heap_rows.specs.HeapBlocks.{HasBlocks}
 use Rattle.snapshot_core.specs.declared.statuses.Status.{Status}
 use Rattle.row_versions.specs.declared.sessions.Open.{Open}

@@ -6,7 +6,7 @@ use Rattle.block_model.specs.SerialRun.{IsLegal, serial_run}
 use Rattle.page_layout.specs.PageContents.{Slot}
 use Rattle.page_locks.specs.RightHolders.{right_of}
 use Rattle.page_store.specs.PageMap.{PageMap, page_at}
-use Rattle.opened_pages.specs.PageOrder.{IsIndexInOrder}
+use Rattle.store_opening.specs.PageOrder.{IsIndexInOrder}
 use Rattle.heap_rows.specs.HeapBlocks.{HasBlocks}
 use Rattle.index_contents.specs.IndexContents.{index_page}
 use Rattle.snapshot_core.specs.declared.statuses.Status.{Status}

@@ -5,7 +5,7 @@ ghost use Rattle.wal_record.specs.Changes.{logged, place_of};
 
 use block_model::{Place, Sizes};
 use disk_trait::MemoryDisk;
-use log_redo::is_place;
+use store_opening::is_place;
 use logged_pages::PageStore;
 use page_layout::HEAP;
 use page_redo::fits;

@@ -19,7 +19,7 @@ use Rattle.page_locks.specs.declared.held.Held.{Held}
 use Rattle.page_locks.specs.LockCounts.{locks_of}
 use Rattle.page_locks.specs.LockHolders.{LockState, holder}
 use Rattle.page_locks.specs.RightHolders.{right_of}
-use Rattle.opened_pages.specs.PageOrder.{IsIndexInOrder}
+use Rattle.store_opening.specs.PageOrder.{IsIndexInOrder}
 use Rattle.heap_rows.specs.HeapBlocks.{HasBlocks, OfBlocks}
 use Rattle.row_versions.specs.StoredVersions.{transaction_of}
 use Rattle.transactions.specs.Laws.{ShowAlike}

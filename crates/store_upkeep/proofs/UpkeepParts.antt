@@ -16,7 +16,7 @@ use Rattle.page_locks.specs.LockChanges.{GivesAll}
 use Rattle.page_locks.specs.LockCounts.{locks_of}
 use Rattle.page_locks.specs.LockHolders.{LockState, holder}
 use Rattle.page_locks.specs.RightHolders.{right_of}
-use Rattle.opened_pages.specs.PageOrder.{IsIndexInOrder}
+use Rattle.store_opening.specs.PageOrder.{IsIndexInOrder}
 use Rattle.row_versions.specs.StoredVersions.{transaction_of}
 use Rattle.tx_table.specs.Kept.{over_kept}
 use Rattle.tx_table.specs.Statuses.{status_relation}

@@ -1,7 +1,7 @@
 -- Pages in order: each page of statuses is started.
 use Rattle.std.proofs.Common.{◌≡◌, ◌∙◌, ℕ, ◌<◌, List, inl, inr, refl, sym, ap, arith}
 use Rattle.std.proofs.lemmas.List.{get_or-replicate}
-use Rattle.opened_pages.specs.PageOrder.{AreInOrder, kind_of}
+use Rattle.store_opening.specs.PageOrder.{AreInOrder, kind_of}
 use Rattle.page_layout.specs.declared.page.Form.TheVariants as forms
 use Rattle.page_layout.specs.PageContents.{IsPageOf, IsStatusPage}
 use Rattle.page_store.specs.Forms.{IsPageIn}

@@ -1,7 +1,7 @@
 //! The statuses as the pages show them, and what a store that was opened has.
 
 ghost use Rattle.std.specs.Prelude.{◌≡◌, ◌<◌, ℕ, List};
-ghost use Rattle.opened_pages.specs.PageOrder.{AreInOrder};
+ghost use Rattle.store_opening.specs.PageOrder.{AreInOrder};
 ghost use Rattle.page_store.specs.Forms.{IsPageIn};
 ghost use Rattle.page_store.specs.PageMap.{PageMap, block_at};
 ghost use Rattle.snapshot_core.specs.declared.statuses.Status.{Status};

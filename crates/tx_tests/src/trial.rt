@@ -1,7 +1,7 @@
 //! A table of transactions over a store of its own.
 
 ghost use Rattle.std.specs.Prelude.{◌≡◌, ◌<◌, ◌≤◌, true, IfOk};
-ghost use Rattle.opened_pages.specs.PageOrder.{AreInOrder};
+ghost use Rattle.store_opening.specs.PageOrder.{AreInOrder};
 ghost use Rattle.page_store.specs.Keeps.{Keeps, Tells};
 ghost use Rattle.snapshot_core.specs.declared.statuses.Status.TheVariants.{Begun as BegunStatus};
 ghost use Rattle.tx_table.specs.LeavesRest.{AreStarted};

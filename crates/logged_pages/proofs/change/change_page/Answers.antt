@@ -8,8 +8,8 @@ use Rattle.page_store.specs.Forms.{HasForm, form_of, forms_of}
 use Rattle.page_store.specs.Keeps.{Untold}
 use Rattle.page_store.specs.PageMap.{View, page_at}
 use Rattle.buffer_pool.specs.PoolState.{held_at}
-use Rattle.pooled_pages.specs.PageNumbers.{page_number}
-use Rattle.pooled_pages.specs.Safe.{is_marked}
+use Rattle.store_opening.specs.PageNumbers.{page_number}
+use Rattle.store_opening.specs.Safe.{is_marked}
 use Rattle.logged_pages.proofs.ChangeSteps.{alike_held, damage_outcome, damaged_at, fits_from, made_at, made_changed, made_kept, made_outcome, place_from}
 use Rattle.page_store.proofs.Lookups.{on_err}
 use Rattle.logged_pages.proofs.Joining.{outcome_then}

@@ -8,8 +8,8 @@ use Rattle.page_store.specs.Forms.{FitsIn, FitInTurn, form_of, forms_of}
 use Rattle.page_store.specs.Keeps.{Tells, Untold}
 use Rattle.page_store.specs.PageMap.{View, page_at}
 use Rattle.buffer_pool.specs.PoolState.{held_at}
-use Rattle.pooled_pages.specs.PageNumbers.{page_number}
-use Rattle.pooled_pages.specs.Safe.{is_marked}
+use Rattle.store_opening.specs.PageNumbers.{page_number}
+use Rattle.store_opening.specs.Safe.{is_marked}
 use Rattle.logged_pages.proofs.ChangeSteps.{alike_held, twice_leaves, damage_back, room_second, room_start, turn_changed, untold_back, damage_outcome, damaged_at, made_at, made_kept, made_outcome, place_from, second_fits, start_loggable, turn_from}
 use Rattle.page_store.proofs.Lookups.{on_err}
 use Rattle.logged_pages.proofs.Joining.{outcome_then}

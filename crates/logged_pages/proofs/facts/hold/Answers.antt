@@ -7,8 +7,8 @@ use Rattle.page_store.specs.declared.facts.PageFacts.{PageFacts}
 use Rattle.page_store.specs.Forms.{form_of, forms_of}
 use Rattle.logged_pages.specs.LoggedState.{LoggedState}
 use Rattle.logged_pages.specs.StoreFacts.{AreKnown}
-use Rattle.pooled_pages.specs.PageNumbers.{page_number}
-use Rattle.pooled_pages.specs.ShownPages.{content_at}
+use Rattle.store_opening.specs.PageNumbers.{page_number}
+use Rattle.store_opening.specs.ShownPages.{content_at}
 use Rattle.page_store.specs.PageFacts.{facts_on}
 use Rattle.page_layout.specs.PageContents.{IsPageOf}
 use Rattle.logged_pages.proofs.FactSteps.{fact_place}

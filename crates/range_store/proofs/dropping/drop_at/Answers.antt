@@ -8,7 +8,7 @@ use Rattle.index_contents.specs.Calls.{past_the_limit}
 use Rattle.index_contents.specs.IndexChanges.{LeavesOtherPages}
 use Rattle.index_contents.specs.PageLaws.{leaves_others}
 use Rattle.engine_pages.specs.SurvivesLaws.{survives_still}
-use Rattle.opened_pages.specs.PageOrder.{kind_of}
+use Rattle.store_opening.specs.PageOrder.{kind_of}
 use Rattle.index_order.specs.OrderLaws.{order_kept}
 use Rattle.index_order.specs.OrderedCalls.{keeps_by_drop}
 use Rattle.range_store.specs.PageTuples.{StaysWithoutTuples}

@@ -1,5 +1,5 @@
 use Rattle.std.proofs.Common.{sym, subst}
-use Rattle.log_redo.specs.PooledPages.{HoldsDurablePages}
+use Rattle.store_opening.specs.PooledPages.{HoldsDurablePages}
 use Rattle.store_opening.proofs.judging.judge.Goals as goal
 
 pub judge_order-requires-clause-held : goal.judge_order-requires-clause-held

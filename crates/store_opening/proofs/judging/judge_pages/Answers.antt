@@ -5,7 +5,7 @@ use Rattle.buffer_pool.specs.PoolState.{PoolState}
 use Rattle.store_opening.specs.Judged.{AreJudgedIn}
 use Rattle.store_opening.proofs.Joining.{still_twice}
 use Rattle.store_opening.proofs.PagesJudged.{JudgedRelations, all_judged, judged_in_before, relations_more}
-use Rattle.log_redo.specs.PooledPages.{HoldsDurablePages}
+use Rattle.store_opening.specs.PooledPages.{HoldsDurablePages}
 use Rattle.store_opening.proofs.judging.judge_pages.Goals as goal
 
 pub relations-preserved : goal.relations-preserved

@@ -8,7 +8,7 @@ use Rattle.store_opening.specs.Judged.{IsJudged}
 use Rattle.store_opening.proofs.Joining.{still_twice}
 use Rattle.store_opening.proofs.PageJudged.{judged_before, unstarted_judged}
 use Rattle.store_opening.proofs.PagesJudged.{JudgedBelow, judged_more}
-use Rattle.log_redo.specs.PooledPages.{HoldsDurablePages}
+use Rattle.store_opening.specs.PooledPages.{HoldsDurablePages}
 use Rattle.store_opening.proofs.judging.judge_relation.Goals as goal
 
 pub places-preserved : goal.places-preserved

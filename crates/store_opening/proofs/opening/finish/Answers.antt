@@ -6,11 +6,11 @@ use Rattle.disk_trait.specs.Told.{Told}
 use Rattle.log_area.specs.Frames.{HoldsFrames}
 use Rattle.log_area.specs.Log.{chosen_area}
 use Rattle.buffer_pool.specs.PoolState.{PoolState}
-use Rattle.opened_pages.specs.Opens.{OpensAs}
-use Rattle.opened_pages.specs.Reaches.{OpensAsBefore}
-use Rattle.pooled_pages.specs.ShownPages.{shown_pages}
-use Rattle.log_redo.specs.PooledPages.{HoldsDurablePages}
-use Rattle.log_redo.proofs.Steps.{moments_read}
+use Rattle.store_opening.specs.Opens.{OpensAs}
+use Rattle.store_opening.specs.Reaches.{OpensAsBefore}
+use Rattle.store_opening.specs.ShownPages.{shown_pages}
+use Rattle.store_opening.specs.PooledPages.{HoldsDurablePages}
+use Rattle.store_opening.proofs.Steps.{moments_read}
 use Rattle.store_opening.specs.Begun.{IsBegun}
 use Rattle.store_opening.specs.declared.beginning.Begun.{Begun}
 use Rattle.store_opening.specs.declared.opening.Opened.{Opened}

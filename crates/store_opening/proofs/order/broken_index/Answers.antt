@@ -4,8 +4,8 @@ use Rattle.block_model.specs.declared.place.Place.{Place}
 use Rattle.store_layout.specs.DiskLayout.{relation_blocks}
 use Rattle.page_store.specs.declared.facts.PageFacts.{PageFacts}
 use Rattle.page_store.specs.PageMap.{block_at}
-use Rattle.pooled_pages.specs.ShownLaws.{shown_at}
-use Rattle.pooled_pages.specs.ShownPages.{shown_pages}
+use Rattle.store_opening.specs.ShownLaws.{shown_at}
+use Rattle.store_opening.specs.ShownPages.{shown_pages}
 use Rattle.store_opening.specs.Orders.{HasIndexKinds, IsLate, MayStand, kind_in}
 use Rattle.store_opening.proofs.AllOrder.{kinds_are, late_amiss, maps_are, some_block}
 use Rattle.store_opening.proofs.IndexOrder.{counts, in_order, is_meta, left_empty, stands_may}

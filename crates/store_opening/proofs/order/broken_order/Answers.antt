@@ -2,7 +2,7 @@ use Rattle.std.proofs.Common.{◌≡◌, ℕ, ◌<◌, ◌≤◌, length, ap, su
 use Rattle.std.specs.Prelude.{IsTrue, slice_index}
 use Rattle.block_model.specs.declared.schema.Schema.{Schema}
 use Rattle.store_layout.specs.DiskLayout.{relation_blocks}
-use Rattle.pooled_pages.specs.ShownPages.{shown_pages}
+use Rattle.store_opening.specs.ShownPages.{shown_pages}
 use Rattle.store_opening.specs.Orders.{AreFirstStarted, IsLate, OrderedAt, StandsInOrder, kind_in}
 use Rattle.store_opening.proofs.AllOrder.{late_amiss, none_weaker, some_weaker, statuses_amiss, statuses_ordered, table_ordered}
 use Rattle.store_opening.proofs.order.broken_order.Goals as goal

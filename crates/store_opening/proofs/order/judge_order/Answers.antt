@@ -4,12 +4,12 @@ use Rattle.store_layout.specs.DiskLayout.{relation_blocks}
 use Rattle.disk_trait.specs.Told.{Told}
 use Rattle.buffer_pool.specs.PoolState.{PoolState}
 use Rattle.page_store.specs.PageMap.{PageMap}
-use Rattle.pooled_pages.specs.ShownPages.{shown_pages}
+use Rattle.store_opening.specs.ShownPages.{shown_pages}
 use Rattle.store_opening.specs.Judged.{AreJudgedIn}
 use Rattle.store_opening.specs.Orders.{StandsInOrder}
 use Rattle.store_opening.proofs.AllOrder.{order_of_all}
 use Rattle.store_opening.proofs.PagesJudged.{judged_in_after, one_judged}
-use Rattle.log_redo.specs.PooledPages.{HoldsDurablePages}
+use Rattle.store_opening.specs.PooledPages.{HoldsDurablePages}
 use Rattle.store_opening.proofs.order.judge_order.Goals as goal
 
 pub broken_order-requires-clause-kinds : goal.broken_order-requires-clause-kinds

@@ -1,6 +1,6 @@
 use Rattle.std.proofs.Common.{◌≡◌, ◌≤◌}
 use Rattle.std.specs.Prelude.{IsTrue}
-use Rattle.pooled_pages.specs.ShownPages.{shown_pages}
+use Rattle.store_opening.specs.ShownPages.{shown_pages}
 use Rattle.store_opening.proofs.AllOrder.{OrderedBelow}
 use Rattle.store_opening.proofs.order.judge_order.Given as goal
 

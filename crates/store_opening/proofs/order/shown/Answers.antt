@@ -3,7 +3,7 @@ use Rattle.std.specs.Prelude.{IsTrue}
 use Rattle.std.proofs.lemmas.Result.{IfOk-weaker}
 use Rattle.block_model.specs.declared.limits.TheConstants.{PAGE_SIZE}
 use Rattle.byte_fields.specs.Fields.{field_at}
-use Rattle.pooled_pages.specs.ShownPages.{shown_page}
+use Rattle.store_opening.specs.ShownPages.{shown_page}
 use Rattle.store_opening.proofs.PageJudged.{shown_read}
 use Rattle.store_opening.proofs.order.shown.Goals as goal
 

@@ -1,5 +1,5 @@
 use Rattle.std.proofs.Common.{[], sym, subst}
-use Rattle.log_redo.specs.RedoesFrame.{AreRedone}
+use Rattle.store_opening.specs.RedoesFrame.{AreRedone}
 use Rattle.store_opening.proofs.redoing.redo_log.Goals as goal
 
 pub returns-in-Ok-clause-any_moment : goal.returns-in-Ok-clause-any_moment

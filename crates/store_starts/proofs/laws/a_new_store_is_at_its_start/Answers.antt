@@ -2,7 +2,7 @@ use Rattle.std.proofs.Common.{ℕ, ◌<◌, Bool, [], length, subst}
 use Rattle.block_model.specs.DatabaseState.{initial_state}
 use Rattle.heap_rows.specs.HeapBlocks.{HasBlocks}
 use Rattle.index_contents.specs.IndexContents.{index_page}
-use Rattle.opened_pages.specs.PageOrder.{IsIndexInOrder}
+use Rattle.store_opening.specs.PageOrder.{IsIndexInOrder}
 use Rattle.page_store.specs.PageMap.{PageMap}
 use Rattle.store_layout.specs.DiskLayout.{DiskLayout}
 use Rattle.table_coverage.specs.TableCovered.{IsNewTable}

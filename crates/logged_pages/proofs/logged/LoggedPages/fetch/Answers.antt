@@ -1,7 +1,7 @@
 use Rattle.std.proofs.Common.{◌≡◌, ◌≤◌, ℕ, List, sym, ap, subst, ◌∙◌}
 use Rattle.std.specs.Prelude.{IsTrue, Option, None, Some}
 use Rattle.buffer_pool.specs.PoolState.{held_at}
-use Rattle.pooled_pages.specs.ShownPages.{shown_pages}
+use Rattle.store_opening.specs.ShownPages.{shown_pages}
 use Rattle.logged_pages.specs.KeptPages.{KeptPages}
 use Rattle.logged_pages.specs.LoggedState.{LoggedState, store_of}
 use Rattle.logged_pages.specs.Standing.{IsStanding}
@@ -14,7 +14,7 @@ use Rattle.page_layout.specs.PageContents.{IsPageOf}
 use Rattle.page_store.specs.Forms.{form_of}
 use Rattle.page_store.specs.PageMap.{page_at}
 use Rattle.page_store.specs.Keeps.{Tells}
-use Rattle.pooled_pages.specs.PageNumbers.{page_number}
+use Rattle.store_opening.specs.PageNumbers.{page_number}
 use Rattle.logged_pages.proofs.Exits.{read_keeps}
 use Rattle.logged_pages.proofs.LogSteps.{sync_standing}
 use Rattle.logged_pages.proofs.SetExits.{fetched}

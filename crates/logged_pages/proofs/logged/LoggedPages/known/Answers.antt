@@ -1,13 +1,13 @@
 use Rattle.std.proofs.Common.{◌≡◌, ℕ, List, subst}
 use Rattle.std.specs.Prelude.{Some}
-use Rattle.pooled_pages.specs.ShownPages.{content_at, shown_pages}
+use Rattle.store_opening.specs.ShownPages.{content_at, shown_pages}
 use Rattle.logged_pages.specs.LoggedState.{LoggedState, store_of}
 use Rattle.block_model.specs.declared.place.Place.{Place}
 use Rattle.store_layout.specs.DiskLayout.{IsPlace}
 use Rattle.page_store.specs.Forms.{IsPageIn}
 use Rattle.page_store.specs.Keeps.{Tells}
 use Rattle.page_store.specs.PageMap.{page_at}
-use Rattle.pooled_pages.specs.PageNumbers.{page_number}
+use Rattle.store_opening.specs.PageNumbers.{page_number}
 use Rattle.logged_pages.proofs.MakeExits.{content_passes}
 use Rattle.logged_pages.proofs.Steps.{checked_map}
 use Rattle.logged_pages.proofs.logged.LoggedPages.known.Goals as goal

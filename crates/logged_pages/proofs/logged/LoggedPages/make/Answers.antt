@@ -1,7 +1,7 @@
 use Rattle.std.proofs.Common.{◌≡◌, ◌≤◌, ◌<◌, ◌+◌, ℕ, false, length, get_or, sym, ap, subst, ◌∙◌, arith}
 use Rattle.std.specs.Prelude.{IsTrue, Option, None}
 use Rattle.buffer_pool.specs.PoolState.{held_at}
-use Rattle.pooled_pages.specs.ShownPages.{shown_pages}
+use Rattle.store_opening.specs.ShownPages.{shown_pages}
 use Rattle.logged_pages.specs.Contents.{HoldsAlike}
 use Rattle.logged_pages.specs.LoggedState.{LoggedState, store_of}
 use Rattle.logged_pages.specs.Standing.{IsStanding}
@@ -16,8 +16,8 @@ use Rattle.page_store.specs.Keeps.{Tells, Untold}
 use Rattle.page_store.specs.PageMap.{page_at}
 use Rattle.page_store.proofs.Lookups.{on_err}
 use Rattle.wal_record.specs.Changes.{logged}
-use Rattle.pooled_pages.specs.PageNumbers.{page_number}
-use Rattle.pooled_pages.specs.Safe.{is_marked}
+use Rattle.store_opening.specs.PageNumbers.{page_number}
+use Rattle.store_opening.specs.Safe.{is_marked}
 use Rattle.logged_pages.specs.Begun.{HoldsOf, MakesHeld, RedoesHeld}
 use Rattle.logged_pages.specs.Made.{MakesPage, Misfits}
 use Rattle.logged_pages.proofs.MakeExits.{holds_of, made_leaves, misfit_alike, misfit_standing, misfit_untold}

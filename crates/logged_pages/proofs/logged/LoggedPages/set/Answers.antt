@@ -10,7 +10,7 @@ use Rattle.store_layout.specs.DiskLayout.{IsPlace}
 use Rattle.buffer_pool.specs.SetsPage.{SetsPage}
 use Rattle.page_store.specs.Forms.{IsPageIn}
 use Rattle.page_store.specs.PageMap.{page_at}
-use Rattle.pooled_pages.specs.PageNumbers.{page_number}
+use Rattle.store_opening.specs.PageNumbers.{page_number}
 use Rattle.logged_pages.proofs.SetExits.{none_clean, set_leaves}
 use Rattle.logged_pages.proofs.logged.LoggedPages.set.Goals as goal
 

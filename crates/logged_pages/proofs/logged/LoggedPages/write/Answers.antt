@@ -2,7 +2,7 @@ use Rattle.std.proofs.Common.{◌≡◌, inr, ◌+◌, ℕ, sym, ap, subst, ◌�
 use Rattle.std.specs.Prelude.{Option, None, Some}
 use Rattle.buffer_pool.specs.PoolState.{PoolState, IsDirty}
 use Rattle.change_buffer.specs.Waiting.{no_changes}
-use Rattle.pooled_pages.specs.ShownPages.{content_at}
+use Rattle.store_opening.specs.ShownPages.{content_at}
 use Rattle.logged_pages.specs.Contents.{HoldsAlike}
 use Rattle.logged_pages.specs.KeptPages.{KeptPages}
 use Rattle.logged_pages.specs.LoggedState.{LoggedState, store_of}

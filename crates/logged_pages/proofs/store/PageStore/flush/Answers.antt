@@ -4,7 +4,7 @@ use Rattle.page_store.specs.Forms.{forms_of}
 use Rattle.page_store.specs.Keeps.{Keeps, Untold}
 use Rattle.page_store.specs.Outcome.{Outcome}
 use Rattle.page_store.specs.PageMap.{View}
-use Rattle.pooled_pages.specs.ShownPages.{content_at}
+use Rattle.store_opening.specs.ShownPages.{content_at}
 use Rattle.logged_pages.specs.LoggedState.{store_of}
 use Rattle.logged_pages.specs.Survives.{Survives}
 use Rattle.logged_pages.proofs.KnownSteps.{known_kept}

@@ -3,7 +3,7 @@ use Rattle.block_model.specs.declared.place.Place.{Place}
 use Rattle.page_store.specs.Forms.{IsPageIn}
 use Rattle.page_store.specs.Keeps.{Tells}
 use Rattle.page_store.specs.PageMap.{IsWhole, View, page_at}
-use Rattle.pooled_pages.specs.ShownLaws.{shown_whole}
+use Rattle.store_opening.specs.ShownLaws.{shown_whole}
 use Rattle.logged_pages.proofs.StoreReads.{checked_all}
 use Rattle.logged_pages.proofs.Steps.{DiskLaws}
 use Rattle.logged_pages.proofs.StoreWords.{stays}

@@ -5,8 +5,8 @@ use Rattle.page_store.specs.PageMap.{PageMap, View, page_at}
 use Rattle.std.specs.Prelude.{Ok, Some, option_copied}
 use Rattle.store_layout.specs.DiskLayout.{DiskLayout, IsPlace}
 use Rattle.page_store.specs.Forms.{IsPageIn}
-use Rattle.pooled_pages.specs.PageNumbers.{page_number}
-use Rattle.pooled_pages.specs.ShownPages.{content_at}
+use Rattle.store_opening.specs.PageNumbers.{page_number}
+use Rattle.store_opening.specs.ShownPages.{content_at}
 use Rattle.logged_pages.specs.LoggedState.{LoggedState, store_of}
 use Rattle.logged_pages.specs.Survives.{Survives}
 use Rattle.logged_pages.proofs.StoreWords.{held_page, keeps_of, survives_of}

@@ -4,9 +4,9 @@ use Rattle.disk_trait.specs.Throughout.{Throughout}
 use Rattle.page_store.specs.Forms.{forms_of}
 use Rattle.page_store.specs.Keeps.{Tells}
 use Rattle.page_store.specs.PageMap.{View}
-use Rattle.opened_pages.specs.Opens.{OpensAs}
-use Rattle.opened_pages.specs.PageOrder.{AreInOrder}
-use Rattle.opened_pages.specs.Reaches.{OpensAsBefore}
+use Rattle.store_opening.specs.Opens.{OpensAs}
+use Rattle.store_opening.specs.PageOrder.{AreInOrder}
+use Rattle.store_opening.specs.Reaches.{OpensAsBefore}
 use Rattle.change_buffer.specs.Waiting.{Waiting}
 use Rattle.store_opening.specs.StartCauses.{HasStore}
 use Rattle.store_opening.specs.declared.opening.Opened.{Opened}

@@ -1,5 +1,0 @@
-pub mod LoggedChanges
-pub mod Opens
-pub mod Reaches
-pub mod Held
-pub mod PageOrder
