@@ -39,9 +39,9 @@ use log_area::{AppendFault, LogArea};
 use page_layout::{Form, Page, check};
 use page_redo::{Misfit, redo_forgets_a_page_begun_anew, redo_goes_on};
 use page_store::StoreError;
-use store_opening::number_of;
 use std::marker::Model;
 use store_layout::{Layout, pages_fill_the_disk};
+use store_opening::number_of;
 use wal_record::{Change, no_change_begins_another};
 
 /// The bytes of a whole page, as a change.
