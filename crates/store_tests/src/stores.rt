@@ -5,7 +5,6 @@ ghost use Rattle.wal_record.specs.Changes.{logged, place_of};
 
 use block_model::{Place, Sizes};
 use disk_trait::MemoryDisk;
-use store_opening::is_place;
 use logged_pages::PageStore;
 use page_layout::HEAP;
 use page_redo::fits;
@@ -13,6 +12,7 @@ use small_layouts::{LEAST, table_layout};
 use std::alloc::Global;
 use store_format::format;
 use store_layout::Layout;
+use store_opening::is_place;
 use wal_record::Change;
 
 /// More writes and syncs than a test makes, and more bytes than they write.
