@@ -1,0 +1,10 @@
+pub mod IndexMakes
+pub mod Stages
+pub mod Places
+pub mod Maintained
+pub mod Said
+pub mod Summaries
+pub mod Summarized
+pub mod Desummarized
+pub mod Waits
+pub mod Works

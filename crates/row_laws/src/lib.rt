@@ -1,0 +1,12 @@
+//! Worked rows with maintenance, as laws of the definition of texts: at any place at which a statement finds what its law says, its lines have
+//! these texts, step by step, and what they count, take out of the queue or wait for is this (specs/). It stands on line_texts, and on
+//! table_coverage's steps of a table. Nothing stands on it, and each function does nothing.
+#![tactic(auto)]
+
+mod maintaining;
+mod waiting;
+mod working;
+
+pub use maintaining::{a_range_is_desummarized, a_range_is_summarized};
+pub use waiting::a_step_is_told_its_holder;
+pub use working::work_takes_the_first;
