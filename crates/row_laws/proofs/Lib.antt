@@ -8,3 +8,4 @@ pub mod Summarized
 pub mod Desummarized
 pub mod Waits
 pub mod Works
+pub mod AskSteps

@@ -24,7 +24,7 @@ use Rattle.row_laws.proofs.Places.{Answer, Made, RunEnds, before, goes, replies_
 use Rattle.row_laws.proofs.Stages.{Counting, Makes, Moves, Stage, finally, first, further, state_of}
 
 -- a statement that prunes no block prunes the dead
-no_prune : (q : Place) {s : ℕ} {w v : TableState} (does : Does s w v) → ((extent next : ℕ) → w.task s ≡ Prunes extent next → ⊥) → PrunesTheDead q does
+pub no_prune : (q : Place) {s : ℕ} {w v : TableState} (does : Does s w v) → ((extent next : ℕ) → w.task s ≡ Prunes extent next → ⊥) → PrunesTheDead q does
 no_prune q (PrunesBlock extent next dropped inside spared turns drops) not = absurd (not extent next turns.was)
 no_prune q does not = tt
 
@@ -34,7 +34,7 @@ not_resting job at range phase task is rests = absurd (cc)
 not_prunes : (job : Job) (at range : ℕ) (phase : Phase) (task : Task) → task ≡ Maintains job at range phase → (extent next : ℕ) → task ≡ Prunes extent next → ⊥
 not_prunes job at range phase task is extent next other = absurd (cc)
 
-rests_not_prunes : (task : Task) → task ≡ Resting → (extent next : ℕ) → task ≡ Prunes extent next → ⊥
+pub rests_not_prunes : (task : Task) → task ≡ Resting → (extent next : ℕ) → task ≡ Prunes extent next → ⊥
 rests_not_prunes task is extent next other = absurd (cc)
 
 abbrev pub counted : ℕ → Account

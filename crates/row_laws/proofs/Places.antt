@@ -42,11 +42,11 @@ module _ (n t : ℕ) (st : Statement) where
     pub within_is : step.between.task n ≡ within
 
   module _ (q r : Place) (w v : TableState) (point : Point) (within : Task) (old : q.tables t ≡ w) (new : r.tables t ≡ v) (on : IsIn q n st t)
-      (others : (i : ℕ) → (i ≡ t) ⊎ Recounts (q.tables i) (r.tables i)) (in_hand : q.hands n ≡ Some (new_hand st)) (fits : length r.journal ≤ MAX_ENTRIES) where
-    made_there : (a b : Accounts) → Made q w v a b point within → Made q (q.tables t) (r.tables t) a b point within
+      (others : (i : ℕ) → (i ≡ t) ⊎ Recounts (q.tables i) (r.tables i)) where
+    pub made_there : (a b : Accounts) → Made q w v a b point within → Made q (q.tables t) (r.tables t) a b point within
     made_there a b made = subst (λ x. Made q x (r.tables t) a b point within) (sym old) (subst (λ y. Made q w y a b point within) (sym new) made)
 
-    abbrev turn_of : Made q (q.tables t) (r.tables t) (accounts_at q t) (accounts_at r t) point within → Turn q n st r
+    abbrev pub turn_of : Made q (q.tables t) (r.tables t) (accounts_at q t) (accounts_at r t) point within → Turn q n st r
     turn_of made = record {
       table = t;
       on = on;
@@ -58,41 +58,42 @@ module _ (n t : ℕ) (st : Statement) where
       others = others;
     }
 
-    pub goes : Made q w v (accounts_at q t) (accounts_at r t) point within → v.task n ≢ Resting → MakesAt point q n (new_hand st) (course_of q (new_hand st))
-        → Leads q n (Some (new_hand st)) q.journal r → Steps q n (Moved point) r
-    goes made busy makes leads =
-        let there = made_there (accounts_at q t) (accounts_at r t) made in
-        record {
-          hand = new_hand st;
-          in_hand = in_hand;
-          steps = GoesOn point (course_of q (new_hand st)) r (turn_of there) there.point_is (λ rests. busy (sym (ap (λ (x : TableState). x.task n) new) ∙ rests)) makes leads;
-          fits = fits;
-        }
+    module _ (in_hand : q.hands n ≡ Some (new_hand st)) (fits : length r.journal ≤ MAX_ENTRIES) where
+      pub goes : Made q w v (accounts_at q t) (accounts_at r t) point within → v.task n ≢ Resting → MakesAt point q n (new_hand st) (course_of q (new_hand st))
+          → Leads q n (Some (new_hand st)) q.journal r → Steps q n (Moved point) r
+      goes made busy makes leads =
+          let there = made_there (accounts_at q t) (accounts_at r t) made in
+          record {
+            hand = new_hand st;
+            in_hand = in_hand;
+            steps = GoesOn point (course_of q (new_hand st)) r (turn_of there) there.point_is (λ rests. busy (sym (ap (λ (x : TableState). x.task n) new) ∙ rests)) makes leads;
+            fits = fits;
+          }
 
-    pub replies_with : (account : Account) (reply : Reply) → Made q w v (accounts_at q t) (accounts_at r t) point within → v.task n ≡ Resting → next_request n st [] ≡ None
-        → r.accounts n ≡ account → Some reply ≡ reply_after q.layout t within account [] st → Leads q n None q.journal r → Steps q n (Ended reply) r
-    replies_with account reply made rests none tells replied leads =
-        let there = made_there (accounts_at q t) (accounts_at r t) made in
-        record {
-          hand = new_hand st;
-          in_hand = in_hand;
-          steps = Replies point (course_of q (new_hand st)) reply r (turn_of there) there.point_is (ap (λ (x : TableState). x.task n) new ∙ rests) (NoneLeft _ none)
-              (replied ∙ sym (ap (λ (task : Task). reply_after q.layout t task account [] st) there.within_is)
-              ∙ sym (ap (λ (a : Account). reply_after q.layout t (there.step.between.task n) a [] st) tells)) leads;
-          fits = fits;
-        }
+      pub replies_with : (account : Account) (reply : Reply) → Made q w v (accounts_at q t) (accounts_at r t) point within → v.task n ≡ Resting → next_request n st [] ≡ None
+          → r.accounts n ≡ account → Some reply ≡ reply_after q.layout t within account [] st → Leads q n None q.journal r → Steps q n (Ended reply) r
+      replies_with account reply made rests none tells replied leads =
+          let there = made_there (accounts_at q t) (accounts_at r t) made in
+          record {
+            hand = new_hand st;
+            in_hand = in_hand;
+            steps = Replies point (course_of q (new_hand st)) reply r (turn_of there) there.point_is (ap (λ (x : TableState). x.task n) new ∙ rests) (NoneLeft _ none)
+                (replied ∙ sym (ap (λ (task : Task). reply_after q.layout t task account [] st) there.within_is)
+                ∙ sym (ap (λ (a : Account). reply_after q.layout t (there.step.between.task n) a [] st) tells)) leads;
+            fits = fits;
+          }
 
 -- steps whose points have these words, and the last one's outcome
 pub data Run (n : ℕ) : Place → List (List ℕ) → Outcome → Place → Type 0 where
   RunEnds : (p q : Place) (outcome : Outcome) → Steps p n outcome q → Run n p [] outcome q
   RunGoes : (p q r : Place) (point : Point) (words : List (List ℕ)) (outcome : Outcome) → Steps p n (Moved point) q → Run n q words outcome r → Run n p (point_word point ∷ words) outcome r
 
-run_finishes : (n : ℕ) (outcome : Outcome) → ((point : Point) → outcome ≡ Moved point → ⊥) → (p : Place) (words : List (List ℕ)) (o : Outcome) (q : Place) → o ≡ outcome → Run n p words o q
+pub run_finishes : (n : ℕ) (outcome : Outcome) → ((point : Point) → outcome ≡ Moved point → ⊥) → (p : Place) (words : List (List ℕ)) (o : Outcome) (q : Place) → o ≡ outcome → Run n p words o q
     → Finishes n p outcome q
 run_finishes n outcome last _ _ _ _ is (RunEnds p q o steps) = LastStep p q outcome last (subst (λ x. Steps p n x q) is steps)
 run_finishes n outcome last _ _ _ _ is (RunGoes p q r point words o steps more) = texts.Further p q r point outcome steps (run_finishes n outcome last q words o r is more)
 
-run_texts : (n : ℕ) (name : List ℕ) (p : Place) (words : List (List ℕ)) (outcome : Outcome) (q : Place) → Run n p words outcome q
+pub run_texts : (n : ℕ) (name : List ℕ) (p : Place) (words : List (List ℕ)) (outcome : Outcome) (q : Place) → Run n p words outcome q
     → StepTexts n name p (map (moved name) words ++ outcome_text name (dropped_at q n) outcome ∷ []) q
 run_texts n name _ _ _ _ (RunEnds p q outcome steps) = OneLine p q q _ [] (StepsOnce outcome q steps) (NoLine q)
 run_texts n name _ _ _ _ (RunGoes p q r point words outcome steps more) = OneLine p q r _ _ (StepsOnce (Moved point) q steps) (run_texts n name q words outcome r more)

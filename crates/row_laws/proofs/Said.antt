@@ -5,6 +5,7 @@ use Rattle.std.proofs.lemmas.Fmt.{decimal_digit}
 use Rattle.block_model.specs.declared.reply.Refusal.TheVariants as refusals
 use Rattle.block_model.specs.declared.reply.Reply.TheVariants as replies
 use Rattle.block_model.specs.declared.reply.What.TheVariants as whats
+use Rattle.block_model.specs.declared.row.RowId.{RowId}
 use Rattle.reply_texts.specs.Texts.{reply_text}
 
 joined : (x a b c : List ℕ) → ((x ++ a) ++ b) ++ c ≡ x ++ (a ++ (b ++ c))
@@ -46,6 +47,9 @@ pub said_memory : (name : List ℕ) → reply_text name (replies.Refused refusal
 unfolding reply_text
 said_memory name = refl
 
+over_one : (x a b c d e : List ℕ) → ((x ++ a) ++ ((b ++ c) ++ d)) ++ e ≡ ((((x ++ a) ++ b) ++ c) ++ d) ++ e
+over_one x a b c d e = simp append_assoc
+
 over_two : (x a b c d e f : List ℕ) → ((((x ++ a) ++ (b ++ c)) ++ d) ++ e) ++ f ≡ ((((x ++ (a ++ b)) ++ c) ++ d) ++ e) ++ f
 over_two x a b c d e f = simp append_assoc
 
@@ -61,3 +65,7 @@ pub said_page : (name index : List ℕ) (page : ℕ) (holder : List ℕ) → rep
     ≡ name ++ codes " error 11 page " ++ index ++ codes " " ++ decimal page ++ codes " " ++ holder ++ codes "\n"
 unfolding reply_text
 said_page name index page holder = over_four name (codes " error 11 ") (codes "page ") index (codes " ") (decimal page) (codes " ") holder (codes "\n")
+
+pub said_inserted : (name : List ℕ) (id : RowId) → reply_text name (replies.Inserted id) ≡ name ++ codes " inserted " ++ decimal id.t ++ codes "." ++ decimal id.k ++ codes "\n"
+unfolding reply_text
+said_inserted name id = over_one name (codes " inserted ") (decimal id.t) (codes ".") (decimal id.k) (codes "\n")

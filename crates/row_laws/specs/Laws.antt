@@ -1,9 +1,12 @@
 -- What the worked rows with maintenance say of the definition of texts.
-use Rattle.std.specs.Prelude.{◌≡◌, ◌≢◌, ◌⊎◌, ℕ, zero, suc, ◌+◌, ◌*◌, ◌-◌, ◌≤◌, ◌<◌, min, codes, decimal, false, List, [], ◌∷◌, ◌++◌, map, length, None, Some}
+use Rattle.std.specs.Prelude.{◌≡◌, ◌≢◌, ◌⊎◌, ℕ, zero, suc, ◌+◌, ◌*◌, ◌-◌, ◌≤◌, ◌<◌, min, codes, decimal, IsTrue, false, List, [], ◌∷◌, ◌++◌, map, length, None, Some}
+use Rattle.std.specs.FinMap as map_of
 use Rattle.block_model.specs.declared.place.Spot.{Spot}
 use Rattle.block_model.specs.declared.row.Row.{Row}
+use Rattle.block_model.specs.declared.row.RowId.{RowId}
 use Rattle.block_model.specs.declared.value.Value.{Value}
-use Rattle.block_model.specs.RequestEffect.{Answer}
+use Rattle.block_model.specs.DatabaseState.{OpenTransaction}
+use Rattle.block_model.specs.RequestEffect.{Answer, next_row}
 use Rattle.coverage.specs.IndexView.{IndexTuple, map_page_of}
 use Rattle.coverage.specs.Statements.{AreLawful, Copied, Held, NotBuilding}
 use Rattle.coverage.specs.Verdicts.{IsTargetPlace}
@@ -12,14 +15,14 @@ use Rattle.line_texts.specs.Beginnings.{IsAtRest, IsIn, StandsAt}
 use Rattle.line_texts.specs.Laws.{IsHeldFrom}
 use Rattle.line_texts.specs.LineTexts.{Does, with_statement}
 use Rattle.line_texts.specs.Names.{index_name, name_of, table_name}
-use Rattle.line_texts.specs.Place.{Place, new_hand}
+use Rattle.line_texts.specs.Place.{Place, database_at, new_hand}
 use Rattle.query_words.specs.declared.line.Order.TheVariants as orders
 use Rattle.statements.specs.declared.limits.TheConstants.{MAX_ENTRIES}
 use Rattle.statements.specs.declared.statement.Statement.{Statement}
 use Rattle.statements.specs.declared.statement.Statement.TheVariants as statements
 use Rattle.table_coverage.specs.Accounts.{Asked}
 use Rattle.table_coverage.specs.Table.{Desummarising, Inserts, Maintains, Resting, TableState}
-use Rattle.table_coverage.specs.TableSteps.{first_block, range_in}
+use Rattle.table_coverage.specs.TableSteps.{IsFirstPlace, first_block, range_in}
 
 -- lines that step the session's statement, one after the other, have these texts
 pub data StepTexts (n : ℕ) (name : List ℕ) : Place → List (List ℕ) → Place → Type 0 where
@@ -132,6 +135,46 @@ abbrev pub WorkFindsNone : Type 0
 WorkFindsNone = (p : Place) (n : ℕ) (name : List ℕ) → p.hands n ≡ None → length p.journal ≤ MAX_ENTRIES → IsAtRest p n → p.queue ≡ []
     → IsAnswered p n name statements.Work [] (name ++ codes " worked none\n") []
     × ((text : List ℕ) (q : Place) → Does p n name (orders.Whole statements.Work) text q → (text ≡ name ++ codes " worked none\n") ⊎ (text ≡ name ++ codes " error 13\n"))
+
+-- The table's only index asks for summaries. The next row comes to the first place of one of its ranges, behind this one; and neither of the two
+-- has an entry.
+pub record AsksFirst (w : TableState) (block before : ℕ) : Type 0 where
+  pub only : w.indexes ≡ 1
+  pub asks : IsTrue (w.index 0).autosummarize
+  pub place : IsFirstPlace w block 0
+  pub begins : first_block w 0 (range_in w 0 block) ≡ block
+  pub behind : range_in w 0 block ≡ before + 1
+  pub empty : (w.index 0).entry (range_in w 0 block) ≡ None
+  pub asked : (w.index 0).entry before ≡ None
+  pub unlocked : (page : ℕ) → (w.index 0).lock page ≡ None
+
+-- the session has nothing in hand, its transaction is under way and sound, and the journal has room for a request
+pub record IsUnderWay (p : Place) (n table : ℕ) (x : OpenTransaction) : Type 0 where
+  pub idle : p.hands n ≡ None
+  pub transaction : map_of.get (database_at p).sessions n ≡ Some x
+  pub sound : x.failed ≡ false
+  pub room : length p.journal < MAX_ENTRIES
+  pub rests : (p.tables table).task n ≡ Resting
+
+abbrev pub ask_words : List (List ℕ)
+ask_words = codes "row" ∷ codes "ask" ∷ []
+
+abbrev pub inserted_text : List ℕ → RowId → List ℕ
+inserted_text name id = name ++ codes " inserted " ++ decimal id.t ++ codes "." ++ decimal id.k ++ codes "\n"
+
+-- where 64 summaries are asked for, an insert that asks for one more drops that, and tells its index and range before its reply
+abbrev pub AnAskIsDropped : Type 0
+AnAskIsDropped = (p : Place) (n table block before : ℕ) (name : List ℕ) (x : OpenTransaction) (values : List Value) → IsUnderWay p n table x
+    → AsksFirst (p.tables table) block before → 64 ≤ length p.queue
+    → IsAnswered p n name (statements.Insert table values) ask_words
+    ((codes "- dropped " ++ index_name p.layout table 0 ++ codes " " ++ decimal before ++ codes "\n") ++ inserted_text name (next_row x table values).id) p.queue
+
+-- where fewer are, it joins the queue as the last one
+abbrev pub AnAskJoins : Type 0
+AnAskJoins = (p : Place) (n table block before : ℕ) (name : List ℕ) (x : OpenTransaction) (values : List Value) → IsUnderWay p n table x
+    → AsksFirst (p.tables table) block before → length p.queue < 64
+    → IsAnswered p n name (statements.Insert table values) ask_words (inserted_text name (next_row x table values).id)
+    (p.queue ++ record { table = table; at = 0; range = before } ∷ [])
 
 -- a line that steps the session's statement has this text, and no other, and changes nothing
 abbrev pub IsToldSo : Place → ℕ → List ℕ → List ℕ → Type 0

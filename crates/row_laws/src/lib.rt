@@ -3,10 +3,12 @@
 //! table_coverage's steps of a table. Nothing stands on it, and each function does nothing.
 #![tactic(auto)]
 
+mod asking;
 mod maintaining;
 mod waiting;
 mod working;
 
+pub use asking::an_ask_beyond_64_is_dropped;
 pub use maintaining::{a_range_is_desummarized, a_range_is_summarized};
 pub use waiting::a_step_is_told_its_holder;
 pub use working::work_takes_the_first;
