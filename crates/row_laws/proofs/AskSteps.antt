@@ -2,11 +2,8 @@
 use Rattle.std.proofs.Common.{◌≡◌, ◌≢◌, ◌⊎◌, inl, inr, ℕ, zero, suc, ◌+◌, ◌≤◌, ◌<◌, max, List, [], ◌∷◌, ◌++◌, length, Option, None, Some, true, false, if◌then◌else◌, refl, sym, ap, ◌∙◌, subst, arith, length-append}
 use Rattle.std.specs.Prelude.{codes, decimal}
 use Rattle.std.proofs.Common as common
-use Rattle.std.specs.FinMap as map
 use Rattle.std.proofs.lemmas.List.{append-nil}
 use Rattle.std.proofs.lemmas.Option.{none-some}
-use Rattle.block_model.specs.declared.place.Spot.{Spot}
-use Rattle.block_model.specs.declared.reply.Point.{Point}
 use Rattle.block_model.specs.declared.reply.Point.TheVariants as points
 use Rattle.block_model.specs.declared.reply.Refusal.TheVariants as refusals
 use Rattle.block_model.specs.declared.reply.Reply.TheVariants as replies
@@ -18,19 +15,18 @@ use Rattle.block_model.specs.DatabaseState.{DatabaseState, OpenTransaction}
 use Rattle.block_model.specs.RequestEffect.{Answer, Inserted, effect_at, effect_is, next_row, reply_to}
 use Rattle.coverage.specs.Statements.{Empty}
 use Rattle.coverage.specs.Steps.{InsertNoEntry, ReadsIndex}
-use Rattle.line_texts.specs.LineTexts.{Does, Plain, Starts, Submits, Taken, dropped_at, outcome_text, submit_refusal, with_statement}
+use Rattle.line_texts.specs.LineTexts.{Does, Plain, Starts, Submits, Taken, dropped_at, outcome_text, with_statement}
 use Rattle.line_texts.specs.Names.{dropped_of, index_name}
 use Rattle.line_texts.specs.Place.{Hand, Place, accounts_at, database_at, new_hand, updated}
 use Rattle.line_texts.specs.Requests.{Course, Enters, NoneLeft, entered}
 use Rattle.line_texts.specs.StatementSteps as line
 use Rattle.line_texts.specs.StatementSteps.{Ended, Moved, Replies, Steps, course_of}
-use Rattle.line_texts.specs.Turns.{Recounts, Turn}
+use Rattle.line_texts.specs.Turns.{Recounts}
 use Rattle.line_texts.proofs.Bare.{no_move, not_behind, updated_there}
 use Rattle.line_texts.proofs.OneStep.{refusal_is}
 use Rattle.line_texts.proofs.Orders.{updated_here}
 use Rattle.query_words.specs.declared.line.Order.TheVariants as orders
 use Rattle.reply_texts.specs.DroppedTexts.{dropped_text}
-use Rattle.reply_texts.specs.StepTexts.{started_text}
 use Rattle.reply_texts.specs.Texts.{reply_text}
 use Rattle.statements.specs.declared.limits.TheConstants.{MAX_ENTRIES}
 use Rattle.statements.specs.declared.statement.Statement.{Statement}
@@ -39,12 +35,12 @@ use Rattle.statements.specs.HeapRoom.{full_table}
 use Rattle.statements.specs.StatementRequests.{insert_reply, request_entry, submission_refusal}
 use Rattle.table_coverage.specs.Accounts.{Account, Accounts, Asked, Asking, IsDropped, Joins, no_account}
 use Rattle.table_coverage.specs.InOneIndex.{RowComesTo, with_rows}
-use Rattle.table_coverage.specs.Table.{Asks, Index, Inserts, Reaches, Resting, TableState, Task, index_view_at, pick}
+use Rattle.table_coverage.specs.Table.{Asks, Inserts, Reaches, Resting, TableState, Task, index_view_at, pick}
 use Rattle.table_coverage.specs.TableSteps.{AsksFor, AsksSummary, GoesOn, InsertCompletes, OnlyTurns, SameRows, Settles, StepsIn, TaskTurns, ToAsk, range_in}
 use Rattle.table_coverage.specs.TableSteps as table_steps
 use Rattle.table_coverage.proofs.OneIndexSteps.{row_begins, stays_at}
 use Rattle.table_coverage.proofs.Views.{pick_both, pick_same, pick_there}
-use Rattle.row_laws.specs.Laws.{AnAskIsDropped, AnAskJoins, AsksFirst, IsAnswered, IsUnderWay, StepTexts, ask_words, inserted_text, moved}
+use Rattle.row_laws.specs.Laws.{AnAskIsDropped, AnAskJoins, AsksFirst, IsAnswered, IsUnderWay, StepTexts, ask_words, moved}
 use Rattle.row_laws.proofs.Maintained.{no_prune, rests_not_prunes}
 use Rattle.row_laws.proofs.Places.{Made, Run, RunEnds, RunGoes, made_there, run_finishes, run_texts, turn_of, updated_both}
 use Rattle.row_laws.proofs.Said.{said_inserted}
@@ -213,13 +209,13 @@ module _ (p : Place) (n t b before : ℕ) (x : OpenTransaction) (values : List V
             (turn_of n t st q0 q1 w (state (Asks b 0 r 0)) points.Row (Reaches b 0 r 0) refl (updated_here p.tables t (state (Asks b 0 r 0))) refl (recounts_first (state (Asks b 0 r 0))) there)
             there.point_is (busy_at (Asks b 0 r 0) (λ is. absurd (cc))) (Enters e refl)
             (record {
-          layout = refl;
-          opening = refl;
-          names = refl;
-          hand = updated_here p.hands n (Some hand);
-          others = λ m. updated_both p.hands n (Some (new_hand st)) (Some hand) m;
-          journal = refl;
-        });
+              layout = refl;
+              opening = refl;
+              names = refl;
+              hand = updated_here p.hands n (Some hand);
+              others = λ m. updated_both p.hands n (Some (new_hand st)) (Some hand) m;
+              journal = refl;
+            });
         fits = fits;
       }
 
@@ -236,8 +232,12 @@ module _ (p : Place) (n t b before : ℕ) (x : OpenTransaction) (values : List V
     accounts = record {
       table = refl;
       others = λ m. updated_both p.accounts n no_account telling m;
-      adds = (before, asks.behind, subst (λ o. Asking n (accounts_at q1 t) (accounts_at q2 t) (record { table = t; at = 0; range = before }) o) (sym asks.asked)
-      (asking (accounts_at q1 t) (accounts_at q2 t) refl refl refl (updated_here p.accounts n no_account) (updated_here p.accounts n telling)));
+      adds = (
+        before,
+        asks.behind,
+        subst (λ o. Asking n (accounts_at q1 t) (accounts_at q2 t) (record { table = t; at = 0; range = before }) o) (sym asks.asked)
+            (asking (accounts_at q1 t) (accounts_at q2 t) refl refl refl (updated_here p.accounts n no_account) (updated_here p.accounts n telling)),
+      );
     };
     takes = takes;
     point_is = refl;
@@ -294,13 +294,13 @@ module _ (p : Place) (n t b before : ℕ) (x : OpenTransaction) (values : List V
             there.point_is (ap (λ (u : TableState). u.task n) new ∙ is_at w n b before r asks way.rests Resting) (NoneLeft _ refl)
             (sym (ap (λ a. insert_reply (full_table p.layout t) (a ∷ [])) put_answer))
             (record {
-          layout = refl;
-          opening = refl;
-          names = refl;
-          hand = updated_here p.hands n None;
-          others = λ m. updated_both p.hands n (Some hand) None m;
-          journal = refl;
-        });
+              layout = refl;
+              opening = refl;
+              names = refl;
+              hand = updated_here p.hands n None;
+              others = λ m. updated_both p.hands n (Some hand) None m;
+              journal = refl;
+            });
         fits = fits;
       }
 

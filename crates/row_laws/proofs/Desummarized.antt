@@ -56,7 +56,7 @@ module _ (p : Place) (n index at block : ℕ) (name : List ℕ) (stands : Stands
   abbrev x : Index
   x = w.index at
 
-  suits : Suits p n t at st
+  suits : Suits p n t at st 0 0
   suits = record {
     in_table = λ q same busy. sym (ap (λ l. (index_at l index).table) same);
     none_left = refl;
@@ -77,7 +77,7 @@ module _ (p : Place) (n index at block : ℕ) (name : List ℕ) (stands : Stands
   none page is = none-some _ (sym (calm.unlocked page) ∙ is)
 
   begins_it : (words : List (List ℕ)) (reply : Reply)
-      → ((next : Stage w n at x (Maintains job at range (NotBuilding Empty))) → Answer n (at_stage p n t at st suits calm.fits calm.below next 0 p.queue) words reply p.queue)
+      → ((next : Stage w n at x (Maintains job at range (NotBuilding Empty))) → Answer n (at_stage p n t at st 0 0 suits calm.fits calm.below next 0 p.queue) words reply p.queue)
       → IsAnswered p n name st (codes "right" ∷ words) (reply_text name reply) p.queue
   begins_it words reply more = answered p n name st (codes "right" ∷ words) reply p.queue is_taken
       (begins_at_range p n t at st suits calm.fits calm.below job range (Desummarize at range calm.below) p.queue calm.rests calm.free
@@ -93,18 +93,18 @@ module _ (p : Place) (n index at block : ℕ) (name : List ℕ) (stands : Stands
       let view1 = shown w n at x1 (λ s. None) (λ s. None) in
       let mine1 : AreOwn n x1.lock = own_locks n these in
       begins_it (codes "map" ∷ codes "clear" ∷ []) (replies.Desummarized 1)
-      (λ next. stays_at_range p n t at st suits calm.fits calm.below job range x (part_of view) (NotBuilding Empty) (NotBuilding (Held y)) points.Map 0 0 p.queue next
+      (λ next. stays_at_range p n t at st 0 0 suits calm.fits calm.below job range x (part_of view) (NotBuilding Empty) (NotBuilding (Held y)) points.Map 0 0 p.queue next
       (λ building loose. clears_map n range (shown w n at x building loose) mine none y named) (λ q. refl) (codes "clear" ∷ []) (replies.Desummarized 1)
-      (λ on. stays_at_range p n t at st suits calm.fits calm.below job range x part (NotBuilding (Held y)) (NotBuilding (Dropping y)) points.Clear 1 0 p.queue on
+      (λ on. stays_at_range p n t at st 0 0 suits calm.fits calm.below job range x part (NotBuilding (Held y)) (NotBuilding (Dropping y)) points.Clear 1 0 p.queue on
       (λ building loose. clears n range (shown w n at x building loose) mine y named) (λ q. refl) [] (replies.Desummarized 1)
-      (λ last. ends_at_range p n t at st suits calm.fits calm.below job range x1 (tuple_part n range view1 mine1 y None) (NotBuilding (Dropping y)) points.Drop 0 1 p.queue last
+      (λ last. ends_at_range p n t at st 0 0 suits calm.fits calm.below job range x1 (tuple_part n range view1 mine1 y None) (NotBuilding (Dropping y)) points.Drop 0 1 p.queue last
       (λ building loose. clears_drop n range (shown w n at x1 building loose) mine1 y)
       (λ v per has. higher range has) (λ v same. tt) (replies.Desummarized 1) refl)))
 
   nothing_cleared : x.entry range ≡ None → IsAnswered p n name st (codes "right" ∷ []) (reply_text name (replies.Desummarized 0)) p.queue
   nothing_cleared empty =
       begins_it [] (replies.Desummarized 0)
-      (λ next. ends_at_range p n t at st suits calm.fits calm.below job range x (part_of (shown w n at x (λ s. None) (λ s. None))) (NotBuilding Empty) points.Map 0 0 p.queue next
+      (λ next. ends_at_range p n t at st 0 0 suits calm.fits calm.below job range x (part_of (shown w n at x (λ s. None) (λ s. None))) (NotBuilding Empty) points.Map 0 0 p.queue next
       (λ building loose. clears_none n range (shown w n at x building loose) mine none empty)
       (λ v per has. higher range has) (λ v same. tt) (replies.Desummarized 0) refl)
 

@@ -61,7 +61,7 @@ locks_none s p is = none-some _ is
 abbrev pub AreOwn : ℕ → (ℕ → Option ℕ) → Type 0
 AreOwn s lock = (p m : ℕ) → lock p ≡ Some m → m ≡ s
 
-own_on : (s : ℕ) (old new : ℕ → Option ℕ) → AreOwn s old → AreOwn s new → OwnLocks s old new
+pub own_on : (s : ℕ) (old new : ℕ → Option ℕ) → AreOwn s old → AreOwn s new → OwnLocks s old new
 own_on s old new mine its = record { others = λ p m is other. absurd (other (mine p m is)); taken = λ p m is other. absurd (other (its p m is)) }
 
 pub none_own : (s : ℕ) → AreOwn s no_locks

@@ -9,3 +9,6 @@ pub mod Desummarized
 pub mod Waits
 pub mod Works
 pub mod AskSteps
+pub mod Deciding
+pub mod Vacuumed
+pub mod Swept

@@ -69,3 +69,8 @@ said_page name index page holder = over_four name (codes " error 11 ") (codes "p
 pub said_inserted : (name : List ℕ) (id : RowId) → reply_text name (replies.Inserted id) ≡ name ++ codes " inserted " ++ decimal id.t ++ codes "." ++ decimal id.k ++ codes "\n"
 unfolding reply_text
 said_inserted name id = over_one name (codes " inserted ") (decimal id.t) (codes ".") (decimal id.k) (codes "\n")
+
+pub said_vacuumed : (name : List ℕ) (rows unnamed ranges : ℕ) → reply_text name (replies.Vacuumed rows unnamed ranges)
+    ≡ name ++ codes " vacuumed rows " ++ decimal rows ++ codes " orphans " ++ decimal unnamed ++ codes " ranges " ++ decimal ranges ++ codes "\n"
+unfolding reply_text
+said_vacuumed name rows unnamed ranges = refl

@@ -53,7 +53,7 @@ to_pass blocks range per less = omega (arith, add-mul range 1 per)
 not_past : (a b : ℕ) → a ≤ b → b < a → ⊥
 not_past a b le less = omega arith
 
-module _ (p : Place) (n t at : ℕ) (st : Statement) (suits : Suits p n t at st) (fits : length p.journal ≤ MAX_ENTRIES) (below : at < (p.tables t).indexes)
+module _ (p : Place) (n t at : ℕ) (st : Statement) (rows unnamed : ℕ) (suits : Suits p n t at st rows unnamed) (fits : length p.journal ≤ MAX_ENTRIES) (below : at < (p.tables t).indexes)
     (job : Job) (range : ℕ) (queue : List Asked) where
   abbrev w0 : TableState
   w0 = p.tables t
@@ -93,45 +93,45 @@ module _ (p : Place) (n t at : ℕ) (st : Statement) (suits : Suits p n t at st)
   none_of : (x : Index) → ((page : ℕ) → x.lock page ≡ None) → (page : ℕ) → x.lock page ≡ Some n → ⊥
   none_of x unlocked page is = none-some _ (sym (unlocked page) ∙ is)
 
-  module _ (reply : Reply) (ends : EndsHere reply) (replied : Some reply ≡ reply_after p.layout t (Considers job at (suc range)) (counted 1) [] st)
+  module _ (reply : Reply) (ends : EndsHere reply) (replied : Some reply ≡ reply_after p.layout t (Considers job at (suc range)) (counted rows unnamed 1) [] st)
       (slots : (b k : ℕ) → w0.rows_per_page ≤ k → w0.row b k ≡ None) where
     module _ (x : Index) (y : Spot) (old : IndexTuple) (named : IsNamed x y old) where
       mine : AreOwn n x.lock
       mine = own_of x named.unlocked
 
       swaps : (extent next : ℕ) (result : IndexTuple) → IsFormed x.contents result → (stage : Its x (IsAt (Passing extent next result) (Copied y old (x.contents.united old result))))
-          → Answer n (at_stage p n t at st suits fits below stage 0 queue) [] reply queue
+          → Answer n (at_stage p n t at st rows unnamed suits fits below stage 0 queue) [] reply queue
       swaps extent next result formed stage =
           let new = x.contents.united old result in
           let size = (named.lawful.united old result named.formed formed).0.size in
           let room = within (length new.bytes) x.contents.greatest most_bytes (x.pages.room_at y) size named.lawful.greatest named.room in
-          ends_at_range p n t at st suits fits below job range x (tuple_part n range (seen x) mine y (Some new)) (IsAt (Passing extent next result) (Copied y old new))
+          ends_at_range p n t at st rows unnamed suits fits below job range x (tuple_part n range (seen x) mine y (Some new)) (IsAt (Passing extent next result) (Copied y old new))
           points.Swap 1 0 queue stage
           (λ building loose. ends.lift _ _ _ _ _ _ (makes_swap n range (shown w0 n at x building loose) mine extent next result y old new named.stands named.regular room))
           (λ w per. ends.no_range w (per ∙ named.per)) ends.last reply replied
 
       copies : (extent next : ℕ) (result : IndexTuple) → extent ≤ next → IsFormed x.contents result → (stage : Its x (IsAt (Passing extent next result) (Held y)))
-          → Answer n (at_stage p n t at st suits fits below stage 0 queue) (codes "copy" ∷ []) reply queue
+          → Answer n (at_stage p n t at st rows unnamed suits fits below stage 0 queue) (codes "copy" ∷ []) reply queue
       copies extent next result all formed stage =
-          stays_at_range p n t at st suits fits below job range x (part_of (seen x)) (IsAt (Passing extent next result) (Held y))
+          stays_at_range p n t at st rows unnamed suits fits below job range x (part_of (seen x)) (IsAt (Passing extent next result) (Held y))
           (IsAt (Passing extent next result) (Copied y old (x.contents.united old result))) points.Copy 0 0 queue stage
           (λ building loose. ends.lift _ _ _ _ _ _ (makes_copy n range (shown w0 n at x building loose) mine (none_of x named.unlocked) extent next result y old all (named.stands, named.of)))
           (λ q. refl) [] reply (λ on. swaps extent next result formed on)
 
       maps : (extent next : ℕ) (result : IndexTuple) → extent ≤ next → IsFormed x.contents result → (stage : Its x (IsAt (Passing extent next result) Empty))
-          → Answer n (at_stage p n t at st suits fits below stage 0 queue) (codes "map" ∷ codes "copy" ∷ []) reply queue
+          → Answer n (at_stage p n t at st rows unnamed suits fits below stage 0 queue) (codes "map" ∷ codes "copy" ∷ []) reply queue
       maps extent next result all formed stage =
-          stays_at_range p n t at st suits fits below job range x (part_of (seen x)) (IsAt (Passing extent next result) Empty) (IsAt (Passing extent next result) (Held y))
+          stays_at_range p n t at st rows unnamed suits fits below job range x (part_of (seen x)) (IsAt (Passing extent next result) Empty) (IsAt (Passing extent next result) (Held y))
           points.Map 0 0 queue stage
           (λ building loose. ends.lift _ _ _ _ _ _ (makes_map n range (shown w0 n at x building loose) mine (none_of x named.unlocked) extent next result y all named.entry))
           (λ q. refl) (codes "copy" ∷ []) reply (λ on. copies extent next result all formed on)
 
       pass : (left extent next : ℕ) (result : IndexTuple) → extent ≡ next + left → IsFormed x.contents result → (stage : Its x (IsAt (Passing extent next result) Empty))
-          → Answer n (at_stage p n t at st suits fits below stage 0 queue) (passes left (codes "map" ∷ codes "copy" ∷ [])) reply queue
+          → Answer n (at_stage p n t at st rows unnamed suits fits below stage 0 queue) (passes left (codes "map" ∷ codes "copy" ∷ [])) reply queue
       pass zero extent next result is formed stage = maps extent next result (all_passed extent next is) formed stage
       pass (suc left) extent next result is formed stage =
           let wider = rows_added x.contents (w0.row next) w0.rows_per_page result in
-          stays_at_range p n t at st suits fits below job range x (part_of (seen x)) (IsAt (Passing extent next result) Empty) (IsAt (Passing extent (next + 1) wider) Empty)
+          stays_at_range p n t at st rows unnamed suits fits below job range x (part_of (seen x)) (IsAt (Passing extent next result) Empty) (IsAt (Passing extent (next + 1) wider) Empty)
           points.Pass 0 0 queue stage
           (λ building loose. ends.lift _ _ _ _ _ _ (makes_pass n range (shown w0 n at x building loose) mine (none_of x named.unlocked) extent next w0.rows_per_page result
           (one_left extent next left is) (λ k le. slots next k le)))
@@ -139,14 +139,14 @@ module _ (p : Place) (n t at : ℕ) (st : Statement) (suits : Suits p n t at st)
           (λ on. pass left extent (next + 1) wider (one_passed extent next left is) (rows_formed x.contents named.lawful (w0.row next) w0.rows_per_page result formed) on)
 
       extends : first_block w0 at range < w0.blocks → (stage : Its x (IsAt ExtentUnread Empty))
-          → Answer n (at_stage p n t at st suits fits below stage 0 queue) (codes "extent" ∷ passes (blocks_of w0 at range) (codes "map" ∷ codes "copy" ∷ [])) reply queue
+          → Answer n (at_stage p n t at st rows unnamed suits fits below stage 0 queue) (codes "extent" ∷ passes (blocks_of w0 at range) (codes "map" ∷ codes "copy" ∷ [])) reply queue
       extends begins stage =
           let extent = min w0.blocks ((range + 1) * x.pages_per_range) in
           let next = range * x.pages_per_range in
           let result = x.contents.empty range in
           let left : extent ≡ next + blocks_of w0 at range =
           subst (λ (per : ℕ). min w0.blocks ((range + 1) * per) ≡ range * per + blocks_of w0 at range) (sym named.per) (to_pass w0.blocks range its begins) in
-          stays_at_range p n t at st suits fits below job range x (part_of (seen x)) (IsAt ExtentUnread Empty) (IsAt (Passing extent next result) Empty)
+          stays_at_range p n t at st rows unnamed suits fits below job range x (part_of (seen x)) (IsAt ExtentUnread Empty) (IsAt (Passing extent next result) Empty)
           points.Extent 0 0 queue stage
           (λ building loose. ends.lift _ _ _ _ _ _ (makes_extent n range (shown w0 n at x building loose) mine (none_of x named.unlocked) extent refl))
           (λ q. refl) (passes (blocks_of w0 at range) (codes "map" ∷ codes "copy" ∷ [])) reply
@@ -190,23 +190,23 @@ module _ (p : Place) (n t at : ℕ) (st : Statement) (suits : Suits p n t at st)
       }
 
       sets : (stage : Its x1 (Placing y))
-          → Answer n (at_stage p n t at st suits fits below stage 0 queue) (codes "set" ∷ codes "extent" ∷ passes (blocks_of w0 at range) (codes "map" ∷ codes "copy" ∷ [])) reply queue
+          → Answer n (at_stage p n t at st rows unnamed suits fits below stage 0 queue) (codes "set" ∷ codes "extent" ∷ passes (blocks_of w0 at range) (codes "map" ∷ codes "copy" ∷ [])) reply queue
       sets stage =
-          stays_at_range p n t at st suits fits below job range x1 (set_part n range (seen x1) put_own (Some y) []) (Placing y) (IsAt ExtentUnread Empty) points.Set 0 0 queue stage
+          stays_at_range p n t at st rows unnamed suits fits below job range x1 (set_part n range (seen x1) put_own (Some y) []) (Placing y) (IsAt ExtentUnread Empty) points.Set 0 0 queue stage
           (λ building loose. ends.lift _ _ _ _ _ _ (makes_set n range (shown w0 n at x1 building loose) put_own y))
           (λ q. refl) (codes "extent" ∷ passes (blocks_of w0 at range) (codes "map" ∷ codes "copy" ∷ [])) reply (λ on. extends x2 y empty named lacks.begins on)
 
-      puts : (stage : Its x0 Vacant) → Answer n (at_stage p n t at st suits fits below stage 0 queue)
+      puts : (stage : Its x0 Vacant) → Answer n (at_stage p n t at st rows unnamed suits fits below stage 0 queue)
           (codes "put" ∷ codes "set" ∷ codes "extent" ∷ passes (blocks_of w0 at range) (codes "map" ∷ codes "copy" ∷ [])) reply queue
       puts stage =
-          stays_at_range p n t at st suits fits below job range x0 (put_part n range (seen x0) first_own y empty) Vacant (Placing y) points.Put 0 0 queue stage
+          stays_at_range p n t at st rows unnamed suits fits below job range x0 (put_part n range (seen x0) first_own y empty) Vacant (Placing y) points.Put 0 0 queue stage
           (λ building loose. ends.lift _ _ _ _ _ _ (makes_put n range (shown w0 n at x0 building loose) first_own y
           (λ (past : IsPastMap x0.pages range). not_past (map_page_of range) x0.pages.map_pages lacks.mapped past) lacks.target))
           (λ q. refl) (codes "set" ∷ codes "extent" ∷ passes (blocks_of w0 at range) (codes "map" ∷ codes "copy" ∷ [])) reply (λ on. sets on)
 
-      pub summarises : (stage : Its x0 (NotBuilding Empty)) → Answer n (at_stage p n t at st suits fits below stage 0 queue)
+      pub summarises : (stage : Its x0 (NotBuilding Empty)) → Answer n (at_stage p n t at st rows unnamed suits fits below stage 0 queue)
           (codes "map" ∷ codes "put" ∷ codes "set" ∷ codes "extent" ∷ passes (blocks_of w0 at range) (codes "map" ∷ codes "copy" ∷ [])) reply queue
       summarises stage =
-          stays_at_range p n t at st suits fits below job range x0 (part_of (seen x0)) (NotBuilding Empty) Vacant points.Map 0 0 queue stage
+          stays_at_range p n t at st rows unnamed suits fits below job range x0 (part_of (seen x0)) (NotBuilding Empty) Vacant points.Map 0 0 queue stage
           (λ building loose. ends.lift _ _ _ _ _ _ (makes_no_entry n range (shown w0 n at x0 building loose) first_own (none_of x0 unlocked) lacks.none (lacks.begins, lacks.few)))
           (λ q. refl) (codes "put" ∷ codes "set" ∷ codes "extent" ∷ passes (blocks_of w0 at range) (codes "map" ∷ codes "copy" ∷ [])) reply (λ on. puts on)

@@ -64,7 +64,7 @@ module _ (p : Place) (n index at : ℕ) (block : Option ℕ) where
   abbrev st : Statement
   st = statements.Summarize index block
 
-  summarize_suits : Suits p n t at st
+  summarize_suits : Suits p n t at st 0 0
   summarize_suits = record {
     in_table = λ q same busy. sym (ap (λ l. (index_at l index).table) same);
     none_left = refl;
@@ -83,12 +83,12 @@ module _ (p : Place) (n index at block : ℕ) (name : List ℕ) (stands : Stands
   abbrev one : Statement
   one = statements.Summarize index (Some block)
 
-  abbrev suits : Suits p n (index_at p.layout index).table at one
+  abbrev suits : Suits p n (index_at p.layout index).table at one 0 0
   suits = summarize_suits p n index at (Some block)
 
   begins_one : (begins : first_block w at range < w.blocks) (words : List (List ℕ)) (reply : Reply)
       → ((next : Stage w n at (w.index at) (Maintains (OneRange w.blocks range) at range (NotBuilding Empty)))
-      → Answer n (at_stage p n (index_at p.layout index).table at one suits calm.fits calm.below next 0 p.queue) words reply p.queue)
+      → Answer n (at_stage p n (index_at p.layout index).table at one 0 0 suits calm.fits calm.below next 0 p.queue) words reply p.queue)
       → IsAnswered p n name one (codes "right" ∷ words) (reply_text name reply) p.queue
   begins_one begins words reply more = answered p n name one (codes "right" ∷ words) reply p.queue
       (summarize_taken p n index (Some block) calm.idle (below_limit p.layout.sizes.heap_blocks block low))
@@ -97,12 +97,12 @@ module _ (p : Place) (n index at block : ℕ) (name : List ℕ) (stands : Stands
       (λ v per. (refl, subst (λ k. range * k < w.blocks) (sym per) begins)) refl (λ task is. (at, stands, is)) (λ asked same. not_behind asked p.queue same)
       words reply more)
 
-  ends_one : EndsHere p n (index_at p.layout index).table at one suits calm.fits calm.below (OneRange w.blocks range) range p.queue (replies.Summarized 1)
+  ends_one : EndsHere p n (index_at p.layout index).table at one 0 0 suits calm.fits calm.below (OneRange w.blocks range) range p.queue (replies.Summarized 1)
   ends_one = record { lift = λ u part old new point count makes. makes; no_range = λ v per has. higher range has.0; last = λ v same. tt }
 
   range_summarized : (lacks : LacksTuple w at range) → IsAnswered p n name one (summary_words (blocks_of w at range)) (reply_text name (replies.Summarized 1)) p.queue
   range_summarized lacks = begins_one lacks.begins _ (replies.Summarized 1)
-      (summarises p n (index_at p.layout index).table at one suits calm.fits calm.below (OneRange w.blocks range) range p.queue (replies.Summarized 1) ends_one refl lacks.slots lacks calm.unlocked)
+      (summarises p n (index_at p.layout index).table at one 0 0 suits calm.fits calm.below (OneRange w.blocks range) range p.queue (replies.Summarized 1) ends_one refl lacks.slots lacks calm.unlocked)
 
   range_left : (has : HasTuple w at range) → IsAnswered p n name one (codes "right" ∷ codes "map" ∷ []) (reply_text name (replies.Summarized 0)) p.queue
   range_left has =
@@ -112,9 +112,9 @@ module _ (p : Place) (n index at block : ℕ) (name : List ℕ) (stands : Stands
       let mine : AreOwn n x.lock = λ page m is. absurd (none-some _ (sym (calm.unlocked page) ∙ is)) in
       let none : LocksNone x.lock n = λ page is. absurd (none-some _ (sym (calm.unlocked page) ∙ is)) in
       begins_one has.begins (codes "map" ∷ []) (replies.Summarized 0)
-      (λ next. stays_at_range p n (index_at p.layout index).table at one suits calm.fits calm.below job range x part (NotBuilding Empty) (NotBuilding (Held has.place)) points.Map 0 0 p.queue next
+      (λ next. stays_at_range p n (index_at p.layout index).table at one 0 0 suits calm.fits calm.below job range x part (NotBuilding Empty) (NotBuilding (Held has.place)) points.Map 0 0 p.queue next
       (λ building loose. makes_look n range (shown w n at x building loose) mine none has.place has.named) (λ q. refl) [] (replies.Summarized 0)
-      (λ on. ends_at_range p n (index_at p.layout index).table at one suits calm.fits calm.below job range x part (NotBuilding (Held has.place)) points.Tuple 0 0 p.queue on
+      (λ on. ends_at_range p n (index_at p.layout index).table at one 0 0 suits calm.fits calm.below job range x part (NotBuilding (Held has.place)) points.Tuple 0 0 p.queue on
       (λ building loose. makes_final n range (shown w n at x building loose) mine none has.place has.tuple (has.stands, has.of) has.final)
       (λ v per has_more. higher range has_more.0) (λ v same. tt) (replies.Summarized 0) refl))
 
@@ -138,14 +138,14 @@ summarizes_a_table p n index at name stands calm one_range lacks =
     let st = statements.Summarize index None in
     let suits = summarize_suits p n index at None in
     let job = EachRange w.blocks in
-    let ends : EndsHere p n t at st suits calm.fits calm.below job 0 p.queue (replies.Summarized 1) =
+    let ends : EndsHere p n t at st 0 0 suits calm.fits calm.below job 0 p.queue (replies.Summarized 1) =
     record { lift = λ u part old new point count makes. makes; no_range = λ v per has. none_above w.blocks (v.index at).pages_per_range (w.index at).pages_per_range one_range per has; last = λ v same. tt } in
     subst (λ text. IsAnswered p n name st (summary_words (blocks_of w at 0)) text p.queue) (said_summarized name)
     (answered p n name st (summary_words (blocks_of w at 0)) (replies.Summarized 1) p.queue (summarize_taken p n index None calm.idle refl)
     (begins_at_range p n t at st suits calm.fits calm.below job 0 (Summarize at calm.below) p.queue
     calm.rests calm.free (λ v turns held rows indexes free a b is. record { account = is.0; queue = is.3 ∙ sym is.2 })
     (λ v per. subst (λ k. 0 * k < w.blocks) (sym per) lacks.begins) refl (λ task is. (at, stands, is)) (λ asked same. not_behind asked p.queue same)
-    _ (replies.Summarized 1) (summarises p n t at st suits calm.fits calm.below job 0 p.queue (replies.Summarized 1) ends refl lacks.slots lacks calm.unlocked)))
+    _ (replies.Summarized 1) (summarises p n t at st 0 0 suits calm.fits calm.below job 0 p.queue (replies.Summarized 1) ends refl lacks.slots lacks calm.unlocked)))
 
 -- ---- work
 
@@ -153,7 +153,7 @@ work_stays : (task : Task) → task ≢ Resting → (queue : List Asked) → Tak
 work_stays Resting busy queue = absurd (busy refl)
 work_stays task busy queue = λ asked same. not_behind asked queue same
 
-work_suits : (p : Place) (n t at : ℕ) → t < length p.layout.schema.tables → Suits p n t at statements.Work
+work_suits : (p : Place) (n t at : ℕ) → t < length p.layout.schema.tables → Suits p n t at statements.Work 0 0
 work_suits p n t at declared = record {
   in_table = λ q same busy. inl (subst (λ (l : DiskLayout). t < length l.schema.tables) (sym same) declared, busy);
   none_left = refl;
@@ -171,7 +171,7 @@ works_a_range p n name asked rest queued still declared calm lacks =
     let job = OneRange w.blocks range in
     let reply = replies.Worked (index_name p.layout t at) range 1 in
     let first : slice_get p.queue 0 ≡ Some asked = ap (λ (l : List Asked). slice_get l 0) queued in
-    let ends : EndsHere p n t at st suits calm.fits calm.below job range rest reply =
+    let ends : EndsHere p n t at st 0 0 suits calm.fits calm.below job range rest reply =
     record { lift = λ u part old new point count makes. makes; no_range = λ v per has. higher range has.0; last = λ v same. tt } in
     subst (λ text. IsAnswered p n name st (summary_words (blocks_of w at range)) text rest) (said_worked name (index_name p.layout t at) range)
     (answered p n name st (summary_words (blocks_of w at range)) reply rest (work_taken p n calm.idle)
@@ -184,4 +184,4 @@ works_a_range p n name asked rest queued still declared calm lacks =
     ))
     (λ v per. (refl, subst (λ k. range * k < w.blocks) (sym per) lacks.begins))
     (inr (still, (asked, first, refl))) (λ task is. (asked, first, is)) (subst (λ (task : Task). TakesUp st task p.queue rest) (sym calm.rests) (asked, queued))
-    _ reply (summarises p n t at st suits calm.fits calm.below job range rest reply ends refl lacks.slots lacks calm.unlocked)))
+    _ reply (summarises p n t at st 0 0 suits calm.fits calm.below job range rest reply ends refl lacks.slots lacks calm.unlocked)))

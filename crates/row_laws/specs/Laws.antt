@@ -1,5 +1,5 @@
 -- What the worked rows with maintenance say of the definition of texts.
-use Rattle.std.specs.Prelude.{◌≡◌, ◌≢◌, ◌⊎◌, ℕ, zero, suc, ◌+◌, ◌*◌, ◌-◌, ◌≤◌, ◌<◌, min, codes, decimal, IsTrue, false, List, [], ◌∷◌, ◌++◌, map, length, None, Some}
+use Rattle.std.specs.Prelude.{◌≡◌, ◌≢◌, ◌⊎◌, ◌↔◌, ℕ, zero, suc, ◌+◌, ◌*◌, ◌-◌, ◌≤◌, ◌<◌, min, codes, decimal, IsTrue, false, List, [], ◌∷◌, ◌++◌, map, length, None, Some}
 use Rattle.std.specs.FinMap as map_of
 use Rattle.block_model.specs.declared.place.Spot.{Spot}
 use Rattle.block_model.specs.declared.row.Row.{Row}
@@ -7,11 +7,15 @@ use Rattle.block_model.specs.declared.row.RowId.{RowId}
 use Rattle.block_model.specs.declared.value.Value.{Value}
 use Rattle.block_model.specs.DatabaseState.{OpenTransaction}
 use Rattle.block_model.specs.RequestEffect.{Answer, next_row}
+use Rattle.coverage.specs.Counts.{IsCountOf}
 use Rattle.coverage.specs.IndexView.{IndexTuple, map_page_of}
+use Rattle.coverage.specs.PageOrder.{IsForTuples}
 use Rattle.coverage.specs.Statements.{AreLawful, Copied, Held, NotBuilding}
+use Rattle.coverage.specs.Steps.{IsUnnamed}
 use Rattle.coverage.specs.Verdicts.{IsTargetPlace}
 use Rattle.index_steps.specs.IndexTuples.{index_at}
 use Rattle.line_texts.specs.Beginnings.{IsAtRest, IsIn, StandsAt}
+use Rattle.line_texts.specs.DeadRows.{IsDead}
 use Rattle.line_texts.specs.Laws.{IsHeldFrom}
 use Rattle.line_texts.specs.LineTexts.{Does, with_statement}
 use Rattle.line_texts.specs.Names.{index_name, name_of, table_name}
@@ -21,7 +25,7 @@ use Rattle.statements.specs.declared.limits.TheConstants.{MAX_ENTRIES}
 use Rattle.statements.specs.declared.statement.Statement.{Statement}
 use Rattle.statements.specs.declared.statement.Statement.TheVariants as statements
 use Rattle.table_coverage.specs.Accounts.{Asked}
-use Rattle.table_coverage.specs.Table.{Desummarising, Inserts, Maintains, Resting, TableState}
+use Rattle.table_coverage.specs.Table.{Desummarising, Inserts, Maintains, Resting, TableState, index_view_at}
 use Rattle.table_coverage.specs.TableSteps.{IsFirstPlace, first_block, range_in}
 
 -- lines that step the session's statement, one after the other, have these texts
@@ -175,6 +179,34 @@ AnAskJoins = (p : Place) (n table block before : ℕ) (name : List ℕ) (x : Ope
     → AsksFirst (p.tables table) block before → length p.queue < 64
     → IsAnswered p n name (statements.Insert table values) ask_words (inserted_text name (next_row x table values).id)
     (p.queue ++ record { table = table; at = 0; range = before } ∷ [])
+
+-- a row that no transaction can see any more stands there
+abbrev pub IsDeadAt : Place → TableState → (block slot : ℕ) → Type 0
+IsDeadAt p w block slot = (r : Row) × (w.row block slot ≡ Some r) × IsDead p r.id
+
+-- a table of one block and one index, at which nobody is at work, with so many such rows
+pub record HasDeadRows (p : Place) (table rows : ℕ) : Type 0 where
+  pub one_index : (p.tables table).indexes ≡ 1
+  pub one_block : (p.tables table).blocks ≡ 1
+  pub alone : (m : ℕ) → (p.tables table).task m ≡ Resting
+  pub dead : IsCountOf (IsDeadAt p (p.tables table) 0) rows
+
+abbrev pub vacuumed_text : List ℕ → (rows unnamed ranges : ℕ) → List ℕ
+vacuumed_text name rows unnamed ranges =
+    name ++ codes " vacuumed rows " ++ decimal rows ++ codes " orphans " ++ decimal unnamed ++ codes " ranges " ++ decimal ranges ++ codes "\n"
+
+-- A vacuum drops these rows, and counts them. Where the index has no page with tuples, and its one range is whole and has no tuple, it gives that one.
+abbrev pub AVacuumCountsRowsAndRanges : Type 0
+AVacuumCountsRowsAndRanges = (p : Place) (n table rows : ℕ) (name : List ℕ) → IsCalm p n table 0 → HasDeadRows p table rows
+    → ((page : ℕ) → IsForTuples ((p.tables table).index 0).pages page → ⊥) → ((p.tables table).index 0).pages_per_range ≡ 1 → LacksTuple (p.tables table) 0 0
+    → IsAnswered p n name (statements.Vacuum table) (codes "right" ∷ codes "prune" ∷ summary_words (blocks_of (p.tables table) 0 0)) (vacuumed_text name rows 0 1) p.queue
+
+-- where the index has one page with tuples, and its one range isn't whole, it drops and counts the unnamed tuples there, and makes no range
+abbrev pub AVacuumCountsRowsAndTuples : Type 0
+AVacuumCountsRowsAndTuples = (p : Place) (n table rows page unnamed : ℕ) (name : List ℕ) → IsCalm p n table 0 → HasDeadRows p table rows
+    → ((q : ℕ) → IsForTuples ((p.tables table).index 0).pages q ↔ (q ≡ page)) → 1 < ((p.tables table).index 0).pages_per_range
+    → IsCountOf (λ (k : ℕ). IsUnnamed (index_view_at 0 (p.tables table)) (record { block = page; slot = k })) unnamed
+    → IsAnswered p n name (statements.Vacuum table) (codes "right" ∷ codes "prune" ∷ codes "sweep" ∷ []) (vacuumed_text name rows unnamed 0) p.queue
 
 -- a line that steps the session's statement has this text, and no other, and changes nothing
 abbrev pub IsToldSo : Place → ℕ → List ℕ → List ℕ → Type 0

@@ -9,6 +9,8 @@ mod waiting;
 mod working;
 
 pub use asking::an_ask_beyond_64_is_dropped;
-pub use maintaining::{a_range_is_desummarized, a_range_is_summarized};
+pub use maintaining::{
+    a_range_is_desummarized, a_range_is_summarized, a_vacuum_counts_what_it_drops,
+};
 pub use waiting::a_step_is_told_its_holder;
 pub use working::work_takes_the_first;
