@@ -8,7 +8,9 @@ pub mod Summarized
 pub mod Desummarized
 pub mod Waits
 pub mod Works
+pub mod RowSteps
 pub mod AskSteps
+pub mod FirstRow
 pub mod Deciding
 pub mod Vacuumed
 pub mod Swept

@@ -26,6 +26,7 @@ use Rattle.statements.specs.declared.statement.Statement.{Statement}
 use Rattle.statements.specs.declared.statement.Statement.TheVariants as statements
 use Rattle.table_coverage.specs.Accounts.{Asked}
 use Rattle.table_coverage.specs.Table.{Desummarising, Inserts, Maintains, Resting, TableState, index_view_at}
+use Rattle.table_coverage.specs.TableCovered.{IsNewTable}
 use Rattle.table_coverage.specs.TableSteps.{IsFirstPlace, first_block, range_in}
 
 -- lines that step the session's statement, one after the other, have these texts
@@ -106,6 +107,34 @@ AOneRangeTableIsSummarized = (p : Place) (n index at : ℕ) (name : List ℕ) �
     → LacksTuple (p.tables (index_at p.layout index).table) at 0
     → IsAnswered p n name (statements.Summarize index None) (summary_words (blocks_of (p.tables (index_at p.layout index).table) at 0)) (name ++ codes " summarized 1\n") p.queue
 
+-- the session has nothing in hand, its transaction is under way and sound, and the journal has room for a request
+pub record IsUnderWay (p : Place) (n table : ℕ) (x : OpenTransaction) : Type 0 where
+  pub idle : p.hands n ≡ None
+  pub transaction : map_of.get (database_at p).sessions n ≡ Some x
+  pub sound : x.failed ≡ false
+  pub room : length p.journal < MAX_ENTRIES
+  pub rests : (p.tables table).task n ≡ Resting
+
+abbrev pub inserted_text : List ℕ → RowId → List ℕ
+inserted_text name id = name ++ codes " inserted " ++ decimal id.t ++ codes "." ++ decimal id.k ++ codes "\n"
+
+-- a new table with one index, of which a page for tuples may be started
+pub record IsNewWithIndex (w : TableState) : Type 0 where
+  pub new : IsNewTable w
+  pub only : w.indexes ≡ 1
+  pub blocks : w.blocks ≡ 0
+  pub room : 0 < w.heap_limit
+  pub slots : 0 < w.rows_per_page
+  pub pages : 2 < (w.index 0).pages.limit
+  pub ranges : 0 < (w.index 0).contents.ranges
+
+-- a row that is put into a new table leads to a place at which any session without a statement may summarize its range
+abbrev pub ANewRowIsSummarized : Type 0
+ANewRowIsSummarized = (p : Place) (n m index : ℕ) (name other : List ℕ) (x : OpenTransaction) (values : List Value) → StandsAt p.layout index 0
+    → IsUnderWay p n (index_at p.layout index).table x → IsNewWithIndex (p.tables (index_at p.layout index).table) → p.hands m ≡ None
+    → (q : Place) × (Does p n name (orders.Whole (statements.Insert (index_at p.layout index).table values)) (inserted_text name (next_row x (index_at p.layout index).table values).id) q
+    × IsAnswered q m other (statements.Summarize index None) (summary_words 1) (other ++ codes " summarized 1\n") q.queue)
+
 -- one of a range with a final tuple reads that, and counts nothing
 abbrev pub ASummarizedRangeIsLeft : Type 0
 ASummarizedRangeIsLeft = (p : Place) (n index at block : ℕ) (name : List ℕ) → StandsAt p.layout index at → block < p.layout.sizes.heap_blocks
@@ -152,19 +181,8 @@ pub record AsksFirst (w : TableState) (block before : ℕ) : Type 0 where
   pub asked : (w.index 0).entry before ≡ None
   pub unlocked : (page : ℕ) → (w.index 0).lock page ≡ None
 
--- the session has nothing in hand, its transaction is under way and sound, and the journal has room for a request
-pub record IsUnderWay (p : Place) (n table : ℕ) (x : OpenTransaction) : Type 0 where
-  pub idle : p.hands n ≡ None
-  pub transaction : map_of.get (database_at p).sessions n ≡ Some x
-  pub sound : x.failed ≡ false
-  pub room : length p.journal < MAX_ENTRIES
-  pub rests : (p.tables table).task n ≡ Resting
-
 abbrev pub ask_words : List (List ℕ)
 ask_words = codes "row" ∷ codes "ask" ∷ []
-
-abbrev pub inserted_text : List ℕ → RowId → List ℕ
-inserted_text name id = name ++ codes " inserted " ++ decimal id.t ++ codes "." ++ decimal id.k ++ codes "\n"
 
 -- where 64 summaries are asked for, an insert that asks for one more drops that, and tells its index and range before its reply
 abbrev pub AnAskIsDropped : Type 0
