@@ -26,7 +26,10 @@ use Rattle.table_coverage.specs.Accounts.{Account, Accounts, Asked, Asking, IsDr
 use Rattle.table_coverage.specs.Table.{Asks, Inserts, Reaches, Resting, TableState, Task}
 use Rattle.table_coverage.specs.TableSteps.{AsksFor, AsksSummary, GoesOn, Settles, ToAsk, range_in}
 use Rattle.table_coverage.proofs.OneIndexSteps.{stays_at}
-use Rattle.row_laws.specs.Laws.{AnAskIsDropped, AnAskJoins, AsksFirst, IsAnswered, IsUnderWay, StepTexts, ask_words, moved}
+use Rattle.row_laws.specs.Laws.{AnAskIsDropped, AnAskJoins}
+use Rattle.row_laws.specs.Finds.{AsksFirst, IsUnderWay}
+use Rattle.row_laws.specs.Answered.{IsAnswered, StepTexts, moved}
+use Rattle.row_laws.specs.Words.{ask_words}
 use Rattle.row_laws.proofs.Places.{Made, Run, RunEnds, RunGoes, made_there, run_finishes, run_texts, turn_of, updated_both}
 use Rattle.row_laws.proofs.Said.{said_inserted}
 use Rattle.row_laws.proofs.RowSteps.{HasSeat, above_none, busy, busy_at, done_so, fits, grown, has_index, is_at, is_taken, only, puts, recounts, turns}

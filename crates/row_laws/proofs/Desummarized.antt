@@ -25,7 +25,9 @@ use Rattle.statements.specs.StatementRequests.{submission_refusal}
 use Rattle.table_coverage.specs.InOneIndex.{index_with}
 use Rattle.table_coverage.specs.Table.{Desummarising, Index, Job, Maintains, TableState}
 use Rattle.table_coverage.specs.TableSteps.{Desummarize, range_in}
-use Rattle.row_laws.specs.Laws.{ARangeIsDesummarized, IsAnswered, IsCalm, NothingIsDesummarized}
+use Rattle.row_laws.specs.Laws.{ARangeIsDesummarized, NothingIsDesummarized}
+use Rattle.row_laws.specs.Answered.{IsAnswered}
+use Rattle.row_laws.specs.Finds.{IsCalm}
 use Rattle.row_laws.proofs.IndexMakes.{AreOwn, clears, clears_drop, clears_map, clears_none, own_locks, set_part, tuple_part}
 use Rattle.row_laws.proofs.Maintained.{Suits, at_stage, begins_at_range, ends_at_range, stays_at_range}
 use Rattle.row_laws.proofs.Places.{Answer, answered}

@@ -29,7 +29,10 @@ use Rattle.table_coverage.specs.Accounts.{Account}
 use Rattle.table_coverage.specs.Table.{Inserts, Reaches, Resting, TableState, Task, pick}
 use Rattle.table_coverage.specs.TableSteps.{AsksFor, GoesOn, Settles, ToIndex}
 use Rattle.table_coverage.proofs.Views.{pick_both, pick_other, pick_same, pick_there}
-use Rattle.row_laws.specs.Laws.{ANewRowIsSummarized, IsAnswered, IsCalm, IsNewWithIndex, IsUnderWay, LacksTuple, blocks_of, inserted_text, summary_words}
+use Rattle.row_laws.specs.Laws.{ANewRowIsSummarized}
+use Rattle.row_laws.specs.Answered.{IsAnswered}
+use Rattle.row_laws.specs.Finds.{IsCalm, IsNewWithIndex, IsUnderWay, LacksTuple}
+use Rattle.row_laws.specs.Words.{blocks_of, inserted_text, summary_words}
 use Rattle.row_laws.proofs.Places.{Run, RunEnds, RunGoes, run_finishes}
 use Rattle.row_laws.proofs.RowSteps as row
 use Rattle.row_laws.proofs.RowSteps.{HasSeat, done_so, grown, has_index, is_taken, only, puts, turns}

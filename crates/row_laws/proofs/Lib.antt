@@ -11,6 +11,7 @@ pub mod Works
 pub mod RowSteps
 pub mod AskSteps
 pub mod FirstRow
+pub mod FromStart
 pub mod Deciding
 pub mod Vacuumed
 pub mod Swept

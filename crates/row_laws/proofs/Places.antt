@@ -20,7 +20,7 @@ use Rattle.table_coverage.specs.Accounts.{Account, Accounts, AccountsStep, Asked
 use Rattle.table_coverage.specs.Table.{Task, Resting, TableState}
 use Rattle.table_coverage.specs.TablePoints.{does_point}
 use Rattle.table_coverage.specs.TableSteps.{TableStep}
-use Rattle.row_laws.specs.Laws.{IsAnswered, NoLine, OneLine, StepTexts, moved}
+use Rattle.row_laws.specs.Answered.{IsAnswered, NoLine, OneLine, StepTexts, moved}
 
 pub updated_both : {A : Type 0} (f : ℕ → A) (n : ℕ) (x y : A) (m : ℕ) → (m ≡ n) ⊎ (updated f n y m ≡ updated f n x m)
 updated_both f n x y m = by (updated_there f n x m) (updated_there f n y m)

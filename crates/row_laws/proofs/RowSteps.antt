@@ -33,7 +33,7 @@ use Rattle.table_coverage.specs.TableSteps.{AsksFor, AsksSummary, GoesOn, Insert
 use Rattle.table_coverage.specs.TableSteps as table_steps
 use Rattle.table_coverage.proofs.OneIndexSteps.{row_begins}
 use Rattle.table_coverage.proofs.Views.{pick_both, pick_same, pick_there}
-use Rattle.row_laws.specs.Laws.{IsUnderWay}
+use Rattle.row_laws.specs.Finds.{IsUnderWay}
 use Rattle.row_laws.proofs.Maintained.{no_prune, rests_not_prunes}
 use Rattle.row_laws.proofs.Places.{Made, made_there, turn_of, updated_both}
 

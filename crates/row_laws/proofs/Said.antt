@@ -21,6 +21,10 @@ pub said_summarized : (name : List ℕ) → reply_text name (replies.Summarized 
 unfolding reply_text
 said_summarized name = ap (λ d. name ++ codes " summarized " ++ d ++ codes "\n") one_is ∙ joined name (codes " summarized ") (49 ∷ []) (codes "\n")
 
+pub said_begun : (name : List ℕ) → reply_text name (replies.Begun 1) ≡ name ++ codes " begun 1\n"
+unfolding reply_text
+said_begun name = ap (λ d. name ++ codes " begun " ++ d ++ codes "\n") one_is ∙ joined name (codes " begun ") (49 ∷ []) (codes "\n")
+
 pub said_left : (name : List ℕ) → reply_text name (replies.Summarized 0) ≡ name ++ codes " summarized 0\n"
 unfolding reply_text
 said_left name = ap (λ d. name ++ codes " summarized " ++ d ++ codes "\n") none_is ∙ joined name (codes " summarized ") (48 ∷ []) (codes "\n")

@@ -21,7 +21,8 @@ use Rattle.table_coverage.specs.Accounts.{Asked}
 use Rattle.table_coverage.specs.InOneIndex.{JobMakes, index_with}
 use Rattle.table_coverage.specs.Table.{Considers, Index, Job, Maintains, TableState}
 use Rattle.table_coverage.specs.TableSteps.{HasRange, IsLastIndex, first_block}
-use Rattle.row_laws.specs.Laws.{LacksTuple, blocks_of, passes}
+use Rattle.row_laws.specs.Finds.{LacksTuple}
+use Rattle.row_laws.specs.Words.{blocks_of, passes}
 use Rattle.row_laws.proofs.IndexMakes.{AreOwn, makes_copy, makes_extent, makes_map, makes_no_entry, makes_pass, makes_put, makes_set, makes_swap, own_locks, placed_here, put_part, set_part, tuple_part}
 use Rattle.row_laws.proofs.Maintained.{Suits, at_stage, counted, ends_at_range, stays_at_range}
 use Rattle.row_laws.proofs.Places.{Answer}

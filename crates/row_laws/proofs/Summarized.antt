@@ -27,7 +27,10 @@ use Rattle.store_layout.specs.DiskLayout.{DiskLayout}
 use Rattle.table_coverage.specs.Accounts.{Asked}
 use Rattle.table_coverage.specs.Table.{EachRange, Maintains, OneRange, Resting, TableState, Task}
 use Rattle.table_coverage.specs.TableSteps.{Summarize, SummarizeOne, Work, first_block, range_in}
-use Rattle.row_laws.specs.Laws.{AOneRangeTableIsSummarized, ARangeIsSummarized, ASummarizedRangeIsLeft, IsAnswered, HasTuple, IsCalm, LacksTuple, WorkTakesTheFirst, blocks_of, summary_words}
+use Rattle.row_laws.specs.Laws.{AOneRangeTableIsSummarized, ARangeIsSummarized, ASummarizedRangeIsLeft, WorkTakesTheFirst}
+use Rattle.row_laws.specs.Answered.{IsAnswered}
+use Rattle.row_laws.specs.Finds.{HasTuple, IsCalm, LacksTuple}
+use Rattle.row_laws.specs.Words.{blocks_of, summary_words}
 use Rattle.row_laws.proofs.IndexMakes.{AreOwn, makes_final, makes_look}
 use Rattle.row_laws.proofs.Maintained.{Suits, at_stage, begins_at_range, ends_at_range, stays_at_range}
 use Rattle.row_laws.proofs.Places.{Answer, answered}

@@ -22,7 +22,9 @@ use Rattle.table_coverage.specs.Table.{Considers, Index, Prunes, Restarts, Resti
 use Rattle.table_coverage.specs.TableSteps.{GivesLock, GoesOn, HasTuples, IsFrom, Onward, RangesDone, RestartsIndex, SameRows, Settles, Swept, ToPage}
 use Rattle.table_coverage.proofs.OneIndexSteps.{sweeps_one}
 use Rattle.table_coverage.proofs.Views.{pick_same, pick_there}
-use Rattle.row_laws.specs.Laws.{AVacuumCountsRowsAndTuples, HasDeadRows, IsAnswered, IsCalm}
+use Rattle.row_laws.specs.Laws.{AVacuumCountsRowsAndTuples}
+use Rattle.row_laws.specs.Finds.{HasDeadRows, IsCalm}
+use Rattle.row_laws.specs.Answered.{IsAnswered}
 use Rattle.row_laws.proofs.Deciding.{count_same, decided, decided_is, is_decided}
 use Rattle.row_laws.proofs.IndexMakes.{AreOwn, own_on}
 use Rattle.row_laws.proofs.Maintained.{at_stage, counted, ends_on, no_prune, recounts}

@@ -29,7 +29,10 @@ use Rattle.table_coverage.specs.Table.{Considers, Index, Job, Maintains, Prunes,
 use Rattle.table_coverage.specs.TableSteps.{Does, GoesOn, HasPut, Onward, Pruned, PrunesBlock, RestartsIndex, SameRows, SeesPlace, Settles, Swept, TakesLock, TaskTurns, ToRange, Vacuum}
 use Rattle.table_coverage.proofs.OneIndexSteps.{stays_at}
 use Rattle.table_coverage.proofs.Views.{pick_same, pick_there}
-use Rattle.row_laws.specs.Laws.{AVacuumCountsRowsAndRanges, HasDeadRows, IsAnswered, IsCalm, IsDeadAt, LacksTuple, blocks_of, summary_words}
+use Rattle.row_laws.specs.Laws.{AVacuumCountsRowsAndRanges}
+use Rattle.row_laws.specs.Finds.{HasDeadRows, IsCalm, IsDeadAt, LacksTuple}
+use Rattle.row_laws.specs.Answered.{IsAnswered}
+use Rattle.row_laws.specs.Words.{blocks_of, summary_words}
 use Rattle.row_laws.proofs.Deciding.{count_same, decided, decided_is, is_decided}
 use Rattle.row_laws.proofs.Maintained.{Suits, at_stage, counted, moves_on, no_prune, rests_not_prunes}
 use Rattle.row_laws.proofs.Places.{Answer, answered, before, goes, updated_both}

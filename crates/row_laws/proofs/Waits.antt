@@ -36,7 +36,9 @@ use Rattle.table_coverage.specs.TableSteps.{AsksSummary, BeginsScan, Blocked, Co
 use Rattle.table_coverage.specs.TableSteps.{IndexFull, IsInsertRefused, IsMaintainRefused, NoPage, PrunesBlock, PutsRow, ReadsBlock, RefusesInsert, RefusesMaintain, RefusesRow, RefusesScan, RefusesVacuum, RestartsIndex, SummariseLockHeld}
 use Rattle.table_coverage.specs.TableSteps.{SweepsPage, TakesLock, Transacts, range_in}
 use Rattle.table_coverage.proofs.TableBlocked.{blocked_no_point, blocked_once}
-use Rattle.row_laws.specs.Laws.{ADesummarizeWaitsForAPage, ALockIsWaitedFor, AnInsertWaitsForAPage, IsOnlyIn, IsToldSo}
+use Rattle.row_laws.specs.Laws.{ADesummarizeWaitsForAPage, ALockIsWaitedFor, AnInsertWaitsForAPage}
+use Rattle.row_laws.specs.Finds.{IsOnlyIn}
+use Rattle.row_laws.specs.Answered.{IsToldSo}
 use Rattle.row_laws.proofs.Said.{said_page, said_work}
 
 one_holder : (w : TableState) (waited : WaitedFor) (m n : ℕ) → IsHeldBy w waited m → IsHeldBy w waited n → m ≡ n

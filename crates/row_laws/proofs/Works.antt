@@ -21,7 +21,8 @@ use Rattle.statements.specs.declared.limits.TheConstants.{MAX_ENTRIES}
 use Rattle.statements.specs.declared.statement.Statement.TheVariants as statements
 use Rattle.statements.specs.StatementRequests.{submission_refusal}
 use Rattle.table_coverage.specs.Accounts.{Account, Asked, no_account}
-use Rattle.row_laws.specs.Laws.{IsAnswered, WorkFindsNone}
+use Rattle.row_laws.specs.Answered.{IsAnswered}
+use Rattle.row_laws.specs.Laws.{WorkFindsNone}
 use Rattle.row_laws.proofs.Places.{RunEnds, answered, updated_both}
 use Rattle.row_laws.proofs.Said.{said_memory, said_none}
 

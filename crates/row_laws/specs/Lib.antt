@@ -1,1 +1,4 @@
+pub mod Answered
+pub mod Words
+pub mod Finds
 pub mod Laws

@@ -5,6 +5,7 @@
 
 mod asking;
 mod maintaining;
+mod scripts;
 mod waiting;
 mod working;
 
@@ -12,5 +13,6 @@ pub use asking::an_ask_beyond_64_is_dropped;
 pub use maintaining::{
     a_range_is_desummarized, a_range_is_summarized, a_vacuum_counts_what_it_drops,
 };
+pub use scripts::a_script_summarizes_its_row;
 pub use waiting::a_step_is_told_its_holder;
 pub use working::work_takes_the_first;
