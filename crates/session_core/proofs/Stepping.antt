@@ -1,6 +1,6 @@
 -- a store behind a step of a session's statement
-use Rattle.std.proofs.Common.{◌≡◌, inl, inr, ℕ, ◌<◌, List, length, set, Option, None, Some, IfSome, IsSome, OnOk, OnErr, IfOk, IfErr, Result, refl, sym, subst, ◌∙◌, arith, length-set}
-use Rattle.std.proofs.lemmas.Bool.{cases_lt, false≢true}
+use Rattle.std.proofs.Common.{◌≡◌, inl, inr, ℕ, ◌<◌, List, length, set, Option, None, Some, IfSome, OnOk, OnErr, IfOk, IfErr, Result, refl, sym, subst, ◌∙◌, arith, length-set}
+use Rattle.std.proofs.lemmas.Bool.{cases_lt}
 use Rattle.std.proofs.lemmas.Option.{none-some}
 use Rattle.disk_trait.specs.Told.{Told}
 use Rattle.page_store.specs.Keeps.{Leaves, Tells}
@@ -19,12 +19,11 @@ use Rattle.store_parts.specs.ShowsPlace.{ShowsPlace}
 use Rattle.store_parts.specs.StepAnswers.{HasCause, HasFaultCause, IsHolderOf, LeavesSessions, StaysReady, StaysWhereUndone}
 use Rattle.store_parts.specs.StepIs.{LeadsOn, StepIs, answer_of, hand_after}
 use Rattle.store_parts.specs.StoreLaws.{HasHand}
-use Rattle.store_parts.specs.Stepping.{IsFit, IsShown}
 use Rattle.store_parts.specs.UndoneLaws.{StepsSo}
 use Rattle.store_parts.specs.StoreStates.{StoreState, hand_at, hand_in, store_of, with_hand}
 use Rattle.session_core.specs.SessionLaws.{SessionLaws}
 use Rattle.session_core.specs.SessionLists.{spare_in}
-use Rattle.session_core.specs.Sessions.{HasStepped, IsInHandThen, IsSameStatement, LeavesTheRest, NamesASession, StaysStill}
+use Rattle.session_core.specs.Sessions.{IsInHandThen, IsSameStatement, LeavesTheRest, NamesASession, StaysStill}
 use Rattle.session_core.specs.StoreKept.{IsStoreKept}
 use Rattle.session_core.proofs.Kept.{fits_now, nobody_now, promised_now, session_below}
 use Rattle.session_core.proofs.Lists.{spares_set}
@@ -183,31 +182,3 @@ step_as told old before new names more hands now n answer told_so a b c d step =
     (subst (λ (l : List (List ℕ)). IsStepOf told before (store_of new l now) n told_so) (sym b)
     (subst (λ (l : List (Option Hand)). IsStepOf told before (store_of new names l) n told_so) (sym c)
     (subst (λ (r : Result Step StoreFault). IsStepOf told before (store_of new names hands) n r) (sym d) step)))
-
--- ---- the session's statement is lent, and comes back
-
-module _ {D : Type 0} (told : D → Told) (laws : SessionLaws told) (parts : Parts D) (names : List (List ℕ)) (hands : List (Option Hand)) (spares : List (Option Insert))
-    (kept : IsStoreKept told (store_of parts names hands) spares) (n : ℕ) where
-  pub lent_fit : (own : Option Hand) → hand_in hands n ≡ own → IfSome own (IsFit told parts n)
-  lent_fit None is = tt
-  lent_fit (Some hand) is =
-      let there = session_below told laws parts names hands spares kept n hand is in
-      (names, hands, is, kept.fits n (omega (arith, there, kept.few_sessions)))
-
-  pub lent_shown : (own : Option Hand) → hand_in hands n ≡ own → IfSome own (IsShown told parts n)
-  lent_shown None is = tt
-  lent_shown (Some hand) is = λ tells ready. (names, hands, is, kept.shown tells ready)
-
--- the statement that was in hand, and what its step came to
-pub record HasMade {D : Type 0} (told : D → Told) (parts new : Parts D) (hands : List (Option Hand)) (n : ℕ) (now : Option Hand) (answer : Result Step StoreFault) : Type 0 where
-  pub hand : Hand
-  pub was : hand_in hands n ≡ Some hand
-  pub stepped : Stepped
-  pub so : StepsSo told parts new n hand stepped
-  pub now_is : now ≡ hand_after stepped
-  pub answer_is : answer ≡ answer_of stepped
-
-pub has_made : {D : Type 0} (told : D → Told) (parts new : Parts D) (hands : List (Option Hand)) (n : ℕ) (now : Option Hand) (answer : Result Step StoreFault) (own : Option Hand)
-    → hand_in hands n ≡ own → IsSome own → IfSome own (λ hand. HasStepped told parts new n hand now answer) → HasMade told parts new hands n now answer
-has_made told parts new hands n now answer None is some made = absurd (false≢true some)
-has_made told parts new hands n now answer (Some hand) is some made = record { hand = hand; was = is; stepped = made.0; so = made.1; now_is = made.2; answer_is = made.3 }

@@ -9,13 +9,9 @@ use Rattle.store_parts.specs.declared.faults.Step.TheVariants as steps
 use Rattle.store_parts.specs.declared.faults.StoreFault.{StoreFault}
 use Rattle.store_parts.specs.declared.faults.StoreFault.TheVariants as stops
 use Rattle.store_parts.specs.declared.hand.Hand.{Hand}
-use Rattle.store_parts.specs.declared.hand.Stepped.{Stepped}
-use Rattle.store_parts.specs.declared.parts.Parts.{Parts}
 use Rattle.store_parts.specs.Hands.{statement_of}
 use Rattle.store_parts.specs.StepAnswers.{LeavesSessions, StaysAsItWas}
-use Rattle.store_parts.specs.StepIs.{answer_of, hand_after}
 use Rattle.store_parts.specs.StoreStates.{StoreState, hand_at}
-use Rattle.store_parts.specs.UndoneLaws.{StepsSo}
 use Rattle.session_core.specs.declared.faults.SessionFault.{SessionFault}
 use Rattle.session_core.specs.declared.faults.SessionFault.TheVariants as faults
 
@@ -65,7 +61,3 @@ abbrev pub StaysStill : {D : Type 0} → (D → Told) → (old new : StoreState 
 StaysStill told old new (Ok (steps.Blocked what holder)) = StaysAsItWas told old new
 StaysStill told old new (Err (stops.Spent entries)) = StaysAsItWas told old new
 StaysStill told old new answer = Unit {0}
-
--- A step of session n in these parts, of the statement that it had in hand, came to this: so it has that in hand now, and this is the answer.
-abbrev pub HasStepped : {D : Type 0} → (D → Told) → (old new : Parts D) → (n : ℕ) → Hand → Option Hand → Result Step StoreFault → Type 0
-HasStepped told old new n hand now answer = (stepped : Stepped) × StepsSo told old new n hand stepped × (now ≡ hand_after stepped) × (answer ≡ answer_of stepped)

@@ -54,6 +54,20 @@ pub(crate) fn has_hand(sessions: &[Session], session: u32) -> bool
     sessions[session as usize].hand.is_some()
 }
 
+/// Takes the statement out of the session's hand.
+pub(crate) fn take_hand(sessions: &mut Vec<Session>, session: u32) -> Hand
+    requires { IsSome (hand_in (hands_of sessions.old.items) session) }
+    ensures hand { hand_in (hands_of sessions.old.items) session ≡ Some result }
+    ensures hands { hands_of sessions.new.items ≡ slice_set (hands_of sessions.old.items) session None }
+    ensures names { names_of sessions.new.items ≡ names_of sessions.old.items }
+    ensures spares { spares_of sessions.new.items ≡ spares_of sessions.old.items }
+{
+    let Some(hand) = sessions[session as usize].hand.take() else {
+        unreachable!()
+    };
+    hand
+}
+
 /// The session has that in hand.
 pub(crate) fn put_hand(sessions: &mut Vec<Session>, session: u32, hand: Option<Hand>)
     requires { session < length sessions.old.items }
@@ -62,4 +76,25 @@ pub(crate) fn put_hand(sessions: &mut Vec<Session>, session: u32, hand: Option<H
     ensures spares { spares_of sessions.new.items ≡ spares_of sessions.old.items }
 {
     sessions[session as usize].hand = hand;
+}
+
+/// Takes the session's spare machine, if there is one.
+pub(crate) fn take_spare(sessions: &mut Vec<Session>, session: u32) -> Option<Insert>
+    requires { session < length sessions.old.items }
+    ensures spare { result ≡ spare_in (spares_of sessions.old.items) session }
+    ensures spares { spares_of sessions.new.items ≡ slice_set (spares_of sessions.old.items) session None }
+    ensures names { names_of sessions.new.items ≡ names_of sessions.old.items }
+    ensures hands { hands_of sessions.new.items ≡ hands_of sessions.old.items }
+{
+    sessions[session as usize].spare.take()
+}
+
+/// The session has that spare machine.
+pub(crate) fn put_spare(sessions: &mut Vec<Session>, session: u32, spare: Option<Insert>)
+    requires { session < length sessions.old.items }
+    ensures spares { spares_of sessions.new.items ≡ slice_set (spares_of sessions.old.items) session spare }
+    ensures names { names_of sessions.new.items ≡ names_of sessions.old.items }
+    ensures hands { hands_of sessions.new.items ≡ hands_of sessions.old.items }
+{
+    sessions[session as usize].spare = spare;
 }

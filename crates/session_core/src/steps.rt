@@ -1,14 +1,13 @@
 //! Which crate makes a statement's step, and what comes of it.
 
-ghost use Rattle.std.specs.Prelude.{◌≡◌, ◌+◌, ◌≤◌, IfSome, IsSome};
+ghost use Rattle.std.specs.Prelude.{◌≡◌, ◌+◌, ◌≤◌, IfSome};
 ghost use Rattle.page_locks.specs.LockHolders.{count_of};
 ghost use Rattle.brin_insert.specs.Inserts.{IsInsertFor};
 ghost use Rattle.store_parts.specs.declared.limits.TheConstants.{LOCKS_A_SESSION, MAX_LOCKS};
+ghost use Rattle.store_parts.specs.StepIs.{answer_of, hand_after};
 ghost use Rattle.store_parts.specs.Stepping.{IsFit, IsShown};
 ghost use Rattle.store_parts.specs.UndoneLaws.{StepsSo};
-ghost use Rattle.session_core.specs.Sessions.{HasStepped};
 
-use crate::sessions::Session;
 use brin_insert::Insert;
 use disk_trait::Disk;
 use store_inserts::{insert_on, put_row};
@@ -49,37 +48,15 @@ pub(crate) fn step_of<D: Disk + Drop>(
     }
 }
 
-/// Makes the next step of the statement that the session of that number has in hand. It stays there, unless this is its last step.
-pub(crate) fn step_in<D: Disk + Drop>(
-    parts: &mut Parts<D>,
-    number: u32,
-    session: &mut Session,
-) -> Result<Step, StoreFault>
-    requires hand { IsSome session.old.hand }
-    requires fit { IfSome session.old.hand (IsFit D.told parts.old number) }
-    requires few { count_of parts.old.locks + LOCKS_A_SESSION ≤ MAX_LOCKS }
-    requires shown { IfSome session.old.hand (IsShown D.told parts.old number) }
-    requires spare { IfSome session.old.spare (IsInsertFor parts.old.pages.layout) }
-    ensures so { IfSome session.old.hand (λ hand. HasStepped D.told parts.old parts.new number hand session.new.hand result) }
-    ensures name { session.new.name ≡ session.old.name }
-    ensures spare { IfSome session.new.spare (IsInsertFor parts.old.pages.layout) }
+/// The answer of a step, and what the session has in hand then.
+pub(crate) fn answered(stepped: Stepped) -> (Result<Step, StoreFault>, Option<Hand>)
+    ensures answer { result.0 ≡ answer_of stepped }
+    ensures hand { result.1 ≡ hand_after stepped }
 {
-    let Some(hand) = session.hand.take() else {
-        unreachable!()
-    };
-    match step_of(parts, number, hand, &mut session.spare) {
-        Stepped::Moved { point, hand } => {
-            session.hand = Some(hand);
-            Ok(Step::Moved(point))
-        }
-        Stepped::Done(reply) => Ok(Step::Done(reply)),
-        Stepped::Blocked { what, holder, hand } => {
-            session.hand = Some(hand);
-            Ok(Step::Blocked { what, holder })
-        }
-        Stepped::Undone { fault, hand } => {
-            session.hand = Some(hand);
-            Err(fault)
-        }
+    match stepped {
+        Stepped::Moved { point, hand } => (Ok(Step::Moved(point)), Some(hand)),
+        Stepped::Done(reply) => (Ok(Step::Done(reply)), None),
+        Stepped::Blocked { what, holder, hand } => (Ok(Step::Blocked { what, holder }), Some(hand)),
+        Stepped::Undone { fault, hand } => (Err(fault), Some(hand)),
     }
 }

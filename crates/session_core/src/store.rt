@@ -18,8 +18,10 @@ ghost use Rattle.session_core.specs.Submitting.{IsJudged, IsTakenUp, refusal_her
 
 use crate::faults::SessionFault;
 use crate::laws::laws_of_sessions;
-use crate::sessions::{Session, add_session, has_hand, number_of, put_hand};
-use crate::steps::step_in;
+use crate::sessions::{
+    Session, add_session, has_hand, number_of, put_hand, put_spare, take_hand, take_spare,
+};
+use crate::steps::{answered, step_of};
 use crate::submitting::{block_refusal, hand_for, standing_refusal};
 use block_model::{Entry, Name, NoMemory, Refusal};
 use disk_trait::Disk;
@@ -150,8 +152,13 @@ impl<D: Disk + Drop> Store<D> {
     {
         laws_of_sessions(&self.parts);
         few_locks_are_held(&self.parts.locks);
-        let own = &mut self.sessions[session as usize];
-        step_in(&mut self.parts, session, own)
+        let hand = take_hand(&mut self.sessions, session);
+        let mut spare = take_spare(&mut self.sessions, session);
+        let stepped = step_of(&mut self.parts, session, hand, &mut spare);
+        let (answer, hand) = answered(stepped);
+        put_spare(&mut self.sessions, session, spare);
+        put_hand(&mut self.sessions, session, hand);
+        answer
     }
 
     /// Whether the session has a statement in hand.
