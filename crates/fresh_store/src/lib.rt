@@ -1,6 +1,6 @@
 //! What a new store opens to: the fresh pages, which stand in order. So at every moment of a format a crash leaves what was there
 //! before, or no store, or a store that opens to them. It stands on store_format, which makes a new store's bytes, and on
-//! opened_pages, whose words say what bytes open to. The fresh pages are specs/FreshPages.antt.
+//! store_opening, whose words say what bytes open to. The fresh pages are specs/FreshPages.antt.
 #![tactic(auto)]
 
 mod laws;

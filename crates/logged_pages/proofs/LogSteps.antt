@@ -25,7 +25,7 @@ use Rattle.store_opening.specs.Opens.{disk_page}
 use Rattle.store_opening.specs.Reaches.{OpensToOr}
 use Rattle.store_opening.specs.PageNumbers.{page_number}
 use Rattle.store_opening.specs.Safe.{IsSafe, is_marked}
-use Rattle.store_opening.specs.SafeLaws.{SamePages, same_pages, switch_reaches, switched_safe}
+use Rattle.store_opening.proofs.SafeLaws.{SamePages, same_pages, switch_reaches, switched_safe}
 use Rattle.store_opening.specs.ShownLaws.{shown_at, shown_whole}
 use Rattle.store_opening.specs.ShownPages.{shown_page, shown_pages}
 use Rattle.logged_pages.specs.Clean.{AreClean}

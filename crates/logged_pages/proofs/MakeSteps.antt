@@ -26,7 +26,7 @@ use Rattle.store_opening.specs.LoggedChanges.{AreChangesOf, BeginAnew, changes_a
 use Rattle.store_opening.specs.Opens.{disk_page}
 use Rattle.store_opening.specs.PageNumbers.{page_number}
 use Rattle.store_opening.specs.Safe.{Rebuilds, is_marked}
-use Rattle.store_opening.specs.SafeLaws.{all_append, at_append}
+use Rattle.store_opening.proofs.SafeLaws.{all_append, at_append}
 use Rattle.store_opening.specs.ShownLaws.{one_number, same_place, shown_at, shown_whole}
 use Rattle.store_opening.specs.ShownPages.{shown_page, shown_pages}
 use Rattle.logged_pages.specs.Begun.{MakesHeld, Touched, logged_for, with_changes}

@@ -32,7 +32,7 @@ use Rattle.store_opening.specs.Reaches.{OpensToOr}
 use Rattle.store_opening.specs.InPool.{Holds, IsHeldPage}
 use Rattle.store_opening.specs.PageNumbers.{page_number}
 use Rattle.store_opening.specs.Safe.{IsSafe, is_marked}
-use Rattle.store_opening.specs.SafeLaws.{torn_reaches, torn_safe}
+use Rattle.store_opening.proofs.SafeLaws.{torn_reaches, torn_safe}
 use Rattle.store_opening.specs.ShownLaws.{offset_of, one_number, same_place, same_shown}
 use Rattle.store_opening.specs.ShownPages.{content_at, shown_page, shown_pages}
 use Rattle.logged_pages.specs.Contents.{HoldsAlike}

@@ -11,7 +11,7 @@ use Rattle.change_buffer.specs.Waiting.{no_changes}
 use Rattle.store_opening.specs.PageNumbers.{page_number}
 use Rattle.store_opening.specs.ShownLaws.{shown_at, shown_whole}
 use Rattle.store_opening.specs.ShownPages.{shown_pages}
-use Rattle.store_opening.specs.SafeLaws.{opens_safe}
+use Rattle.store_opening.proofs.SafeLaws.{opens_safe}
 use Rattle.store_opening.proofs.Pooling.{lent_held}
 use Rattle.store_opening.specs.Opened.{IsOpened}
 use Rattle.store_opening.specs.declared.opening.Opened.{Opened}

@@ -23,7 +23,7 @@ use Rattle.store_opening.specs.Opens.{OpensAs}
 use Rattle.store_opening.specs.Reaches.{OpensToOr, Reaches}
 use Rattle.store_opening.specs.PageNumbers.{page_number}
 use Rattle.store_opening.specs.Safe.{IsSafe}
-use Rattle.store_opening.specs.SafeLaws.{SamePages, append_reaches, appended_safe, opens_safe, same_pages}
+use Rattle.store_opening.proofs.SafeLaws.{SamePages, append_reaches, appended_safe, opens_safe, same_pages}
 use Rattle.store_opening.specs.ShownPages.{content_at, shown_page, shown_pages}
 use Rattle.store_opening.specs.ShownLaws.{same_shown, shown_at, shown_whole}
 use Rattle.logged_pages.specs.KeptPages.{KeptPages, LeftStore}

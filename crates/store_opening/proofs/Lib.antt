@@ -23,3 +23,4 @@ pub mod KindsStand
 pub mod IndexOrder
 pub mod AllOrder
 pub mod Finishing
+pub mod SafeLaws

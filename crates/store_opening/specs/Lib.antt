@@ -8,7 +8,6 @@ pub mod ShownPages
 pub mod ShownLaws
 pub mod Safe
 pub mod InPool
-pub mod SafeLaws
 pub mod PooledPages
 pub mod Redoing
 pub mod Holds
