@@ -1,9 +1,11 @@
 -- the machine that waits before its first step, and its put
-use Rattle.std.proofs.Common.{◌≡◌, ℕ, List, Option, None, Some, sym, subst}
+use Rattle.std.proofs.Common.{◌≡◌, ℕ, List, Option, None, Some, sym, ap, subst, ◌∙◌}
 use Rattle.std.specs.Prelude.{IfSome, IsSomeAnd}
 use Rattle.std.proofs.lemmas.Option.{same_Some}
 use Rattle.disk_trait.specs.Told.{Told}
+use Rattle.block_model.specs.declared.row.Row.{Row}
 use Rattle.block_model.specs.declared.value.Value.{Value}
+use Rattle.row_versions.specs.declared.sessions.Open.{Open}
 use Rattle.transactions.specs.Sessions.{next_row_of}
 use Rattle.transactions.specs.TransactionsState.{OfOpen}
 use Rattle.brin_insert.specs.declared.insert.Insert.{Insert}
@@ -17,6 +19,27 @@ use Rattle.store_parts.specs.Stepping.{IsFit, IsShown, LeavesTheOthers, MakesIts
 use Rattle.store_parts.specs.UndoneLaws.{StepsSo}
 use Rattle.store_inserts.specs.Promised.{unpromised}
 use Rattle.store_inserts.specs.SparePut.{OfItsPut}
+
+-- it begins the row
+abbrev pub Begins : Option Insert → Row → Type 0
+Begins spare row = IfSome spare (λ insert. (insert.row ≡ row) × (insert.place ≡ None))
+
+pub begins_nowhere : (spare : Option Insert) (row : Row) → Begins spare row → IfSome spare (λ insert. insert.place ≡ None)
+begins_nowhere None row begins = tt
+begins_nowhere (Some insert) row begins = begins.1
+
+-- its row is that of the put
+abbrev pub IsItsRow : Option Insert → (table : ℕ) → List Value → Type 0
+IsItsRow spare table values = IfSome spare (λ insert. (insert.row.table ≡ table) × (insert.row.values ≡ values))
+
+pub begins_row : (spare : Option Insert) (row : Row) → Begins spare row → IsItsRow spare row.table row.values
+begins_row None row begins = tt
+begins_row (Some insert) row begins = (ap (λ (r : Row). r.table) begins.0, ap (λ (r : Row). r.values) begins.0)
+
+pub begins_id : (spare : Option Insert) (row : Row) (transaction : Option Open) → Begins spare row → ((o : Open) → transaction ≡ Some o → Some row.id ≡ next_row_of o)
+    → IfSome spare (λ insert. (o : Open) → transaction ≡ Some o → next_row_of o ≡ Some insert.row.id)
+begins_id None row transaction begins next = tt
+begins_id (Some insert) row transaction begins next = λ o is. sym (next o is) ∙ ap (λ (r : Row). Some r.id) (sym begins.0)
 
 -- the machine before its first step
 pub record Waits {D : Type 0} (told : D → Told) (parts : Parts D) (n : ℕ) (insert : Insert) : Type 0 where
@@ -47,10 +70,7 @@ pub put_steps : {D : Type 0} (told : D → Told) (old new : Parts D) (n : ℕ) (
 put_steps told old new n spare insert answer is so =
     subst (λ (o : Option Insert). PutSteps told old new n o answer) (sym is) (record { steps = so.steps; fit = so.fit; others = so.others; stays = so.stays; cause = so.cause })
 
--- its row is that of the put
-abbrev pub IsItsRow : Option Insert → (table : ℕ) → List Value → Type 0
-IsItsRow spare table values = IfSome spare (λ insert. (insert.row.table ≡ table) × (insert.row.values ≡ values))
-
+-- its first step, as that of the put
 pub of_its_row : (spare : Option Insert) (table : ℕ) (values : List Value) (P : Hand → Type 0) → IsItsRow spare table values → P (hands.Puts table values) → OfItsPut spare P
 of_its_row None table values P row is = tt
 of_its_row (Some insert) table values P row is =

@@ -46,7 +46,8 @@ pub(crate) fn machine_for<D: Disk + Drop>(
     let Ok(()) = begun(parts.alloc, row, parts.pages.layout(), spare) else {
         return Err(NoMemory);
     };
-    parts.journal.promise(1)
+    parts.journal.promise(1)?;
+    Ok(())
 }
 
 /// The spare machine begins the row where it is of the row's table, and else a new one takes its place.
