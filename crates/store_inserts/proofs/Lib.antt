@@ -14,3 +14,4 @@ pub mod OnParts
 pub mod Refusing
 pub mod RowRefused
 pub mod RowParts
+pub mod SpareMachine

@@ -13,13 +13,14 @@ ghost use Rattle.row_versions.specs.StoredVersions.{transaction_of};
 ghost use Rattle.transactions.specs.Sessions.{next_row_of};
 ghost use Rattle.transactions.specs.TransactionsState.{OfOpen, with_failed};
 ghost use Rattle.store_inserts.specs.Promised.{unpromised};
+ghost use Rattle.store_inserts.specs.SparePut.{OfItsPut};
 ghost use Rattle.page_locks.specs.LockHolders.{count_of, holder};
 ghost use Rattle.brin_insert.specs.Inserts.{IsInsertFor};
 ghost use Rattle.store_parts.specs.declared.limits.TheConstants.{LOCKS_A_SESSION, MAX_LOCKS};
 ghost use Rattle.store_parts.specs.StepAnswers.{HasCause};
 ghost use Rattle.store_parts.specs.Stepping.{IsFit, IsShown, LeavesTheOthers, MakesItsStep, StaysFit, StaysUndone};
 
-use crate::entering::{answered, enter_row, refuse};
+use crate::entering::{enter_row, refuse};
 use crate::laws::steps_of_an_insert;
 use crate::machines::machine_for;
 use block_model::{Refusal, Reply, Row, Tag, Values};
@@ -76,7 +77,7 @@ pub fn put_row<D: Disk + Drop>(
         };
     }
     match machine_for(parts, session, table, values, spare) {
-        Ok(insert) => first_step(parts, session, insert, spare),
+        Ok(()) => first_step(parts, session, spare),
         Err(_) => Stepped::Done(refuse(
             parts,
             session,
@@ -88,28 +89,27 @@ pub fn put_row<D: Disk + Drop>(
     }
 }
 
-/// The machine's first step, for which one entry of the journal is promised beside those of the session.
+/// The spare machine's first step, for which one entry of the journal is promised beside those of the session. It stays spare, but where
+/// the insert goes on.
 #[tactic(none)]
 fn first_step<D: Disk + Drop>(
     parts: &mut Parts<D>,
     session: u32,
-    mut insert: Insert,
     spare: &mut Option<Insert>,
 ) -> Stepped
-    requires made { IsInsertFor parts.old.pages.layout insert }
-    requires nowhere { insert.place ≡ None }
-    requires id { OfOpen parts.old.transactions session (λ o. next_row_of o ≡ Some insert.row.id) }
+    requires made { IsSomeAnd spare.old (IsInsertFor parts.old.pages.layout) }
+    requires nowhere { IfSome spare.old (λ insert. insert.place ≡ None) }
+    requires id { IfSome spare.old (λ insert. OfOpen parts.old.transactions session (λ o. next_row_of o ≡ Some insert.row.id)) }
     requires number { IsSomeAnd (transaction_of parts.old.transactions.opens session) (λ o. o.next_k + 1 < 2 ^ 32) }
     requires promised { 0 < parts.old.journal.promised }
     requires fits { length parts.old.journal.entries < MAX_ENTRIES }
     requires ready { parts.old.pages.failed ≡ None }
-    requires fit { IsFit D.told (unpromised parts.old) session (Hand.Puts insert.row.table insert.row.values) }
-    requires shown { IsShown D.told (unpromised parts.old) session (Hand.Puts insert.row.table insert.row.values) }
-    requires spare { IfSome spare.old (IsInsertFor parts.old.pages.layout) }
-    ensures steps { MakesItsStep D.told (unpromised parts.old) parts.new session (Hand.Puts insert.row.table insert.row.values) result }
-    ensures fit { StaysFit D.told (unpromised parts.old) parts.new session (Hand.Puts insert.row.table insert.row.values) result }
-    ensures others { LeavesTheOthers D.told (unpromised parts.old) parts.new session (Hand.Puts insert.row.table insert.row.values) result }
-    ensures stays { StaysUndone D.told (unpromised parts.old) parts.new session (Hand.Puts insert.row.table insert.row.values) result }
+    requires fit { OfItsPut spare.old (λ hand. IsFit D.told (unpromised parts.old) session hand) }
+    requires shown { OfItsPut spare.old (λ hand. IsShown D.told (unpromised parts.old) session hand) }
+    ensures steps { OfItsPut spare.old (λ hand. MakesItsStep D.told (unpromised parts.old) parts.new session hand result) }
+    ensures fit { OfItsPut spare.old (λ hand. StaysFit D.told (unpromised parts.old) parts.new session hand result) }
+    ensures others { OfItsPut spare.old (λ hand. LeavesTheOthers D.told (unpromised parts.old) parts.new session hand result) }
+    ensures stays { OfItsPut spare.old (λ hand. StaysUndone D.told (unpromised parts.old) parts.new session hand result) }
     ensures cause { HasCause D.told parts.old.pages parts.new.pages result }
     ensures survives { Survives D.told (IsBefore parts.old.pages) parts.old.pages parts.new.pages }
     ensures spare { IfSome spare.new (IsInsertFor parts.old.pages.layout) }
@@ -117,6 +117,7 @@ fn first_step<D: Disk + Drop>(
     steps_of_an_insert();
     one_hand_changes();
     an_undone_step_changes_nothing(parts);
+    let Some(insert) = spare else { unreachable!() };
     match insert.step(
         &mut parts.pages,
         &mut parts.locks,
@@ -125,6 +126,9 @@ fn first_step<D: Disk + Drop>(
     ) {
         Ok(Did::Moved(point)) => {
             enter_row(parts, session, insert.row());
+            let Some(insert) = spare.take() else {
+                unreachable!()
+            };
             Stepped::Moved {
                 point,
                 hand: Hand::Inserts(insert),
@@ -132,24 +136,22 @@ fn first_step<D: Disk + Drop>(
         }
         Ok(Did::Finished(_)) => {
             enter_row(parts, session, insert.row());
-            Stepped::Done(answered(insert, spare))
+            Stepped::Done(Reply::Inserted {
+                id: insert.row().id,
+            })
         }
         Ok(Did::Blocked(_)) => unreachable!(),
         Ok(Did::NoRight { .. }) => unreachable!(),
         Err(MachineFault::Full { number, .. }) => {
             parts.journal.release(1);
-            let reply = full_table(parts, session, insert.row(), number);
-            *spare = Some(insert);
-            Stepped::Done(reply)
+            Stepped::Done(full_table(parts, session, insert.row(), number))
         }
         Err(MachineFault::Store(error)) => {
             parts.journal.release(1);
             parts.locks.drop_all(session);
-            let hand = hand_again(insert.row());
-            *spare = Some(insert);
             Stepped::Undone {
                 fault: fault_of(error),
-                hand,
+                hand: hand_again(insert.row()),
             }
         }
         Err(MachineFault::Memory) => unreachable!(),

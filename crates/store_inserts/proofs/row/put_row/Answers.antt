@@ -15,7 +15,7 @@ use Rattle.transactions.specs.Sessions.{next_row_of}
 use Rattle.page_locks.specs.LockChanges.{GivesAll}
 use Rattle.page_locks.specs.LockCounts.{locks_of}
 use Rattle.page_locks.specs.LockHolders.{holder}
-use Rattle.transactions.specs.TransactionsState.{with_failed}
+use Rattle.transactions.specs.TransactionsState.{OfOpen, with_failed}
 use Rattle.brin_insert.specs.Inserts.{IsInsertFor}
 use Rattle.store_parts.specs.declared.faults.StoreFault.{StoreFault}
 use Rattle.store_parts.specs.declared.hand.Hand.{Hand}
@@ -31,6 +31,7 @@ use Rattle.tx_table.proofs.Parts.{passed_none}
 use Rattle.store_inserts.proofs.Beside.{past_room, under_way}
 use Rattle.store_inserts.proofs.Refusing.{LeftRefused, leaves_same, share_whole}
 use Rattle.store_inserts.proofs.RowParts.{no_room_so, short_so, unpromised_is}
+use Rattle.store_inserts.proofs.SpareMachine.{of_its_row, row_steps}
 use Rattle.store_inserts.proofs.row.put_row.Goals as goal
 
 pub returns-in-Err : goal.returns-in-Err
@@ -70,13 +71,13 @@ pub machine_for-requires-clause-spare : goal.machine_for-requires-clause-spare
 machine_for-requires-clause-spare g c = c.requires.spare
 
 pub first_step-requires-clause-made : goal.first_step-requires-clause-made
-first_step-requires-clause-made g c = subst (λ (q : Parts _). IsInsertFor q.pages.layout c.in-Ok-machine_for.insert) (sym c.machine_for.ensures.rest) c.in-Ok-machine_for.ensures.made
+first_step-requires-clause-made g c = subst (λ (q : Parts _). IsSomeAnd c.machine_for.new.spare (IsInsertFor q.pages.layout)) (sym c.machine_for.ensures.rest) c.in-Ok-machine_for.ensures.made
 
 pub first_step-requires-clause-nowhere : goal.first_step-requires-clause-nowhere
 first_step-requires-clause-nowhere g c = c.in-Ok-machine_for.ensures.nowhere
 
 pub first_step-requires-clause-id : goal.first_step-requires-clause-id
-first_step-requires-clause-id g c = subst (λ (q : Parts _). (o : Open) → transaction_of q.transactions.opens c.args.session ≡ Some o → next_row_of o ≡ Some c.in-Ok-machine_for.insert.row.id) (sym c.machine_for.ensures.rest) c.in-Ok-machine_for.ensures.id
+first_step-requires-clause-id g c = subst (λ (q : Parts _). IfSome c.machine_for.new.spare (λ insert. OfOpen q.transactions c.args.session (λ o. next_row_of o ≡ Some insert.row.id))) (sym c.machine_for.ensures.rest) c.in-Ok-machine_for.ensures.id
 
 pub first_step-requires-clause-number : goal.first_step-requires-clause-number
 first_step-requires-clause-number g c = subst (λ (q : Parts _). IsSomeAnd (transaction_of q.transactions.opens c.args.session) (λ (o : Open). o.next_k + 1 < 4294967296)) (sym c.machine_for.ensures.rest) c.in-Ok-machine_for.ensures.number
@@ -95,32 +96,26 @@ first_step-requires-clause-ready g c = subst (λ (q : Parts _). q.pages.failed �
 
 pub first_step-requires-clause-fit : goal.first_step-requires-clause-fit
 first_step-requires-clause-fit g c =
-    let row = c.in-Ok-machine_for.ensures.row in
-    let hand_is : hands.Puts c.args.table c.args.values ≡ hands.Puts c.in-Ok-machine_for.insert.row.table c.in-Ok-machine_for.insert.row.values = λ j. hands.Puts (sym row.0 j) (sym row.1 j) in
-    subst (λ (q : Parts _). IsFit g.D.Disk.told q c.args.session (hands.Puts c.in-Ok-machine_for.insert.row.table c.in-Ok-machine_for.insert.row.values)) (sym (unpromised_is c.args.parts.now c.machine_for.new.parts c.machine_for.ensures.rest c.machine_for.ensures.entries c.in-Ok-machine_for.ensures.promised))
-    (subst (λ (h : Hand). IsFit g.D.Disk.told c.args.parts.now c.args.session h) hand_is c.requires.fit)
+    let before = unpromised_is c.args.parts.now c.machine_for.new.parts c.machine_for.ensures.rest c.machine_for.ensures.entries c.in-Ok-machine_for.ensures.promised in
+    of_its_row c.machine_for.new.spare c.args.table c.args.values (λ (h : Hand). IsFit g.D.Disk.told (unpromised c.machine_for.new.parts) c.args.session h) c.in-Ok-machine_for.ensures.row
+    (subst (λ (q : Parts _). IsFit g.D.Disk.told q c.args.session (hands.Puts c.args.table c.args.values)) (sym before) c.requires.fit)
 
 pub first_step-requires-clause-shown : goal.first_step-requires-clause-shown
 first_step-requires-clause-shown g c =
-    let row = c.in-Ok-machine_for.ensures.row in
-    let hand_is : hands.Puts c.args.table c.args.values ≡ hands.Puts c.in-Ok-machine_for.insert.row.table c.in-Ok-machine_for.insert.row.values = λ j. hands.Puts (sym row.0 j) (sym row.1 j) in
-    subst (λ (q : Parts _). IsShown g.D.Disk.told q c.args.session (hands.Puts c.in-Ok-machine_for.insert.row.table c.in-Ok-machine_for.insert.row.values)) (sym (unpromised_is c.args.parts.now c.machine_for.new.parts c.machine_for.ensures.rest c.machine_for.ensures.entries c.in-Ok-machine_for.ensures.promised))
-    (subst (λ (h : Hand). IsShown g.D.Disk.told c.args.parts.now c.args.session h) hand_is c.requires.shown)
-
-pub first_step-requires-clause-spare : goal.first_step-requires-clause-spare
-first_step-requires-clause-spare g c = subst (λ (q : Parts _). IfSome c.machine_for.new.spare (IsInsertFor q.pages.layout)) (sym c.machine_for.ensures.rest) c.machine_for.ensures.spare
+    let before = unpromised_is c.args.parts.now c.machine_for.new.parts c.machine_for.ensures.rest c.machine_for.ensures.entries c.in-Ok-machine_for.ensures.promised in
+    of_its_row c.machine_for.new.spare c.args.table c.args.values (λ (h : Hand). IsShown g.D.Disk.told (unpromised c.machine_for.new.parts) c.args.session h) c.in-Ok-machine_for.ensures.row
+    (subst (λ (q : Parts _). IsShown g.D.Disk.told q c.args.session (hands.Puts c.args.table c.args.values)) (sym before) c.requires.shown)
 
 pub returns-in-Ok-machine_for : goal.returns-in-Ok-machine_for
 returns-in-Ok-machine_for g c =
     let parts = c.args.parts.now in
-    let row = c.in-Ok-machine_for.ensures.row in
-    let hand_is : hands.Puts c.in-Ok-machine_for.insert.row.table c.in-Ok-machine_for.insert.row.values ≡ hands.Puts c.args.table c.args.values = λ j. hands.Puts (row.0 j) (row.1 j) in
-    let first : StepsSo g.D.Disk.told (unpromised c.machine_for.new.parts) c.first_step.new.parts c.args.session (hands.Puts c.in-Ok-machine_for.insert.row.table c.in-Ok-machine_for.insert.row.values) c.first_step.result =
-    record { steps = c.first_step.ensures.steps; fit = c.first_step.ensures.fit; others = c.first_step.ensures.others; stays = c.first_step.ensures.stays; cause = c.first_step.ensures.cause } in
+    let before = unpromised_is parts c.machine_for.new.parts c.machine_for.ensures.rest c.machine_for.ensures.entries c.in-Ok-machine_for.ensures.promised in
+    let steps = c.first_step.ensures in
     let so : StepsSo g.D.Disk.told parts c.first_step.new.parts c.args.session (hands.Puts c.args.table c.args.values) c.first_step.result =
-    subst (λ (h : Hand). StepsSo g.D.Disk.told parts c.first_step.new.parts c.args.session h c.first_step.result) hand_is
-    (subst (λ (q : Parts _). StepsSo g.D.Disk.told q c.first_step.new.parts c.args.session (hands.Puts c.in-Ok-machine_for.insert.row.table c.in-Ok-machine_for.insert.row.values) c.first_step.result) (unpromised_is parts c.machine_for.new.parts c.machine_for.ensures.rest c.machine_for.ensures.entries c.in-Ok-machine_for.ensures.promised) first) in
-    record { steps = so.steps; fit = so.fit; others = so.others; stays = so.stays; cause = so.cause; spare = subst (λ (q : Parts _). IfSome c.first_step.new.spare (IsInsertFor q.pages.layout)) c.machine_for.ensures.rest c.first_step.ensures.spare; survives = subst (λ (q : Parts _). Survives g.D.Disk.told (IsBefore q.pages) q.pages c.first_step.new.parts.pages) c.machine_for.ensures.rest c.first_step.ensures.survives }
+    subst (λ (q : Parts _). StepsSo g.D.Disk.told q c.first_step.new.parts c.args.session (hands.Puts c.args.table c.args.values) c.first_step.result) before
+    (row_steps g.D.Disk.told (unpromised c.machine_for.new.parts) c.first_step.new.parts c.args.session c.machine_for.new.spare (IsInsertFor parts.pages.layout) c.args.table c.args.values c.first_step.result
+    c.in-Ok-machine_for.ensures.made c.in-Ok-machine_for.ensures.row (record { steps = steps.steps; fit = steps.fit; others = steps.others; stays = steps.stays; cause = steps.cause })) in
+    record { steps = so.steps; fit = so.fit; others = so.others; stays = so.stays; cause = so.cause; spare = subst (λ (q : Parts _). IfSome c.first_step.new.spare (IsInsertFor q.pages.layout)) c.machine_for.ensures.rest steps.spare; survives = subst (λ (q : Parts _). Survives g.D.Disk.told (IsBefore q.pages) q.pages c.first_step.new.parts.pages) c.machine_for.ensures.rest steps.survives }
 
 pub refuse-requires-clause-promised : goal.refuse-requires-clause-promised
 refuse-requires-clause-promised g c =
