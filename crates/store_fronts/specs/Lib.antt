@@ -1,0 +1,5 @@
+pub mod FrontsStand
+pub mod RowsFollow
+pub mod StepLaws
+pub mod DeadToAll
+pub mod Watched
