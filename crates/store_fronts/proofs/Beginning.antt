@@ -12,11 +12,11 @@ use Rattle.store_layout.specs.DiskLayout.{DiskLayout}
 use Rattle.page_store.specs.PageMap.{PageMap}
 use Rattle.snapshot_core.specs.declared.statuses.Status.{Status}
 use Rattle.snapshot_core.specs.declared.statuses.Status.TheVariants.{Begun, Unused}
-use Rattle.snapshot_core.specs.Visibility.{had_ended, is_committed}
+use Rattle.snapshot_core.specs.Visibility.{is_committed}
 use Rattle.row_versions.specs.declared.sessions.Open.{Open}
 use Rattle.row_versions.specs.StoredVersions.{transaction_of}
 use Rattle.heap_versions.specs.ShownVersions.{version_of}
-use Rattle.tx_table.specs.Statuses.{HasStatuses, after_stop}
+use Rattle.tx_table.specs.Statuses.{after_stop}
 use Rattle.transactions.specs.GivenStatuses.{given_status}
 use Rattle.transactions.specs.Sessions.{HaveTransactions}
 use Rattle.transactions.specs.ShowsDatabase.{ShowsDatabase}
@@ -25,7 +25,7 @@ use Rattle.transactions.proofs.Copies.{row_is_of, sessions_shown}
 use Rattle.transactions.proofs.Given.{given_changed, given_other, given_unused, status_given}
 use Rattle.transactions.proofs.Marks.{row_stored}
 use Rattle.transactions.proofs.Shown.{open_one, whole}
-use Rattle.line_texts.specs.DeadRows.{HasEnded, IsCommitted, IsOpen}
+use Rattle.line_texts.specs.DeadRows.{IsCommitted}
 use Rattle.line_texts.specs.Place.{Place, database_at}
 use Rattle.journal_fronts.specs.Beginnings.{OpenTransactionsBegan}
 use Rattle.journal_fronts.specs.Commits.{CommitsAt, CommitsStand}

@@ -1,5 +1,5 @@
 -- rows that are dead to all by snapshots and statuses, and rows that are dead by the journal
-use Rattle.std.proofs.Common.{◌≡◌, ◌≢◌, ◌⊎◌, inl, inr, ℕ, zero, suc, ◌<◌, ◌≤◌, Bool, true, false, not, cond, eqb, ◌&&◌, ◌||◌, List, [], ◌∷◌, ◌++◌, length, Option, None, Some, refl, sym, ap, subst, ◌∙◌, arith}
+use Rattle.std.proofs.Common.{◌≡◌, ◌≢◌, inl, inr, ℕ, zero, suc, ◌<◌, ◌≤◌, Bool, true, false, not, cond, eqb, ◌&&◌, ◌||◌, List, [], ◌∷◌, ◌++◌, length, Option, None, Some, refl, sym, ap, subst, ◌∙◌, arith}
 use Rattle.std.specs.Prelude.{IsTrue, ◌↔◌}
 use Rattle.std.specs.List.{list_all}
 use Rattle.std.specs.Option.{is_some}
@@ -15,7 +15,6 @@ use Rattle.block_model.specs.DatabaseState.{DatabaseState, OpenTransaction}
 use Rattle.block_model.specs.NumberMaps.{none_Some}
 use Rattle.block_model.specs.RequestEffect.{is_own}
 use Rattle.block_model.specs.SerialRun.{serial_run, serial_run-append}
-use Rattle.block_model.specs.TableState.{TableState}
 use Rattle.page_layout.specs.PageContents.{Slot}
 use Rattle.page_layout.specs.RowBytes.{StoredRow}
 use Rattle.heap_rows.specs.HeapBlocks.{HasBlocks}
@@ -28,7 +27,7 @@ use Rattle.snapshot_core.specs.Visibility.{had_ended, has_done, in_snapshot, is_
 use Rattle.row_versions.specs.declared.table.Version.{Version}
 use Rattle.row_versions.specs.declared.sessions.Open.{Open}
 use Rattle.row_versions.specs.StoredVersions.{IsKnown, stored, transaction_of}
-use Rattle.row_versions.specs.VisibleState.{is_marked, is_of_commit, status_of}
+use Rattle.row_versions.specs.VisibleState.{is_marked, status_of}
 use Rattle.row_versions.proofs.Stored.{contains-ids_of}
 use Rattle.heap_versions.specs.ShownVersions.{version_of}
 use Rattle.transactions.specs.GivenStatuses.{given_status, given_statuses}
@@ -43,7 +42,7 @@ use Rattle.transactions.proofs.Shown.{open_one, versions_on_pages, whole}
 use Rattle.index_steps.specs.ShownRows.{row_in, rows_in}
 use Rattle.brin_vacuum.specs.DeadRows.{DropsTheDead, is_dead}
 use Rattle.brin_vacuum.specs.TableSteps.{has_gone}
-use Rattle.line_texts.specs.DeadRows.{Deleted, HasEnded, IsCommitted, IsDead, IsOpen, RolledBack as ByRollback}
+use Rattle.line_texts.specs.DeadRows.{Deleted, HasEnded, IsDead, IsOpen, RolledBack as ByRollback}
 use Rattle.line_texts.specs.Place.{Place, database_at}
 use Rattle.journal_fronts.specs.Beginnings.{Began, OpenTransactionsBegan}
 use Rattle.journal_fronts.specs.Copies.{CopiesAreOfTheirFronts}
@@ -55,7 +54,6 @@ use Rattle.store_parts.specs.ShowsPlace.{IsPlaceOf}
 use Rattle.store_parts.specs.StoreStates.{ShownStore}
 use Rattle.store_fronts.specs.DeadToAll.{DeadToAllIsDead, DropsTheDeadByJournal, living_of, snapshots_of}
 use Rattle.store_fronts.specs.FrontsStand.{FrontsStand}
-use Rattle.store_fronts.specs.RowsFollow.{IsOfOpen}
 use Rattle.store_fronts.proofs.Fronts.{goes_on}
 use Rattle.store_fronts.proofs.Rows.{row_is_version, version_is_row}
 use Rattle.store_fronts.proofs.Snapshots.{StandsIn, is_of_open, is_open, its_front}

@@ -1,8 +1,8 @@
 -- what a commit and a rollback keep
-use Rattle.std.proofs.Common.{◌≡◌, ◌≢◌, inl, inr, ℕ, ◌<◌, ◌≤◌, Bool, true, false, ltb, List, [], ◌∷◌, length, set, None, Some, refl, sym, ap, subst, ◌∙◌, arith}
+use Rattle.std.proofs.Common.{◌≡◌, ◌≢◌, inl, inr, ℕ, ◌≤◌, Bool, true, false, ltb, List, [], ◌∷◌, set, None, Some, refl, sym, ap, subst, ◌∙◌, arith}
 use Rattle.std.specs.Prelude.{IsTrue, ◌↔◌}
 use Rattle.std.specs.FinMap as map
-use Rattle.std.proofs.lemmas.Bool.{cases_eq, false≢true, true≢false}
+use Rattle.std.proofs.lemmas.Bool.{cases_eq, false≢true}
 use Rattle.block_model.specs.declared.request.Entry.{Entry}
 use Rattle.block_model.specs.declared.request.Request.{Request}
 use Rattle.block_model.specs.declared.request.Request.TheVariants.{Begin, Commit, Look, Mark, Put, Rollback}
@@ -12,7 +12,7 @@ use Rattle.block_model.specs.NumberMaps.{none_Some, same_Some}
 use Rattle.store_layout.specs.DiskLayout.{DiskLayout}
 use Rattle.page_store.specs.PageMap.{PageMap}
 use Rattle.snapshot_core.specs.declared.statuses.Status.{Status}
-use Rattle.snapshot_core.specs.declared.statuses.Status.TheVariants.{Begun, Committed, RolledBack, Unused}
+use Rattle.snapshot_core.specs.declared.statuses.Status.TheVariants.{Begun, RolledBack}
 use Rattle.snapshot_core.specs.Visibility.{is_committed}
 use Rattle.row_versions.specs.declared.sessions.Open.{Open}
 use Rattle.row_versions.specs.SessionChanges.{ended}
@@ -32,8 +32,8 @@ use Rattle.journal_fronts.specs.Commits.{CommitsAt, CommitsStand}
 use Rattle.store_fronts.specs.FrontsStand.{FrontsStand}
 use Rattle.store_fronts.specs.RowsFollow.{RowsFollow}
 use Rattle.store_fronts.specs.StepLaws.{EndStands, GoesOn, IsEnding}
-use Rattle.store_fronts.proofs.Following.{HasBoth, all_follow, both_follow}
-use Rattle.store_fronts.proofs.Snapshots.{StandsIn, has_none, its_front, stands_on, which}
+use Rattle.store_fronts.proofs.Following.{all_follow, both_follow}
+use Rattle.store_fronts.proofs.Snapshots.{has_none, its_front, stands_on, which}
 use Rattle.store_fronts.proofs.Statuses.{commits_none, commits_with}
 use Rattle.store_fronts.proofs.Within.{earlier_still, none_still}
 

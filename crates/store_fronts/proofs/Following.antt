@@ -1,5 +1,5 @@
 -- how the rows on pages go on, and what a snapshot has of their transactions
-use Rattle.std.proofs.Common.{◌≡◌, ◌≢◌, ◌⊎◌, inl, inr, ℕ, ◌+◌, ◌<◌, true, false, List, length, None, Some, refl, sym, ap, subst, ◌∙◌, arith}
+use Rattle.std.proofs.Common.{◌≡◌, ◌≢◌, ◌⊎◌, inl, inr, ℕ, ◌<◌, List, length, None, Some, refl, sym, ap, subst, ◌∙◌, arith}
 use Rattle.std.specs.Prelude.{IsTrue}
 use Rattle.std.proofs.lemmas.Bool.{cases_eq}
 use Rattle.block_model.specs.declared.place.Spot.{Spot}
@@ -17,12 +17,12 @@ use Rattle.snapshot_core.specs.declared.snapshots.Snapshot.{Snapshot}
 use Rattle.snapshot_core.specs.Visibility.{had_ended}
 use Rattle.row_versions.specs.declared.sessions.Open.{Open}
 use Rattle.row_versions.specs.StoredVersions.{transaction_of}
-use Rattle.transactions.specs.StoredRows.{MarksRowAt, OtherRelationsStay, PutsRow, StandsAt}
+use Rattle.transactions.specs.StoredRows.{OtherRelationsStay, StandsAt}
 use Rattle.transactions.specs.TransactionsState.{TransactionsState}
 use Rattle.transactions.proofs.Shown.{blocks_kept}
 use Rattle.transactions.proofs.Standing.{one_blocks}
 use Rattle.store_fronts.specs.FrontsStand.{DeletersFollow}
-use Rattle.store_fronts.specs.RowsFollow.{DropFollows, DropsRows, IsOfOpen, MarkFollows, PutFollows, RowsFollow, SameHeapsFollow, StoodBefore}
+use Rattle.store_fronts.specs.RowsFollow.{DropFollows, IsOfOpen, MarkFollows, PutFollows, RowsFollow, SameHeapsFollow, StoodBefore}
 
 -- ---- where heaps stay
 

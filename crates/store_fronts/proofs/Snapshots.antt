@@ -1,13 +1,13 @@
 -- snapshots of open transactions, and the fronts where these began
-use Rattle.std.proofs.Common.{◌≡◌, ◌≢◌, ◌⊎◌, inl, inr, ℕ, zero, suc, ◌<◌, Bool, true, false, not, ◌&&◌, ◌||◌, eqb, eqb-true, eq-eqb, List, [], ◌∷◌, ◌++◌, length, set, get_or, Option, None, Some, refl, sym, ap, subst, ◌∙◌, arith, append_assoc}
+use Rattle.std.proofs.Common.{◌≡◌, ◌≢◌, ◌⊎◌, inl, inr, ℕ, zero, suc, ◌<◌, Bool, true, false, not, ◌||◌, eqb, eqb-true, eq-eqb, List, [], ◌∷◌, ◌++◌, length, set, get_or, Option, None, Some, refl, sym, ap, subst, ◌∙◌, arith, append_assoc}
 use Rattle.std.specs.Prelude.{IsTrue, nat_lt, ◌↔◌}
 use Rattle.std.specs.List.{list_any}
 use Rattle.std.specs.FinMap.{get}
-use Rattle.std.proofs.lemmas.Bool.{and_from, and_parts, cases_eq, cases_lt, false_from_ne_true, false≢true, lt-ltb, ltb-true, not_from_false, or_left, or_right, true≢false}
+use Rattle.std.proofs.lemmas.Bool.{and_from, and_parts, cases_eq, cases_lt, false_from_ne_true, false≢true, lt-ltb, ltb-true, not_from_false, true≢false}
 use Rattle.std.proofs.lemmas.List.{get_or_past, get_or-set_other, get_or-set_same, length-set}
 use Rattle.block_model.specs.declared.request.Entry.{Entry}
 use Rattle.block_model.specs.declared.request.Request.TheVariants.{Begin}
-use Rattle.block_model.specs.DatabaseState.{DatabaseState, OpenTransaction}
+use Rattle.block_model.specs.DatabaseState.{DatabaseState}
 use Rattle.block_model.specs.NumberMaps.{none_Some}
 use Rattle.block_model.specs.SerialRun.{serial_run}
 use Rattle.store_layout.specs.DiskLayout.{DiskLayout}

@@ -1,6 +1,6 @@
 -- what a start begins with
-use Rattle.std.proofs.Common.{◌≡◌, ◌≢◌, inl, inr, ℕ, zero, suc, ◌<◌, ◌≤◌, Bool, true, false, not, ◌&&◌, List, [], ◌∷◌, ◌++◌, length, replicate, Option, None, Some, refl, sym, ap, subst, ◌∙◌, arith}
-use Rattle.std.specs.Prelude.{IsTrue, ◌↔◌}
+use Rattle.std.proofs.Common.{◌≡◌, ◌≢◌, ℕ, zero, suc, ◌<◌, ◌≤◌, true, false, not, List, [], ◌∷◌, ◌++◌, replicate, Option, None, Some, refl, sym, ap, subst, ◌∙◌, arith}
+use Rattle.std.specs.Prelude.{IsTrue}
 use Rattle.std.specs.FinMap as map
 use Rattle.std.proofs.lemmas.Bool.{and_parts, false≢true}
 use Rattle.block_model.specs.declared.request.Entry.{Entry}
@@ -14,7 +14,6 @@ use Rattle.row_versions.specs.declared.sessions.Open.{Open}
 use Rattle.row_versions.specs.StoredVersions.{transaction_of}
 use Rattle.row_versions.specs.VisibleState.{status_of}
 use Rattle.row_versions.proofs.Stored.{stored_id}
-use Rattle.tx_table.specs.Statuses.{HasStatuses}
 use Rattle.transactions.specs.GivenStatuses.{given_status, given_statuses}
 use Rattle.transactions.specs.Laws.{IsOpened}
 use Rattle.transactions.specs.Sessions.{HaveTransactions}
@@ -24,7 +23,6 @@ use Rattle.transactions.proofs.Copies.{sessions_shown}
 use Rattle.transactions.proofs.Given.{given_unused, length_given, status_given}
 use Rattle.transactions.proofs.Shown.{one_list_shown, versions_on_pages, whole}
 use Rattle.table_coverage.specs.Table.{TableState}
-use Rattle.line_texts.specs.DeadRows.{IsCommitted}
 use Rattle.line_texts.specs.Place.{Place}
 use Rattle.store_parts.specs.OpeningLaws.{place_opened}
 use Rattle.store_parts.specs.StoreStates.{ShownStore}

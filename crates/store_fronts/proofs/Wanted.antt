@@ -43,7 +43,7 @@ use Rattle.brin_summarise.specs.TableSteps as summarises
 use Rattle.store_parts.specs.declared.hand.Hand.{Hand}
 use Rattle.store_parts.specs.declared.hand.Hand.TheVariants as hands
 use Rattle.store_parts.specs.Hands.{hits_left, ids_of}
-use Rattle.store_parts.specs.HandsInTables.{InItsTable, IsDesummariseAt, IsExplainAt, IsMarkingAt, IsScanAt, IsScanBy, IsSummariseAt, IsTaskOf, sight_of}
+use Rattle.store_parts.specs.HandsInTables.{InItsTable, IsDesummariseAt, IsExplainAt, IsMarkingAt, IsScanBy, IsSummariseAt, IsTaskOf, sight_of}
 
 -- an insert of that row at that place, at an index or before it asks for a summary there
 abbrev pub IsInsertingAt : (b k : ℕ) → Row → (at : ℕ) → Task → Type 0

@@ -39,7 +39,7 @@ use Rattle.store_parts.specs.StoreStates.{ShownStore, hand_in}
 use Rattle.store_fronts.specs.DeadToAll.{living_of, snapshots_of}
 use Rattle.store_fronts.specs.Watched.{MarkedAreSeen, MarkedAreSpared, OwnDeleteIsUnseen, SeenBeforeIsSpared, TableIsSpared, TableIsWatched}
 use Rattle.store_fronts.proofs.Dead.{each_snapshot}
-use Rattle.store_fronts.proofs.Wanted.{IsPutBy, IsSeenBy, IsSeenInMarks, TellsWho, put_stands, tells_who}
+use Rattle.store_fronts.proofs.Wanted.{IsPutBy, IsSeenBy, TellsWho, put_stands, tells_who}
 
 -- an open transaction's snapshot is among those of all
 among : (os : List (Option Open)) (n : ℕ) (o : Open) → transaction_of os n ≡ Some o → Contains (snapshots_of os) o.snapshot

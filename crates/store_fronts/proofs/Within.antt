@@ -1,9 +1,8 @@
 -- what a step within a transaction keeps
-use Rattle.std.proofs.Common.{◌≡◌, ◌≢◌, inl, inr, ℕ, ◌+◌, ◌<◌, ◌≤◌, List, length, All, Some, refl, sym, ap, subst, ◌∙◌}
-use Rattle.std.specs.Prelude.{IsTrue, ◌↔◌}
+use Rattle.std.proofs.Common.{◌≡◌, inl, inr, ℕ, ◌+◌, ◌≤◌, List, All, Some, refl, sym, ap, subst, ◌∙◌}
+use Rattle.std.specs.Prelude.{IsTrue}
 use Rattle.std.specs.FinMap as map
 use Rattle.block_model.specs.declared.request.Entry.{Entry}
-use Rattle.block_model.specs.declared.row.RowId.{RowId}
 use Rattle.block_model.specs.DatabaseState.{DatabaseState}
 use Rattle.store_layout.specs.DiskLayout.{DiskLayout}
 use Rattle.page_store.specs.PageMap.{PageMap}
@@ -13,7 +12,6 @@ use Rattle.snapshot_core.specs.Visibility.{had_ended, is_committed}
 use Rattle.row_versions.specs.declared.sessions.Open.{Open}
 use Rattle.row_versions.specs.SessionChanges.{failed_open, with_next_k}
 use Rattle.row_versions.specs.StoredVersions.{transaction_of}
-use Rattle.tx_table.specs.Statuses.{HasStatuses}
 use Rattle.tx_table.proofs.Pages.{statuses_one}
 use Rattle.transactions.specs.GivenStatuses.{given_status}
 use Rattle.transactions.specs.ShowsDatabase.{ShowsDatabase}
