@@ -10,3 +10,4 @@ mod Fronts
 mod Dead
 mod Wanted
 mod Watching
+mod SeenBefore

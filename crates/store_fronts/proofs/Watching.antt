@@ -133,7 +133,7 @@ own_delete_is_unseen by row own live =
     let parts = and_parts done (not (has_done live.snapshot live.own row.deleter (by.status row.deleter))) live.seen in
     false≢true (sym (not_from_true done parts.0) ∙ ap (λ u. not (has_done live.snapshot live.own u (by.status u))) (sym own) ∙ parts.1)
 
-false_from_not : (b : Bool) → not b ≡ true → b ≡ false
+pub false_from_not : (b : Bool) → not b ≡ true → b ≡ false
 false_from_not true is = absurd (false≢true is)
 false_from_not false is = refl
 

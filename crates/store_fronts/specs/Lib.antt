@@ -3,3 +3,4 @@ pub mod RowsFollow
 pub mod StepLaws
 pub mod DeadToAll
 pub mod Watched
+pub mod SeenBefore

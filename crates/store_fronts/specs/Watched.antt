@@ -7,9 +7,11 @@ use Rattle.page_layout.specs.RowBytes.{StoredRow}
 use Rattle.page_locks.specs.LockHolders.{LockState}
 use Rattle.page_store.specs.PageMap.{PageMap}
 use Rattle.heap_rows.specs.RowPlaces.{slot_at}
+use Rattle.snapshot_core.specs.declared.statuses.Status.{Status}
 use Rattle.snapshot_core.specs.Visibility.{has_done, in_snapshot}
 use Rattle.row_versions.specs.declared.sessions.Open.{Open}
 use Rattle.row_versions.specs.StoredVersions.{transaction_of}
+use Rattle.transactions.specs.GivenStatuses.{given_status}
 use Rattle.table_coverage.specs.Machines.{Unseen}
 use Rattle.table_coverage.specs.Table.{Marks, TableScan, TableState}
 use Rattle.index_steps.specs.ShownRows.{shown_by}
@@ -39,18 +41,19 @@ abbrev pub OwnDeleteIsUnseen : Type 0
 OwnDeleteIsUnseen = (by : Living) (row : StoredRow) → row.deleter ≡ row.id.t → IsSeenLive by row → ⊥
 
 -- An open transaction saw the row before its own deletes: the row is its own or of a commit in its snapshot, and the snapshot hasn't got the deleter.
-pub record WasSeenBy (by : Living) (o : Open) (row : StoredRow) : Type 0 where
-  pub put : has_done o.snapshot o.t row.id.t (by.status row.id.t) ≡ true
-  pub undeleted : in_snapshot o.snapshot row.deleter (by.status row.deleter) ≡ false
+pub record WasSeenBy (status : ℕ → Status) (o : Open) (row : StoredRow) : Type 0 where
+  pub put : has_done o.snapshot o.t row.id.t (status row.id.t) ≡ true
+  pub undeleted : in_snapshot o.snapshot row.deleter (status row.deleter) ≡ false
 
 -- such a row isn't dead to all, whoever deleted it since
 abbrev pub SeenBeforeIsSpared : Type 0
 SeenBeforeIsSpared = (s : ShownStore) (p : Place) (n : ℕ) (o : Open) (row : StoredRow) → (shown : IsPlaceOf s p) → transaction_of s.transactions.opens n ≡ Some o
-    → WasSeenBy (living_of s.transactions shown.database.stored) o row → is_dead (living_of s.transactions shown.database.stored) row ≡ false
+    → WasSeenBy (given_status s.transactions.tx.first shown.database.stored) o row → is_dead (living_of s.transactions shown.database.stored) row ≡ false
 
 -- ---- the rows that go
 
--- The rows that a delete saw that marks by now aren't dead to all. Of this the place of a store tells only those that are left to mark.
+-- The rows that a delete saw that marks by now aren't dead to all. Of this the place of a store tells only those that are left to mark; it follows where
+-- its session's transaction saw them (SeenBeforeIsSpared).
 abbrev pub MarkedAreSpared : Living → (s : ℕ) → List (List Slot) → Unseen → Type 0
 MarkedAreSpared by s blocks u = (n : ℕ) (scan : TableScan) (ids : List RowId) (x : Spot) (row : StoredRow) → n ≢ s → u.task n ≡ Marks scan ids
     → slot_at blocks x ≡ Some row → IsTrue (scan.sees x.block x.slot) → is_dead by row ≡ false

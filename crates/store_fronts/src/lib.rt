@@ -7,6 +7,7 @@
 
 ghost use Rattle.store_fronts.specs.DeadToAll.{DeadToAllIsDead, DropsTheDeadByJournal};
 ghost use Rattle.store_fronts.specs.RowsFollow.{DropFollows, MarkFollows, PutFollows, SameHeapsFollow};
+ghost use Rattle.store_fronts.specs.SeenBefore.{SawRowsAtBegin, SawRowsAtEnd, SawRowsStay, ScanSawRows};
 ghost use Rattle.store_fronts.specs.StepLaws.{AnyStatusesStand, BeginStands, EndStands, OwnStepsKeepOpens, StartStands, StepWithinStands};
 ghost use Rattle.store_fronts.specs.Watched.{OwnDeleteIsUnseen, SeenBeforeIsSpared, TableIsSpared, TableIsWatched};
 
@@ -85,4 +86,13 @@ pub fn a_table_is_watched()
 pub fn rows_of_a_delete()
     ensures own { OwnDeleteIsUnseen }
     ensures spared { SeenBeforeIsSpared }
+{}
+
+/// What a scan sees its transaction saw before its own deletes; and that stays so where rows are marked, where a transaction begins and
+/// where another session's ends.
+pub fn seen_rows_stay()
+    ensures scanned { ScanSawRows }
+    ensures marked { SawRowsStay }
+    ensures begun { SawRowsAtBegin }
+    ensures ended { SawRowsAtEnd }
 {}
