@@ -2,7 +2,7 @@
 //! its journal says where each of these began; so a row that is dead to all by them is dead by the journal. Here stands what each
 //! step of a store keeps of that, from its start on, and which rows the statements of other sessions want. Each law is a function
 //! that does no work: its contract is the law, and whoever calls it may use it. It stands on journal_fronts, transactions,
-//! brin_vacuum and store_parts. No crate stands on it yet: the next step makes a vacuum a statement of the store.
+//! brin_vacuum and store_parts. No crate stands on it yet: it is for a vacuum whose steps a store makes.
 #![tactic(auto)]
 
 ghost use Rattle.store_fronts.specs.DeadToAll.{DeadToAllIsDead, DropsTheDeadByJournal};
