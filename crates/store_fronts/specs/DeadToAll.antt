@@ -1,0 +1,43 @@
+-- The rows that are dead to all by snapshots and statuses are those that are dead by the journal.
+use Rattle.std.specs.Prelude.{◌≡◌, ◌↔◌, ℕ, ◌<◌, IsTrue, List, [], ◌∷◌, length, Option, None, Some}
+use Rattle.block_model.specs.declared.place.Spot.{Spot}
+use Rattle.block_model.specs.declared.row.Row.{Row}
+use Rattle.page_layout.specs.PageContents.{Slot}
+use Rattle.page_layout.specs.RowBytes.{StoredRow}
+use Rattle.heap_rows.specs.HeapBlocks.{HasBlocks}
+use Rattle.index_steps.specs.ShownRows.{rows_in}
+use Rattle.snapshot_core.specs.declared.snapshots.Snapshot.{Snapshot}
+use Rattle.snapshot_core.specs.declared.statuses.Status.{Status}
+use Rattle.row_versions.specs.declared.sessions.Open.{Open}
+use Rattle.transactions.specs.StoredRows.{StandsAt}
+use Rattle.transactions.specs.TransactionsState.{TransactionsState}
+use Rattle.brin_vacuum.specs.DeadRows.{DropsTheDead, Living, is_dead, living}
+use Rattle.brin_vacuum.specs.TableSteps.{has_gone}
+use Rattle.line_texts.specs.DeadRows.{IsDead}
+use Rattle.line_texts.specs.Place.{Place}
+use Rattle.store_parts.specs.ShowsPlace.{IsPlaceOf}
+use Rattle.store_parts.specs.StoreStates.{ShownStore}
+use Rattle.store_fronts.specs.FrontsStand.{FrontsStand}
+
+-- the snapshots of the open transactions
+abbrev pub snapshots_of : List (Option Open) → List Snapshot
+snapshots_of [] = []
+snapshots_of (None ∷ places) = snapshots_of places
+snapshots_of (Some o ∷ places) = o.snapshot ∷ snapshots_of places
+
+-- these, and how each transaction stands by the statuses
+abbrev pub living_of : TransactionsState → List Status → Living
+living_of t stored = living (snapshots_of t.opens) t.tx.first stored
+
+-- of the rows that stand in a table of a store
+abbrev pub DeadToAllIsDead : Type 0
+DeadToAllIsDead = (s : ShownStore) (p : Place) (table : ℕ) (spot : Spot) (row : StoredRow) → (shown : IsPlaceOf s p)
+    → FrontsStand s.layout s.pages s.transactions shown.database.stored p → table < length s.layout.schema.tables → StandsAt s.layout s.pages table spot row
+    → IsTrue (is_dead (living_of s.transactions shown.database.stored) row) ↔ IsDead p row.id
+
+-- where exactly the rows of a block go that are dead to all, the dead by the journal go
+abbrev pub DropsTheDeadByJournal : Type 0
+DropsTheDeadByJournal = (s : ShownStore) (p : Place) (table block : ℕ) (blocks blocked : List (List Slot)) → (shown : IsPlaceOf s p)
+    → FrontsStand s.layout s.pages s.transactions shown.database.stored p → table < length s.layout.schema.tables → HasBlocks s.layout s.pages table blocks
+    → DropsTheDead (living_of s.transactions shown.database.stored) blocks blocked block → (k : ℕ)
+    → IsTrue (has_gone (rows_in table blocks block k) (rows_in table blocked block k)) ↔ ((r : Row) × (rows_in table blocks block k ≡ Some r) × IsDead p r.id)
