@@ -1,0 +1,20 @@
+use Rattle.std.proofs.Common.{refl, ap, ◌∙◌, set, Option}
+use Rattle.brin_insert.specs.declared.insert.Insert.{Insert}
+use Rattle.session_core.specs.SessionLists.{spares_of}
+use Rattle.session_core.proofs.Lists.{hands_kept, names_kept, spares_changed}
+use Rattle.session_core.proofs.sessions.take_spare.Goals as goal
+
+pub returns-clause-spares : goal.returns-clause-spares
+returns-clause-spares c =
+    spares_changed c.args.sessions.now.items c.args.session (record { name = c.index_mut.result.now.name; hand = c.index_mut.result.now.hand; spare = c.take.new.self })
+    ∙ ap (λ (spare : Option Insert). set (spares_of c.args.sessions.now.items) c.args.session spare) c.take.ensures.after
+
+pub returns-clause-names : goal.returns-clause-names
+returns-clause-names c =
+    names_kept c.args.sessions.now.items c.args.session c.index_mut.result.now (record { name = c.index_mut.result.now.name; hand = c.index_mut.result.now.hand; spare = c.take.new.self })
+    c.index_mut.ensures.value refl
+
+pub returns-clause-hands : goal.returns-clause-hands
+returns-clause-hands c =
+    hands_kept c.args.sessions.now.items c.args.session c.index_mut.result.now (record { name = c.index_mut.result.now.name; hand = c.index_mut.result.now.hand; spare = c.take.new.self })
+    c.index_mut.ensures.value refl
