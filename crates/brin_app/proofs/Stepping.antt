@@ -1,6 +1,6 @@
 -- steps of a store as those of the definition of texts
 use Rattle.std.proofs.Common.{◌≡◌, ◌≢◌, ℕ, List, Option, None, Some, false, refl, sym, subst}
-use Rattle.std.specs.Prelude.{IfErr, OnErr, Result, Ok, Err}
+use Rattle.std.specs.Prelude.{IfErr, IsSome, OnErr, Result, Ok, Err}
 use Rattle.std.specs.Option.{is_some}
 use Rattle.std.proofs.lemmas.Bool.{false≢true}
 use Rattle.block_model.specs.declared.reply.Point.{Point}
@@ -41,16 +41,9 @@ not_made n entries p q is = (subst (λ (r : Place). LacksRoom r n) (sym is.2) is
 
 -- ---- all steps
 
-one_more : (n : ℕ) (p q r : Place) (point : Point) → MovedTo n p q → Steps q n (Moved point) r → MovedTo n p r
-one_more n _ _ r point (Still p) step = OnTo p r r point step (Still r)
-one_more n _ _ r point (OnTo p m q first before more) step = OnTo p m r first before (one_more n m q r point more step)
-
 finishes_behind : (n : ℕ) (p q r : Place) (outcome : Outcome) → MovedTo n p q → Finishes n q outcome r → Finishes n p outcome r
 finishes_behind n _ _ r outcome (Still p) finishes = finishes
 finishes_behind n _ _ r outcome (OnTo p m q first before more) finishes = Further p m r first outcome before (finishes_behind n m q r outcome more finishes)
-
-pub moved_on : (n : ℕ) (point : Point) (p q r : Place) → MovedTo n p q → StepsSo n (answers.Moved point) q r → MovedTo n p r
-moved_on n point p q r before step = one_more n p q r point before step
 
 ended : (n : ℕ) (outcome : Outcome) (p q r : Place) → ((point : Point) → outcome ≢ Moved point) → MovedTo n p q → Steps q n outcome r → Finishes n p outcome r
 ended n outcome p q r last before step = finishes_behind n p q r outcome before (LastStep q r outcome last step)
@@ -100,6 +93,14 @@ empty_there (Some hand) shown account not shows = absurd (false≢true (sym not)
 
 pub nothing_in_hand : {D : Type 0} (s : StoreState D) (n : ℕ) (p : Place) → is_some (hand_at s n) ≡ false → ShowsPlace s p → p.hands n ≡ None
 nothing_in_hand s n p not shown = empty_there (hand_at s n) (p.hands n) (p.accounts n) not (shown.hands n)
+
+-- and one that has something in hand has it in hand there
+in_hand_by : (hand : Option Hand) (shown : Option HandAt) (account : Account) → IsSome hand → HandShows hand shown account → (at : HandAt) × (shown ≡ Some at)
+in_hand_by None shown account is shows = absurd (false≢true is)
+in_hand_by (Some hand) shown account is shows = (shows.0, shows.1)
+
+pub in_hand_there : {D : Type 0} (s : StoreState D) (n : ℕ) (p : Place) → IsSome (hand_at s n) → ShowsPlace s p → (at : HandAt) × (p.hands n ≡ Some at)
+in_hand_there s n p is shown = in_hand_by (hand_at s n) (p.hands n) (p.accounts n) is (shown.hands n)
 
 pub no_step : (n : ℕ) (p : Place) → p.hands n ≡ None → DoesSo n orders.Step (answers.Refused refusals.NothingStarted) p p
 no_step n p none name = NoStep none

@@ -14,6 +14,7 @@ use query_words::Order;
 use script_run::AnswerFault;
 use session_core::{Step, Store, StoreFault};
 use statements::Statement;
+use step_bounds::{a_finished_statement_ends, moves_are_counted};
 
 /// What an order of a session is answered: its statement is started; goes on behind a step of this name; ends with this reply; or this is why
 /// it isn't taken, or isn't stepped.
@@ -108,10 +109,9 @@ fn step_through(store: &mut Store<SteadyDisk>, session: u32) -> Result<Answer, A
     finish(store, session)
 }
 
-/// Makes the steps of the session's statement up to its reply, or up to one that waits. A statement comes to one of them behind far fewer
-/// steps than the loop makes; but nothing here says so, and behind the last round the answer would be want of memory, as it may be behind
-/// any step. No run comes there: at a step a nanosecond the rounds take five hundred years.
+/// Makes the steps of the session's statement up to its reply, or up to one that waits: it comes to one of them before the last round.
 fn finish(store: &mut Store<SteadyDisk>, session: u32) -> Result<Answer, AnswerFault>
+    requires session { session < length store.old.names }
     requires hand { IsSome (hand_at store.old session) }
     requires ready { store.old.pages.failed ≡ None }
     ensures ready { store.new.pages.failed ≡ None }
@@ -119,13 +119,17 @@ fn finish(store: &mut Store<SteadyDisk>, session: u32) -> Result<Answer, AnswerF
     ensures ok { IfOk result (λ answer. PlacesLead store.old store.new (FinishesSo session answer)) }
     ensures stops { IfErr result (λ fault. PlacesLead store.old store.new (IsHalted session fault)) }
 {
+    moves_are_counted();
+    a_finished_statement_ends();
+    store.known();
+    store.known_to_end(session);
     'steps: for _ in 0..u64::MAX {
         match step(store, session)? {
             Answer::Moved(_) => {}
             answer => return Ok(answer),
         }
     }
-    Err(AnswerFault::Memory)
+    unreachable!()
 }
 
 /// Makes one step of the session's statement.

@@ -5,3 +5,5 @@ pub mod Stepping
 pub mod Taking
 pub mod Naming
 pub mod New
+pub mod Stops
+pub mod Ending

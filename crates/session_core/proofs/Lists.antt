@@ -1,7 +1,7 @@
 -- lists by the sessions' numbers, where one element changes or one is added
-use Rattle.std.proofs.Common.{◌≡◌, inl, inr, ℕ, zero, suc, ◌<◌, List, [], ◌∷◌, ◌++◌, length, get_or, set, Option, None, Some, IfSome, refl, sym, ap, subst, ◌∙◌, get_or-set_same, get_or-set_other, arith}
+use Rattle.std.proofs.Common.{◌≡◌, inl, inr, ℕ, zero, suc, ◌<◌, List, [], ◌∷◌, ◌++◌, length, get_or, set, Option, None, Some, IfSome, IsSome, refl, sym, ap, subst, ◌∙◌, get_or-set_same, get_or-set_other, arith}
 use Rattle.std.proofs.Math.ListN.{get_or-map}
-use Rattle.std.proofs.lemmas.Bool.{cases_eq}
+use Rattle.std.proofs.lemmas.Bool.{cases_eq, false≢true}
 use Rattle.std.proofs.lemmas.List.{length-map, map-set, set-get_or}
 use Rattle.std.proofs.lemmas.Option.{none-some}
 use Rattle.brin_insert.specs.declared.insert.Insert.{Insert}
@@ -63,3 +63,20 @@ spares_kept sessions n old s is same =
 
 pub stands : (sessions : List Session) (names : List (List ℕ)) (n : ℕ) → names_of sessions ≡ names → n < length names → n < length sessions
 stands sessions names n is below = omega (arith, below, ap length is, length-map sessions (λ (s : Session). s.name))
+
+-- a session that has a statement in hand stands in the list
+pub in_list : (sessions : List Session) (n : ℕ) → IsSome (hand_in (hands_of sessions) n) → n < length sessions
+in_list [] n some = absurd (false≢true some)
+in_list (s ∷ sessions) zero some = omega arith
+in_list (s ∷ sessions) (suc n) some = omega (arith, in_list sessions n some)
+
+-- what the session of that number has
+pub hand_here : (sessions : List Session) (n : ℕ) (own : Session) → own ≡ get_or sessions n own → n < length sessions → hand_in (hands_of sessions) n ≡ own.hand
+hand_here [] n own is below = absurd (omega (arith, below))
+hand_here (s ∷ sessions) zero own is below = ap (λ (s : Session). s.hand) (sym is)
+hand_here (s ∷ sessions) (suc n) own is below = hand_here sessions n own is (omega (arith, below))
+
+pub spare_here : (sessions : List Session) (n : ℕ) (own : Session) → own ≡ get_or sessions n own → n < length sessions → spare_in (spares_of sessions) n ≡ own.spare
+spare_here [] n own is below = absurd (omega (arith, below))
+spare_here (s ∷ sessions) zero own is below = ap (λ (s : Session). s.spare) (sym is)
+spare_here (s ∷ sessions) (suc n) own is below = spare_here sessions n own is (omega (arith, below))

@@ -25,6 +25,7 @@ use Rattle.session_core.specs.SessionLaws.{SessionLaws}
 use Rattle.session_core.specs.SessionLists.{spare_in}
 use Rattle.session_core.specs.Sessions.{IsInHandThen, IsSameStatement, LeavesTheRest, NamesASession, StaysStill}
 use Rattle.session_core.specs.StoreKept.{IsStoreKept}
+use Rattle.session_core.specs.Stops.{StopsSo}
 use Rattle.session_core.proofs.Kept.{fits_now, nobody_now, promised_now, session_below}
 use Rattle.session_core.proofs.Lists.{spares_set}
 
@@ -41,6 +42,7 @@ pub record IsStepOf {D : Type 0} (told : D → Told) (old new : StoreState D) (n
   pub journal : OnErr answer (new.journal.entries ≡ old.journal.entries)
   pub ready : OnOk answer (StaysReady old.pages new.pages)
   pub cause : IfErr answer (HasFaultCause told old.pages new.pages)
+  pub survives : IfSome (hand_at old n) (λ hand. StopsSo told old.transactions n old.pages new.pages hand answer)
 
 -- ---- of each answer
 
@@ -158,8 +160,8 @@ module _ {D : Type 0} (told : D → Told) (laws : SessionLaws told) (parts : Par
     shown = shown_now;
   }
 
-  pub is_step : IsStepOf told before after n (answer_of answer)
-  is_step = record {
+  pub is_step : StopsSo told before.transactions n before.pages after.pages hand (answer_of answer) → IsStepOf told before after n (answer_of answer)
+  is_step stops = record {
     steps = so.steps names hands is;
     hand = subst (λ (h : Option Hand). IsInHandThen (answer_of answer) h) (sym changes.own) (hand_then answer);
     holder = holder_is told before after n hand answer is_session (so.stays names hands is);
@@ -172,6 +174,7 @@ module _ {D : Type 0} (told : D → Told) (laws : SessionLaws told) (parts : Par
     journal = enters_nothing told before after n hand answer (so.stays names hands is);
     ready = stays_ready told before after n hand answer so.cause;
     cause = fault_cause told before after n hand answer so.cause;
+    survives = subst (λ (h : Option Hand). IfSome h (λ was. StopsSo told before.transactions n before.pages after.pages was (answer_of answer))) (sym is) stops;
   }
 
 -- the same step, of the same stores

@@ -4,3 +4,5 @@ pub mod StoreKept
 pub mod SessionLaws
 pub mod Submitting
 pub mod Sessions
+pub mod Stops
+pub mod Ending

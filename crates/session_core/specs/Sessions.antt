@@ -9,6 +9,7 @@ use Rattle.store_parts.specs.declared.faults.Step.TheVariants as steps
 use Rattle.store_parts.specs.declared.faults.StoreFault.{StoreFault}
 use Rattle.store_parts.specs.declared.faults.StoreFault.TheVariants as stops
 use Rattle.store_parts.specs.declared.hand.Hand.{Hand}
+use Rattle.store_parts.specs.declared.hand.Hand.TheVariants as hands
 use Rattle.store_parts.specs.Hands.{statement_of}
 use Rattle.store_parts.specs.StepAnswers.{LeavesSessions, StaysAsItWas}
 use Rattle.store_parts.specs.StoreStates.{StoreState, hand_at}
@@ -61,3 +62,8 @@ abbrev pub StaysStill : {D : Type 0} → (D → Told) → (old new : StoreState 
 StaysStill told old new (Ok (steps.Blocked what holder)) = StaysAsItWas told old new
 StaysStill told old new (Err (stops.Spent entries)) = StaysAsItWas told old new
 StaysStill told old new answer = Unit {0}
+
+-- any statement in hand but an insert before its row
+abbrev pub IsNoPut : Hand → Type 0
+IsNoPut (hands.Puts table values) = ⊥
+IsNoPut hand = Unit {0}

@@ -1,10 +1,11 @@
 //! Sessions, in the order in which they were made.
 
-ghost use Rattle.std.specs.Prelude.{◌≡◌, ◌<◌, ◌≤◌, [], ◌∷◌, ◌++◌, None, Some, IsSome, OnOk, OnErr, length, slice_set};
+ghost use Rattle.std.specs.Prelude.{◌≡◌, ◌<◌, ◌≤◌, [], ◌∷◌, ◌++◌, None, Some, IfSome, IsSome, OnOk, OnErr, length, slice_set};
 ghost use Rattle.std.specs.Option.{is_some};
 ghost use Rattle.statements.specs.SessionNumbers.{session_number};
 ghost use Rattle.store_parts.specs.StoreStates.{hand_in};
-ghost use Rattle.session_core.specs.SessionLists.{hands_of, names_of, spare_in, spares_of};
+ghost use Rattle.session_core.specs.Ending.{GoesWithin};
+ghost use Rattle.session_core.specs.SessionLists.{hands_of, names_of, spares_of};
 
 use block_model::{Name, NoMemory};
 use brin_insert::Insert;
@@ -54,18 +55,38 @@ pub(crate) fn has_hand(sessions: &[Session], session: u32) -> bool
     sessions[session as usize].hand.is_some()
 }
 
-/// Takes the statement out of the session's hand.
-pub(crate) fn take_hand(sessions: &mut Vec<Session>, session: u32) -> Hand
-    requires { IsSome (hand_in (hands_of sessions.old.items) session) }
-    ensures hand { hand_in (hands_of sessions.old.items) session ≡ Some result }
-    ensures hands { hands_of sessions.new.items ≡ slice_set (hands_of sessions.old.items) session None }
-    ensures names { names_of sessions.new.items ≡ names_of sessions.old.items }
-    ensures spares { spares_of sessions.new.items ≡ spares_of sessions.old.items }
+/// Does nothing; tells its caller how far the statement goes that the session has in hand.
+pub(crate) fn known_hand(sessions: &[Session], session: u32)
+    requires { session < length sessions.now }
+    ensures { IfSome (hand_in (hands_of sessions.now) session) GoesWithin }
 {
-    let Some(hand) = sessions[session as usize].hand.take() else {
+    if let Some(hand) = &sessions[session as usize].hand {
+        known_statement(hand);
+    }
+}
+
+/// Does nothing; tells its caller how far the statement goes.
+fn known_statement(hand: &Hand)
+    ensures { GoesWithin hand.now }
+{
+    match hand {
+        Hand::Selects(scan) => scan.known(),
+        Hand::Deletes(scan) => scan.known(),
+        Hand::Explains(explain) => explain.known(),
+        _ => {}
+    }
+}
+
+/// Takes the statement out of a hand that has one.
+pub(crate) fn taken(hand: &mut Option<Hand>) -> Hand
+    requires { IsSome hand.old }
+    ensures was { hand.old ≡ Some result }
+    ensures empty { hand.new ≡ None }
+{
+    let Some(statement) = hand.take() else {
         unreachable!()
     };
-    hand
+    statement
 }
 
 /// The session has that in hand.
@@ -76,25 +97,4 @@ pub(crate) fn put_hand(sessions: &mut Vec<Session>, session: u32, hand: Option<H
     ensures spares { spares_of sessions.new.items ≡ spares_of sessions.old.items }
 {
     sessions[session as usize].hand = hand;
-}
-
-/// Takes the session's spare machine, if there is one.
-pub(crate) fn take_spare(sessions: &mut Vec<Session>, session: u32) -> Option<Insert>
-    requires { session < length sessions.old.items }
-    ensures spare { result ≡ spare_in (spares_of sessions.old.items) session }
-    ensures spares { spares_of sessions.new.items ≡ slice_set (spares_of sessions.old.items) session None }
-    ensures names { names_of sessions.new.items ≡ names_of sessions.old.items }
-    ensures hands { hands_of sessions.new.items ≡ hands_of sessions.old.items }
-{
-    sessions[session as usize].spare.take()
-}
-
-/// The session has that spare machine.
-pub(crate) fn put_spare(sessions: &mut Vec<Session>, session: u32, spare: Option<Insert>)
-    requires { session < length sessions.old.items }
-    ensures spares { spares_of sessions.new.items ≡ slice_set (spares_of sessions.old.items) session spare }
-    ensures names { names_of sessions.new.items ≡ names_of sessions.old.items }
-    ensures hands { hands_of sessions.new.items ≡ hands_of sessions.old.items }
-{
-    sessions[session as usize].spare = spare;
 }

@@ -1,6 +1,6 @@
 //! The store of sessions.
 
-ghost use Rattle.std.specs.Prelude.{◌≡◌, ◌<◌, [], length, slice_index_or, None, IfOk, IfErr, OnOk, OnErr, IsSome};
+ghost use Rattle.std.specs.Prelude.{◌≡◌, ◌<◌, [], length, slice_index_or, None, IfOk, IfErr, IfSome, OnOk, OnErr, IsSome};
 ghost use Rattle.std.specs.Option.{is_some};
 ghost use Rattle.statements.specs.StatementFits.{IsStatementFor};
 ghost use Rattle.page_store.specs.Keeps.{Leaves, Tells};
@@ -13,15 +13,15 @@ ghost use Rattle.store_parts.specs.StepAnswers.{HasFaultCause, StaysReady};
 ghost use Rattle.store_parts.specs.StepIs.{LeadsOn, StepIs};
 ghost use Rattle.store_parts.specs.StoreStates.{hand_at};
 ghost use Rattle.store_starts.specs.OpenedParts.{NeverFails};
+ghost use Rattle.session_core.specs.Ending.{EndsSoon};
 ghost use Rattle.session_core.specs.Sessions.{HasSession, IsInHandThen, IsSameStatement, LeavesTheRest, NamesASession, StaysStill, refusal_in};
+ghost use Rattle.session_core.specs.Stops.{StopsSo};
 ghost use Rattle.session_core.specs.Submitting.{IsJudged, IsTakenUp, refusal_here};
 
 use crate::faults::SessionFault;
 use crate::laws::laws_of_sessions;
-use crate::sessions::{
-    Session, add_session, has_hand, number_of, put_hand, put_spare, take_hand, take_spare,
-};
-use crate::steps::{answered, step_of};
+use crate::sessions::{Session, add_session, has_hand, known_hand, number_of, put_hand, taken};
+use crate::steps::step_of;
 use crate::submitting::{block_refusal, hand_for, standing_refusal};
 use block_model::{Entry, Name, NoMemory, Refusal};
 use disk_trait::Disk;
@@ -29,6 +29,7 @@ use reply_texts::Dropped;
 use statements::{MAX_SESSIONS, Statement};
 use std::alloc::Global;
 use std::marker::Model;
+use step_bounds::shown_tables_are_bounded;
 use store_layout::Layout;
 use store_parts::{Parts, Step, StoreFault, few_locks_are_held};
 use store_starts::plain_parts;
@@ -78,6 +79,17 @@ impl<D: Disk + Drop> Store<D> {
     {
         // The toolchain opens the invariant where a field is read.
         let _ = &self.parts;
+    }
+
+    /// Does nothing; tells its caller that the statement that the session has in hand comes to its reply, or to a step that waits, behind few steps.
+    pub fn known_to_end(&self, session: u32)
+        requires { session < length self.now.names }
+        ensures { EndsSoon D.told self.now session }
+    {
+        shown_tables_are_bounded();
+        self.parts.pages.known();
+        self.parts.pages.layout().known();
+        known_hand(self.sessions.as_slice(), session);
     }
 
     /// The tables, indexes and sizes.
@@ -145,6 +157,7 @@ impl<D: Disk + Drop> Store<D> {
         ensures others { LeavesTheRest D.told self.old self.new session }
         ensures statement { IsSameStatement (hand_at self.old session) (hand_at self.new session) }
         ensures still { StaysStill D.told self.old self.new result }
+        ensures survives { IfSome (hand_at self.old session) (λ hand. StopsSo D.told self.old.transactions session self.old.pages self.new.pages hand result) }
         ensures leaves { Leaves D.told self.old.pages self.new.pages }
         ensures journal { OnErr result (self.new.journal.entries ≡ self.old.journal.entries) }
         ensures ready { OnOk result (StaysReady self.old.pages self.new.pages) }
@@ -152,13 +165,10 @@ impl<D: Disk + Drop> Store<D> {
     {
         laws_of_sessions(&self.parts);
         few_locks_are_held(&self.parts.locks);
-        let hand = take_hand(&mut self.sessions, session);
-        let mut spare = take_spare(&mut self.sessions, session);
-        let stepped = step_of(&mut self.parts, session, hand, &mut spare);
-        let (answer, hand) = answered(stepped);
-        put_spare(&mut self.sessions, session, spare);
-        put_hand(&mut self.sessions, session, hand);
-        answer
+        let own = &mut self.sessions[session as usize];
+        let hand = taken(&mut own.hand);
+        let parts = &mut self.parts;
+        step_of(parts, session, hand, &mut own.hand, &mut own.spare)
     }
 
     /// Whether the session has a statement in hand.

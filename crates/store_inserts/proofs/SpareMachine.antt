@@ -1,5 +1,5 @@
 -- the machine that waits before its first step, and its put
-use Rattle.std.proofs.Common.{◌≡◌, ℕ, List, Option, None, Some, sym, ap, subst, ◌∙◌}
+use Rattle.std.proofs.Common.{◌≡◌, ℕ, List, Option, None, Some, Result, sym, ap, subst, ◌∙◌}
 use Rattle.std.specs.Prelude.{IfSome, IsSomeAnd}
 use Rattle.std.proofs.lemmas.Option.{same_Some}
 use Rattle.disk_trait.specs.Told.{Told}
@@ -10,14 +10,14 @@ use Rattle.transactions.specs.Sessions.{next_row_of}
 use Rattle.transactions.specs.TransactionsState.{OfOpen}
 use Rattle.brin_insert.specs.declared.insert.Insert.{Insert}
 use Rattle.brin_insert.specs.Inserts.{IsInsertFor}
+use Rattle.store_parts.specs.declared.faults.Step.{Step}
+use Rattle.store_parts.specs.declared.faults.StoreFault.{StoreFault}
 use Rattle.store_parts.specs.declared.hand.Hand.{Hand}
 use Rattle.store_parts.specs.declared.hand.Hand.TheVariants as hands
-use Rattle.store_parts.specs.declared.hand.Stepped.{Stepped}
 use Rattle.store_parts.specs.declared.parts.Parts.{Parts}
-use Rattle.store_parts.specs.StepAnswers.{HasCause}
-use Rattle.store_parts.specs.Stepping.{IsFit, IsShown, LeavesTheOthers, MakesItsStep, StaysFit, StaysUndone}
-use Rattle.store_parts.specs.UndoneLaws.{StepsSo}
+use Rattle.store_parts.specs.Stepping.{IsFit, IsShown}
 use Rattle.store_inserts.specs.Promised.{unpromised}
+use Rattle.store_inserts.specs.Settling.{SettlesSo}
 use Rattle.store_inserts.specs.SparePut.{OfItsPut}
 
 -- it begins the row
@@ -56,19 +56,10 @@ waits told parts n None insert is made nowhere id fit shown = absurd made
 waits told parts n (Some it) insert is made nowhere id fit shown =
     subst (λ (m : Insert). Waits told parts n m) (same_Some it insert is) (record { made = made; nowhere = nowhere; id = id; fit = fit; shown = shown })
 
--- the clauses of its first step
-pub record PutSteps {D : Type 0} (told : D → Told) (old new : Parts D) (n : ℕ) (spare : Option Insert) (answer : Stepped) : Type 0 where
-  pub steps : OfItsPut spare (λ hand. MakesItsStep told old new n hand answer)
-  pub fit : OfItsPut spare (λ hand. StaysFit told old new n hand answer)
-  pub others : OfItsPut spare (λ hand. LeavesTheOthers told old new n hand answer)
-  pub stays : OfItsPut spare (λ hand. StaysUndone told old new n hand answer)
-  pub cause : HasCause told old.pages new.pages answer
-
 -- a step of the machine that is there
-pub put_steps : {D : Type 0} (told : D → Told) (old new : Parts D) (n : ℕ) (spare : Option Insert) (insert : Insert) (answer : Stepped) → spare ≡ Some insert
-    → StepsSo told old new n (hands.Puts insert.row.table insert.row.values) answer → PutSteps told old new n spare answer
-put_steps told old new n spare insert answer is so =
-    subst (λ (o : Option Insert). PutSteps told old new n o answer) (sym is) (record { steps = so.steps; fit = so.fit; others = so.others; stays = so.stays; cause = so.cause })
+pub put_settles : {D : Type 0} (told : D → Told) (old new : Parts D) (n : ℕ) (spare : Option Insert) (insert : Insert) (left : Option Hand) (answer : Result Step StoreFault) → spare ≡ Some insert
+    → SettlesSo told old new n (hands.Puts insert.row.table insert.row.values) left answer → OfItsPut spare (λ hand. SettlesSo told old new n hand left answer)
+put_settles told old new n spare insert left answer is so = subst (λ (o : Option Insert). OfItsPut o (λ hand. SettlesSo told old new n hand left answer)) (sym is) so
 
 -- its first step, as that of the put
 pub of_its_row : (spare : Option Insert) (table : ℕ) (values : List Value) (P : Hand → Type 0) → IsItsRow spare table values → P (hands.Puts table values) → OfItsPut spare P
@@ -77,9 +68,9 @@ of_its_row (Some insert) table values P row is =
     let same : hands.Puts table values ≡ hands.Puts insert.row.table insert.row.values = λ j. hands.Puts (sym row.0 j) (sym row.1 j) in
     subst P same is
 
-pub row_steps : {D : Type 0} (told : D → Told) (old new : Parts D) (n : ℕ) (spare : Option Insert) (made : Insert → Type 0) (table : ℕ) (values : List Value) (answer : Stepped) → IsSomeAnd spare made
-    → IsItsRow spare table values → PutSteps told old new n spare answer → StepsSo told old new n (hands.Puts table values) answer
-row_steps told old new n None made table values answer there row so = absurd there
-row_steps told old new n (Some insert) made table values answer there row so =
+pub row_settles : {D : Type 0} (told : D → Told) (old new : Parts D) (n : ℕ) (spare : Option Insert) (made : Insert → Type 0) (table : ℕ) (values : List Value) (left : Option Hand) (answer : Result Step StoreFault)
+    → IsSomeAnd spare made → IsItsRow spare table values → OfItsPut spare (λ hand. SettlesSo told old new n hand left answer) → SettlesSo told old new n (hands.Puts table values) left answer
+row_settles told old new n None made table values left answer there row so = absurd there
+row_settles told old new n (Some insert) made table values left answer there row so =
     let same : hands.Puts insert.row.table insert.row.values ≡ hands.Puts table values = λ j. hands.Puts (row.0 j) (row.1 j) in
-    subst (λ (h : Hand). StepsSo told old new n h answer) same (record { steps = so.steps; fit = so.fit; others = so.others; stays = so.stays; cause = so.cause })
+    subst (λ (h : Hand). SettlesSo told old new n h left answer) same so

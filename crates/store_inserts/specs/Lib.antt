@@ -1,3 +1,4 @@
 pub mod Promised
 pub mod TakenLaws
 pub mod SparePut
+pub mod Settling

@@ -1,6 +1,6 @@
 //! The first step of an insert.
 
-ghost use Rattle.std.specs.Prelude.{◌≡◌, ◌+◌, ◌^◌, ◌<◌, ◌≤◌, ◌∷◌, ◌++◌, [], None, Some, length, IfSome, IsSome, IsSomeAnd};
+ghost use Rattle.std.specs.Prelude.{◌≡◌, ◌+◌, ◌^◌, ◌<◌, ◌≤◌, ◌∷◌, ◌++◌, [], None, Some, Ok, Err, length, IfSome, IsSome, IsSomeAnd};
 ghost use Rattle.block_model.specs.declared.request.Request.TheVariants as requests;
 ghost use Rattle.logged_pages.specs.Survives.{Survives};
 ghost use Rattle.tx_table.specs.Durable.{IsBefore};
@@ -13,46 +13,44 @@ ghost use Rattle.row_versions.specs.StoredVersions.{transaction_of};
 ghost use Rattle.transactions.specs.Sessions.{next_row_of};
 ghost use Rattle.transactions.specs.TransactionsState.{OfOpen, with_failed};
 ghost use Rattle.store_inserts.specs.Promised.{unpromised};
+ghost use Rattle.store_inserts.specs.Settling.{SettlesSo};
 ghost use Rattle.store_inserts.specs.SparePut.{OfItsPut};
 ghost use Rattle.page_locks.specs.LockHolders.{count_of, holder};
 ghost use Rattle.brin_insert.specs.Inserts.{IsInsertFor};
 ghost use Rattle.store_parts.specs.declared.limits.TheConstants.{LOCKS_A_SESSION, MAX_LOCKS};
-ghost use Rattle.store_parts.specs.StepAnswers.{HasCause};
-ghost use Rattle.store_parts.specs.Stepping.{IsFit, IsShown, LeavesTheOthers, MakesItsStep, StaysFit, StaysUndone};
+ghost use Rattle.store_parts.specs.Stepping.{IsFit, IsShown};
 
 use crate::entering::{enter_row, refuse};
 use crate::laws::steps_of_an_insert;
 use crate::machines::machine_for;
-use block_model::{Refusal, Reply, Row, Tag, Values};
+use block_model::{Point, Refusal, Reply, Row, Tag, Values};
 use brin_insert::Insert;
 use disk_trait::Disk;
 use page_locks::Did;
 use page_store::MachineFault;
 use store_parts::{
-    Hand, Parts, Stepped, an_undone_step_changes_nothing, fault_of, one_hand_changes, spent,
-    table_named,
+    Hand, Parts, Step, StoreFault, an_undone_step_changes_nothing, fault_of, one_hand_changes,
+    spent, table_named,
 };
 
-/// The first step of an insert: its row is put. Where memory is short for the step, or the table is full, the put is entered so and the
-/// session's transaction fails; `Spent` comes where the journal has no room for the put. The insert is done with this step where its
-/// table has no index; its machine is spare then.
+/// The first step of an insert: its row is put, and what is left of the insert comes into `left`. Where memory is short for the step, or the
+/// table is full, the put is entered so and the session's transaction fails; `Spent` comes where the journal has no room for the put. The
+/// insert is done with this step where its table has no index; its machine is spare then.
 #[tactic(none)]
 pub fn put_row<D: Disk + Drop>(
     parts: &mut Parts<D>,
     session: u32,
     table: u8,
     values: Values,
+    left: &mut Option<Hand>,
     spare: &mut Option<Insert>,
-) -> Stepped
+) -> Result<Step, StoreFault>
     requires fit { IsFit D.told parts.old session (Hand.Puts table values) }
     requires few { count_of parts.old.locks + LOCKS_A_SESSION ≤ MAX_LOCKS }
     requires shown { IsShown D.told parts.old session (Hand.Puts table values) }
+    requires left { left.old ≡ None }
     requires spare { IfSome spare.old (IsInsertFor parts.old.pages.layout) }
-    ensures steps { MakesItsStep D.told parts.old parts.new session (Hand.Puts table values) result }
-    ensures fit { StaysFit D.told parts.old parts.new session (Hand.Puts table values) result }
-    ensures others { LeavesTheOthers D.told parts.old parts.new session (Hand.Puts table values) result }
-    ensures stays { StaysUndone D.told parts.old parts.new session (Hand.Puts table values) result }
-    ensures cause { HasCause D.told parts.old.pages parts.new.pages result }
+    ensures so { SettlesSo D.told parts.old parts.new session (Hand.Puts table values) left.new result }
     // At every moment of the step an image opens to what one did before it, or to the pages as they were.
     ensures survives { Survives D.told (IsBefore parts.old.pages) parts.old.pages parts.new.pages }
     ensures spare { IfSome spare.new (IsInsertFor parts.old.pages.layout) }
@@ -60,32 +58,16 @@ pub fn put_row<D: Disk + Drop>(
     steps_of_an_insert();
     one_hand_changes();
     an_undone_step_changes_nothing(parts);
-    let hand = Hand::Puts { table, values };
     match parts.pages.ready() {
         Ok(()) => {}
-        Err(error) => {
-            return Stepped::Undone {
-                fault: fault_of(error),
-                hand,
-            };
-        }
+        Err(error) => return undone(left, table, values, fault_of(error)),
     }
     if !parts.journal.fits(1) {
-        return Stepped::Undone {
-            fault: spent(&parts.journal),
-            hand,
-        };
+        return undone(left, table, values, spent(&parts.journal));
     }
     match machine_for(parts, session, table, values, spare) {
-        Ok(()) => first_step(parts, session, spare),
-        Err(_) => Stepped::Done(refuse(
-            parts,
-            session,
-            table,
-            values,
-            Tag::NoMemory,
-            Refusal::Memory,
-        )),
+        Ok(()) => first_step(parts, session, left, spare),
+        Err(_) => lacks_memory(parts, session, table, values),
     }
 }
 
@@ -95,8 +77,9 @@ pub fn put_row<D: Disk + Drop>(
 fn first_step<D: Disk + Drop>(
     parts: &mut Parts<D>,
     session: u32,
+    left: &mut Option<Hand>,
     spare: &mut Option<Insert>,
-) -> Stepped
+) -> Result<Step, StoreFault>
     requires made { IsSomeAnd spare.old (IsInsertFor parts.old.pages.layout) }
     requires nowhere { IfSome spare.old (λ insert. insert.place ≡ None) }
     requires id { IfSome spare.old (λ insert. OfOpen parts.old.transactions session (λ o. next_row_of o ≡ Some insert.row.id)) }
@@ -106,11 +89,8 @@ fn first_step<D: Disk + Drop>(
     requires ready { parts.old.pages.failed ≡ None }
     requires fit { OfItsPut spare.old (λ hand. IsFit D.told (unpromised parts.old) session hand) }
     requires shown { OfItsPut spare.old (λ hand. IsShown D.told (unpromised parts.old) session hand) }
-    ensures steps { OfItsPut spare.old (λ hand. MakesItsStep D.told (unpromised parts.old) parts.new session hand result) }
-    ensures fit { OfItsPut spare.old (λ hand. StaysFit D.told (unpromised parts.old) parts.new session hand result) }
-    ensures others { OfItsPut spare.old (λ hand. LeavesTheOthers D.told (unpromised parts.old) parts.new session hand result) }
-    ensures stays { OfItsPut spare.old (λ hand. StaysUndone D.told (unpromised parts.old) parts.new session hand result) }
-    ensures cause { HasCause D.told parts.old.pages parts.new.pages result }
+    requires left { left.old ≡ None }
+    ensures so { OfItsPut spare.old (λ hand. SettlesSo D.told (unpromised parts.old) parts.new session hand left.new result) }
     ensures survives { Survives D.told (IsBefore parts.old.pages) parts.old.pages parts.new.pages }
     ensures spare { IfSome spare.new (IsInsertFor parts.old.pages.layout) }
 {
@@ -126,40 +106,98 @@ fn first_step<D: Disk + Drop>(
     ) {
         Ok(Did::Moved(point)) => {
             enter_row(parts, session, insert.row());
-            let Some(insert) = spare.take() else {
-                unreachable!()
-            };
-            Stepped::Moved {
-                point,
-                hand: Hand::Inserts(insert),
-            }
+            goes_on(point, left, spare)
         }
         Ok(Did::Finished(_)) => {
             enter_row(parts, session, insert.row());
-            Stepped::Done(Reply::Inserted {
-                id: insert.row().id,
-            })
+            done(insert.row())
         }
         Ok(Did::Blocked(_)) => unreachable!(),
         Ok(Did::NoRight { .. }) => unreachable!(),
         Err(MachineFault::Full { number, .. }) => {
             parts.journal.release(1);
-            Stepped::Done(full_table(parts, session, insert.row(), number))
+            full_table(parts, session, insert.row(), number)
         }
         Err(MachineFault::Store(error)) => {
             parts.journal.release(1);
             parts.locks.drop_all(session);
-            Stepped::Undone {
-                fault: fault_of(error),
-                hand: hand_again(insert.row()),
-            }
+            let row = insert.row();
+            undone(left, row.table, row.values, fault_of(error))
         }
         Err(MachineFault::Memory) => unreachable!(),
     }
 }
 
+/// The insert is left before its first step.
+fn undone(
+    left: &mut Option<Hand>,
+    table: u8,
+    values: Values,
+    fault: StoreFault,
+) -> Result<Step, StoreFault>
+    ensures left { left.new ≡ Some (Hand.Puts table values) }
+    ensures fault { result ≡ Err fault }
+{
+    *left = Some(Hand::Puts { table, values });
+    Err(fault)
+}
+
+/// The insert goes on, with the machine that was spare.
+fn goes_on(
+    point: Point,
+    left: &mut Option<Hand>,
+    spare: &mut Option<Insert>,
+) -> Result<Step, StoreFault>
+    requires { IsSome spare.old }
+    ensures left { IfSome spare.old (λ insert. left.new ≡ Some (Hand.Inserts insert)) }
+    ensures spare { spare.new ≡ None }
+    ensures moved { result ≡ Ok (Step.Moved point) }
+{
+    let Some(insert) = spare.take() else {
+        unreachable!()
+    };
+    *left = Some(Hand::Inserts(insert));
+    Ok(Step::Moved(point))
+}
+
+/// The insert is done: it is answered its row.
+fn done(row: &Row) -> Result<Step, StoreFault>
+    ensures { result ≡ Ok (Step.Done (Reply.Inserted row.now.id)) }
+{
+    Ok(Step::Done(Reply::Inserted { id: row.id }))
+}
+
+/// Memory is short for the machine: the insert is refused.
+fn lacks_memory<D: Disk + Drop>(
+    parts: &mut Parts<D>,
+    session: u32,
+    table: u8,
+    values: Values,
+) -> Result<Step, StoreFault>
+    requires promised { 0 < parts.old.journal.promised }
+    requires open { IsSome (transaction_of parts.old.transactions.opens session) }
+    ensures failed { OfOpen parts.old.transactions session (λ o. parts.new.transactions ≡ with_failed parts.old.transactions session o) }
+    ensures entries { parts.new.journal.entries ≡ parts.old.journal.entries ++ tagged_entry session table (requests.Put values) Tag.NoMemory ∷ [] }
+    ensures promised { parts.new.journal.promised + 1 ≡ parts.old.journal.promised }
+    ensures given { GivesAll (holder parts.old.locks) (holder parts.new.locks) session }
+    ensures none { locks_of parts.new.locks session ≡ 0 }
+    ensures limit { parts.new.locks.limit ≡ parts.old.locks.limit }
+    ensures counts { AddsAtMost parts.old.locks parts.new.locks session 0 }
+    ensures rest { parts.new ≡ record parts.old { transactions = parts.new.transactions; locks = parts.new.locks; journal = parts.new.journal } }
+    ensures reply { result ≡ Ok (Step.Done (Reply.Refused Refusal.Memory)) }
+{
+    let refusal = Refusal::Memory;
+    let reply = refuse(parts, session, table, values, Tag::NoMemory, refusal);
+    Ok(Step::Done(reply))
+}
+
 /// The row's table is full: the insert is refused.
-fn full_table<D: Disk + Drop>(parts: &mut Parts<D>, session: u32, row: &Row, number: u64) -> Reply
+fn full_table<D: Disk + Drop>(
+    parts: &mut Parts<D>,
+    session: u32,
+    row: &Row,
+    number: u64,
+) -> Result<Step, StoreFault>
     requires table { row.now.table < length parts.old.pages.layout.schema.tables }
     requires promised { 0 < parts.old.journal.promised }
     requires open { IsSome (transaction_of parts.old.transactions.opens session) }
@@ -171,25 +209,10 @@ fn full_table<D: Disk + Drop>(parts: &mut Parts<D>, session: u32, row: &Row, num
     ensures limit { parts.new.locks.limit ≡ parts.old.locks.limit }
     ensures counts { AddsAtMost parts.old.locks parts.new.locks session 0 }
     ensures rest { parts.new ≡ record parts.old { transactions = parts.new.transactions; locks = parts.new.locks; journal = parts.new.journal } }
-    ensures reply { result ≡ Reply.Refused (Refusal.Full (table_name parts.old.pages.layout row.now.table) number) }
+    ensures reply { result ≡ Ok (Step.Done (Reply.Refused (Refusal.Full (table_name parts.old.pages.layout row.now.table) number))) }
 {
     let relation = table_named(parts.pages.layout(), row.table);
-    refuse(
-        parts,
-        session,
-        row.table,
-        row.values,
-        Tag::Full,
-        Refusal::Full { relation, number },
-    )
-}
-
-/// The insert of the row before its first step.
-fn hand_again(row: &Row) -> Hand
-    ensures { result ≡ Hand.Puts row.now.table row.now.values }
-{
-    Hand::Puts {
-        table: row.table,
-        values: row.values,
-    }
+    let refusal = Refusal::Full { relation, number };
+    let reply = refuse(parts, session, row.table, row.values, Tag::Full, refusal);
+    Ok(Step::Done(reply))
 }

@@ -1,6 +1,6 @@
 use Rattle.std.proofs.Common.{◌≡◌, None}
 use Rattle.std.specs.Prelude.{IsSome}
-use Rattle.line_texts.specs.Stops.{MovedTo}
+use Rattle.step_bounds.specs.Moves.{MovedIn}
 use Rattle.store_parts.specs.StoreStates.{hand_at}
 use Rattle.brin_app.specs.Leading.{PlacesLead}
 use Rattle.brin_app.proofs.orders.finish.Given as goal
@@ -10,5 +10,5 @@ invariant-steps l = record {
   ready : l.store.pages.failed ≡ None;
   names : l.store.names ≡ l.initial.store.names;
   hand : IsSome (hand_at l.store l.session);
-  leads : PlacesLead l.initial.store l.store (MovedTo l.session);
+  leads : PlacesLead l.initial.store l.store (MovedIn l.session l.counter);
 }

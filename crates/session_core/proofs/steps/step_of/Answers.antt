@@ -1,82 +1,28 @@
-use Rattle.std.proofs.Common.{sym, subst}
+use Rattle.std.proofs.Common.{Result, sym, subst}
+use Rattle.store_parts.specs.declared.faults.Step.{Step}
+use Rattle.store_parts.specs.declared.faults.StoreFault.{StoreFault}
 use Rattle.store_parts.specs.declared.hand.Hand.{Hand}
-use Rattle.store_parts.specs.UndoneLaws.{StepsSo}
+use Rattle.store_inserts.specs.Settling.{SettlesSo}
+use Rattle.session_core.specs.Stops.{StopsSo}
+use Rattle.session_core.proofs.Stops.{no_put}
 use Rattle.session_core.proofs.steps.step_of.Goals as goal
-
-pub returns-in-Begins-clause-so : goal.returns-in-Begins-clause-so
-returns-in-Begins-clause-so g c =
-    let is = c.begin.ensures in
-    subst (λ (hand : Hand). StepsSo g.D.Disk.told c.args.parts.now c.begin.new.parts c.args.session hand c.begin.result) (sym c.in-Begins.is)
-    (record { steps = is.steps; fit = is.fit; others = is.others; stays = is.stays; cause = is.cause })
-
-pub returns-in-Commits-clause-so : goal.returns-in-Commits-clause-so
-returns-in-Commits-clause-so g c =
-    let is = c.commit.ensures in
-    subst (λ (hand : Hand). StepsSo g.D.Disk.told c.args.parts.now c.commit.new.parts c.args.session hand c.commit.result) (sym c.in-Commits.is)
-    (record { steps = is.steps; fit = is.fit; others = is.others; stays = is.stays; cause = is.cause })
-
-pub returns-in-RollsBack-clause-so : goal.returns-in-RollsBack-clause-so
-returns-in-RollsBack-clause-so g c =
-    let is = c.roll_back.ensures in
-    subst (λ (hand : Hand). StepsSo g.D.Disk.told c.args.parts.now c.roll_back.new.parts c.args.session hand c.roll_back.result) (sym c.in-RollsBack.is)
-    (record { steps = is.steps; fit = is.fit; others = is.others; stays = is.stays; cause = is.cause })
 
 pub returns-in-Puts-clause-so : goal.returns-in-Puts-clause-so
 returns-in-Puts-clause-so g c =
-    let is = c.put_row.ensures in
-    subst (λ (hand : Hand). StepsSo g.D.Disk.told c.args.parts.now c.put_row.new.parts c.args.session hand c.put_row.result) (sym c.in-Puts.is)
-    (record { steps = is.steps; fit = is.fit; others = is.others; stays = is.stays; cause = is.cause })
+    subst (λ (hand : Hand). SettlesSo g.D.Disk.told c.args.parts.now c.put_row.new.parts c.args.session hand c.put_row.new.left c.put_row.result) (sym c.in-Puts.is) c.put_row.ensures.so
 
-pub returns-in-Inserts-clause-so : goal.returns-in-Inserts-clause-so
-returns-in-Inserts-clause-so g c =
-    let is = c.insert_on.ensures in
-    subst (λ (hand : Hand). StepsSo g.D.Disk.told c.args.parts.now c.insert_on.new.parts c.args.session hand c.insert_on.result) (sym c.in-Inserts.is)
-    (record { steps = is.steps; fit = is.fit; others = is.others; stays = is.stays; cause = is.cause })
+pub returns-in-Puts-clause-survives : goal.returns-in-Puts-clause-survives
+returns-in-Puts-clause-survives g c =
+    let old = c.args.parts.now in
+    subst (λ (hand : Hand). StopsSo g.D.Disk.told old.transactions c.args.session old.pages c.put_row.new.parts.pages hand c.put_row.result) (sym c.in-Puts.is) c.put_row.ensures.survives
 
-pub returns-in-Selecting-clause-so : goal.returns-in-Selecting-clause-so
-returns-in-Selecting-clause-so g c =
-    let is = c.begin_select.ensures in
-    subst (λ (hand : Hand). StepsSo g.D.Disk.told c.args.parts.now c.begin_select.new.parts c.args.session hand c.begin_select.result) (sym c.in-Selecting.is)
-    (record { steps = is.steps; fit = is.fit; others = is.others; stays = is.stays; cause = is.cause })
+pub step_on-requires-clause-other : goal.step_on-requires-clause-other
+step_on-requires-clause-other g c = no_put c.args.hand c.in_default.not-Puts
 
-pub returns-in-Selects-clause-so : goal.returns-in-Selects-clause-so
-returns-in-Selects-clause-so g c =
-    let is = c.select_on.ensures in
-    subst (λ (hand : Hand). StepsSo g.D.Disk.told c.args.parts.now c.select_on.new.parts c.args.session hand c.select_on.result) (sym c.in-Selects.is)
-    (record { steps = is.steps; fit = is.fit; others = is.others; stays = is.stays; cause = is.cause })
+pub returns-in_default-clause-so : goal.returns-in_default-clause-so
+returns-in_default-clause-so g c = record { stepped = c.step_on.result; so = c.step_on.ensures.so; left_is = c.settled.ensures.left; answer_is = c.settled.ensures.answer }
 
-pub returns-in-Deleting-clause-so : goal.returns-in-Deleting-clause-so
-returns-in-Deleting-clause-so g c =
-    let is = c.begin_delete.ensures in
-    subst (λ (hand : Hand). StepsSo g.D.Disk.told c.args.parts.now c.begin_delete.new.parts c.args.session hand c.begin_delete.result) (sym c.in-Deleting.is)
-    (record { steps = is.steps; fit = is.fit; others = is.others; stays = is.stays; cause = is.cause })
-
-pub returns-in-Deletes-clause-so : goal.returns-in-Deletes-clause-so
-returns-in-Deletes-clause-so g c =
-    let is = c.delete_on.ensures in
-    subst (λ (hand : Hand). StepsSo g.D.Disk.told c.args.parts.now c.delete_on.new.parts c.args.session hand c.delete_on.result) (sym c.in-Deletes.is)
-    (record { steps = is.steps; fit = is.fit; others = is.others; stays = is.stays; cause = is.cause })
-
-pub returns-in-Marks-clause-so : goal.returns-in-Marks-clause-so
-returns-in-Marks-clause-so g c =
-    let is = c.mark.ensures in
-    subst (λ (hand : Hand). StepsSo g.D.Disk.told c.args.parts.now c.mark.new.parts c.args.session hand c.mark.result) (sym c.in-Marks.is)
-    (record { steps = is.steps; fit = is.fit; others = is.others; stays = is.stays; cause = is.cause })
-
-pub returns-in-Explains-clause-so : goal.returns-in-Explains-clause-so
-returns-in-Explains-clause-so g c =
-    let is = c.explain_on.ensures in
-    subst (λ (hand : Hand). StepsSo g.D.Disk.told c.args.parts.now c.explain_on.new.parts c.args.session hand c.explain_on.result) (sym c.in-Explains.is)
-    (record { steps = is.steps; fit = is.fit; others = is.others; stays = is.stays; cause = is.cause })
-
-pub returns-in-Summarises-clause-so : goal.returns-in-Summarises-clause-so
-returns-in-Summarises-clause-so g c =
-    let is = c.summarise_on.ensures in
-    subst (λ (hand : Hand). StepsSo g.D.Disk.told c.args.parts.now c.summarise_on.new.parts c.args.session hand c.summarise_on.result) (sym c.in-Summarises.is)
-    (record { steps = is.steps; fit = is.fit; others = is.others; stays = is.stays; cause = is.cause })
-
-pub returns-in-Desummarises-clause-so : goal.returns-in-Desummarises-clause-so
-returns-in-Desummarises-clause-so g c =
-    let is = c.desummarise_on.ensures in
-    subst (λ (hand : Hand). StepsSo g.D.Disk.told c.args.parts.now c.desummarise_on.new.parts c.args.session hand c.desummarise_on.result) (sym c.in-Desummarises.is)
-    (record { steps = is.steps; fit = is.fit; others = is.others; stays = is.stays; cause = is.cause })
+pub returns-in_default-clause-survives : goal.returns-in_default-clause-survives
+returns-in_default-clause-survives g c =
+    let old = c.args.parts.now in
+    subst (λ (answer : Result Step StoreFault). StopsSo g.D.Disk.told old.transactions c.args.session old.pages c.step_on.new.parts.pages c.args.hand answer) (sym c.settled.ensures.answer) c.step_on.ensures.survives

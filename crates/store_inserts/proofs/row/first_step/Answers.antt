@@ -1,6 +1,6 @@
 use Rattle.std.proofs.Common.{◌≡◌, ℕ, [], ◌∷◌, ◌++◌, ◌<◌, ◌≤◌, List, length, Option, Some, refl, sym, ap, subst, ◌∙◌, arith}
 use Rattle.std.specs.Prelude.{IfSome, IsSome, IsSomeAnd}
-use Rattle.std.proofs.lemmas.Option.{none-some, same_Some}
+use Rattle.std.proofs.lemmas.Option.{none-some}
 use Rattle.block_model.specs.declared.place.Spot.{Spot}
 use Rattle.block_model.specs.declared.reply.Refusal.TheVariants as refusals
 use Rattle.block_model.specs.declared.reply.Reply.TheVariants as replies
@@ -27,10 +27,9 @@ use Rattle.page_locks.specs.LockCounts.{locks_of}
 use Rattle.store_parts.specs.declared.faults.StoreFault.{StoreFault}
 use Rattle.store_parts.specs.declared.hand.Hand.{Hand}
 use Rattle.store_parts.specs.declared.hand.Hand.TheVariants as hands
-use Rattle.store_parts.specs.declared.hand.Stepped.{Stepped}
 use Rattle.store_parts.specs.declared.hand.Stepped.TheVariants as stepped
 use Rattle.store_parts.specs.declared.parts.Parts.{Parts}
-use Rattle.store_parts.specs.StoreFaults.{fault_of}
+use Rattle.store_parts.specs.StepIs.{answer_of}
 use Rattle.store_parts.specs.UndoneLaws.{StepsSo}
 use Rattle.store_inserts.specs.Promised.{unpromised}
 use Rattle.logged_pages.specs.Survives.{Survives}
@@ -40,7 +39,7 @@ use Rattle.store_inserts.proofs.FewDropped.{none_dropped, silent_nowhere, silent
 use Rattle.store_inserts.proofs.OnParts.{none_left}
 use Rattle.store_inserts.proofs.Refusing.{LeftRefused, LeftUndone, share_whole, undone_so}
 use Rattle.store_inserts.proofs.RowParts.{at_no_heap_status, full_heap_so, kept_at_row, row_done_so, row_moved_so}
-use Rattle.store_inserts.proofs.SpareMachine.{put_steps, waits}
+use Rattle.store_inserts.proofs.SpareMachine.{put_settles, waits}
 use Rattle.store_inserts.proofs.row.first_step.Goals as goal
 
 pub unreachable-requires : goal.unreachable-requires
@@ -81,11 +80,8 @@ enter_row-requires-in-Ok-Finished-clause-promised g c = c.requires.promised
 pub enter_row-requires-in-Ok-Finished-clause-number : goal.enter_row-requires-in-Ok-Finished-clause-number
 enter_row-requires-in-Ok-Finished-clause-number g c = c.requires.number
 
-pub unreachable-requires-in_default-take : goal.unreachable-requires-in_default-take
-unreachable-requires-in_default-take g c = none-some c.step.new.self (sym c.in_default-take.is ∙ c.take.ensures.value)
-
-pub unreachable-unreachable-in_default-take : goal.unreachable-unreachable-in_default-take
-unreachable-unreachable-in_default-take g c = c.unreachable-in_default-take.result
+pub goes_on-requires : goal.goes_on-requires
+goes_on-requires g c = refl
 
 pub unreachable-requires-in-Ok-Blocked : goal.unreachable-requires-in-Ok-Blocked
 unreachable-requires-in-Ok-Blocked g c =
@@ -142,8 +138,8 @@ full_table-requires-clause-open g c =
 
 -- the row is put, and the insert goes on
 
-pub returns-in-Some-take : goal.returns-in-Some-take
-returns-in-Some-take g c =
+pub returns-in-Ok-Moved : goal.returns-in-Ok-Moved
+returns-in-Ok-Moved g c =
     let parts = c.args.parts.now in
     let w = waits g.D.Disk.told c.args.parts.now c.args.session c.args.spare.now c.in-Some.insert c.in-Some.is c.requires.made c.requires.nowhere c.requires.id c.requires.fit c.requires.shown in
     let hand = hands.Puts c.in-Some.insert.row.table c.in-Some.insert.row.values in
@@ -173,9 +169,13 @@ returns-in-Some-take g c =
       room = let room = c.requires.fits in omega (arith, room);
     })
     c.steps_of_an_insert.ensures.row c.in-Ok-Moved.point (rw c.in-Ok-Moved.field-0-is at c.in-Ok-Moved.ensures.stepped) (rw c.in-Ok-Moved.field-0-is at c.in-Ok-Moved.ensures.left) c.in-Ok-Moved.ensures.placed (c.in-Ok-Moved.ensures.own none))) in
-    let then = put_steps g.D.Disk.told (unpromised parts) later c.args.session c.args.spare.now c.in-Some.insert (stepped.Moved c.in-Ok-Moved.point (hands.Inserts c.in-Some-take.insert)) c.in-Some.is
-    (subst (λ (m : Insert). StepsSo g.D.Disk.told (unpromised parts) later c.args.session hand (stepped.Moved c.in-Ok-Moved.point (hands.Inserts m))) (same_Some after c.in-Some-take.insert (sym c.take.ensures.value ∙ c.in-Some-take.is)) so) in
-    record { steps = then.steps; fit = then.fit; others = then.others; stays = then.stays; cause = then.cause; spare = subst (λ (o : Option Insert). IfSome o (IsInsertFor parts.pages.layout)) (sym c.take.ensures.after) tt; survives = subst (λ (q : Parts _). Survives g.D.Disk.told (IsBefore c.args.parts.now.pages) c.args.parts.now.pages q.pages) (sym c.enter_row.ensures.rest) c.step.ensures.survives }
+    let then = put_settles g.D.Disk.told (unpromised parts) later c.args.session c.args.spare.now c.in-Some.insert c.goes_on.new.left c.goes_on.result c.in-Some.is
+    (record { stepped = stepped.Moved c.in-Ok-Moved.point (hands.Inserts after); so = so; left_is = c.goes_on.ensures.left; answer_is = c.goes_on.ensures.moved }) in
+    record {
+      so = then;
+      spare = subst (λ (o : Option Insert). IfSome o (IsInsertFor parts.pages.layout)) (sym c.goes_on.ensures.spare) tt;
+      survives = subst (λ (q : Parts _). Survives g.D.Disk.told (IsBefore c.args.parts.now.pages) c.args.parts.now.pages q.pages) (sym c.enter_row.ensures.rest) c.step.ensures.survives;
+    }
 
 -- it is done
 
@@ -213,8 +213,13 @@ returns-in-Ok-Finished g c =
     })
     c.steps_of_an_insert.ensures.row c.in-Ok-Finished.field-0-0 (rw c.in-Ok-Finished.field-0-is at c.in-Ok-Finished.ensures.stepped) c.in-Ok-Finished.ensures.placed
     (none_left after (rw c.in-Ok-Finished.field-0-is at c.in-Ok-Finished.ensures.left) c.step.new.locks c.args.session (c.in-Ok-Finished.ensures.own none))))) in
-    let then = put_steps g.D.Disk.told (unpromised parts) later c.args.session c.args.spare.now c.in-Some.insert (stepped.Done (replies.Inserted c.row-in-Ok-Finished-2.result.now.id)) c.in-Some.is so in
-    record { steps = then.steps; fit = then.fit; others = then.others; stays = then.stays; cause = then.cause; spare = c.step.ensures.made; survives = subst (λ (q : Parts _). Survives g.D.Disk.told (IsBefore c.args.parts.now.pages) c.args.parts.now.pages q.pages) (sym c.enter_row-in-Ok-Finished.ensures.rest) c.step.ensures.survives }
+    let then = put_settles g.D.Disk.told (unpromised parts) later c.args.session c.args.spare.now c.in-Some.insert c.args.left.now c.done.result c.in-Some.is
+    (record { stepped = stepped.Done (replies.Inserted c.row-in-Ok-Finished-2.result.now.id); so = so; left_is = c.requires.left; answer_is = c.done.ensures }) in
+    record {
+      so = then;
+      spare = c.step.ensures.made;
+      survives = subst (λ (q : Parts _). Survives g.D.Disk.told (IsBefore c.args.parts.now.pages) c.args.parts.now.pages q.pages) (sym c.enter_row-in-Ok-Finished.ensures.rest) c.step.ensures.survives;
+    }
 
 -- no place is left
 
@@ -231,9 +236,10 @@ returns-in-Err-Full g c =
     let row_is : c.row-in-Err-Full.result.now ≡ c.in-Some.insert.row = c.row-in-Err-Full.ensures ∙ c.step.ensures.same_row in
     let same_locks : c.step.new.locks ≡ parts.locks = rw c.in-Err-Full.field-0-is at c.in-Err-Full.ensures.at_full in
     let says = rw c.in-Err-Full.field-0-is at c.in-Err-Full.ensures.full in
-    let reply_is : c.full_table.result ≡ replies.Refused (refusals.Full (table_name parts.pages.layout c.in-Some.insert.row.table) c.in-Err-Full.number) =
-    c.full_table.ensures.reply ∙ ap (λ (l : DiskLayout). replies.Refused (refusals.Full (table_name l c.row-in-Err-Full.result.now.table) c.in-Err-Full.number)) c.step.ensures.others.leaves.layout
-    ∙ ap (λ (r : Row). replies.Refused (refusals.Full (table_name parts.pages.layout r.table) c.in-Err-Full.number)) row_is in
+    let reply = replies.Refused (refusals.Full (table_name parts.pages.layout c.in-Some.insert.row.table) c.in-Err-Full.number) in
+    let answer_is : c.full_table.result ≡ answer_of (stepped.Done reply) =
+    c.full_table.ensures.reply ∙ ap (λ (l : DiskLayout). answer_of (stepped.Done (replies.Refused (refusals.Full (table_name l c.row-in-Err-Full.result.now.table) c.in-Err-Full.number)))) c.step.ensures.others.leaves.layout
+    ∙ ap (λ (r : Row). answer_of (stepped.Done (replies.Refused (refusals.Full (table_name parts.pages.layout r.table) c.in-Err-Full.number)))) row_is in
     let refused : LeftRefused g.D.Disk.told (unpromised parts) c.step.new.pages later.transactions later.locks later.journal c.args.session hand own.own (tagged_entry c.args.session c.in-Some.insert.row.table (requests.Put c.in-Some.insert.row.values) tags.Full) = record {
       fits = fits;
       free = refl;
@@ -251,15 +257,20 @@ returns-in-Err-Full g c =
       promised = let one = c.full_table.ensures.promised in let two = c.release.ensures.promised in omega (arith, one, two);
       room = let room = c.requires.fits in omega (arith, room);
     } in
-    let so : StepsSo g.D.Disk.told (unpromised parts) later c.args.session hand (stepped.Done c.full_table.result) =
-    subst (λ (q : Parts _). StepsSo g.D.Disk.told (unpromised parts) q c.args.session hand (stepped.Done c.full_table.result)) (sym c.full_table.ensures.rest)
-    (subst (λ (l : List (ℕ × ℕ)). StepsSo g.D.Disk.told (unpromised parts) (record (unpromised parts) { pages = c.step.new.pages; transactions = later.transactions; locks = later.locks; journal = later.journal; queue = l }) c.args.session hand (stepped.Done c.full_table.result)) (sym c.in-Err-Full.ensures.queue)
+    let so : StepsSo g.D.Disk.told (unpromised parts) later c.args.session hand (stepped.Done reply) =
+    subst (λ (q : Parts _). StepsSo g.D.Disk.told (unpromised parts) q c.args.session hand (stepped.Done reply)) (sym c.full_table.ensures.rest)
+    (subst (λ (l : List (ℕ × ℕ)). StepsSo g.D.Disk.told (unpromised parts) (record (unpromised parts) { pages = c.step.new.pages; transactions = later.transactions; locks = later.locks; journal = later.journal; queue = l }) c.args.session hand (stepped.Done reply)) (sym c.in-Err-Full.ensures.queue)
     (full_heap_so g.D.Disk.told c.one_hand_changes.ensures laws.stores c.steps_of_an_insert.ensures.refusal (unpromised parts) c.step.new.pages later.locks later.transactions later.journal c.args.session c.in-Some.insert.row.table c.in-Some.insert.row.values tags.Full tt own.own
     refused (subst (λ (l : LockState). GivesAll (holder l) (holder later.locks) c.args.session) same_locks c.full_table.ensures.given) c.in-Err-Full.ensures.kept (outcome.0, outcome.1) refl c.in-Err-Full.number
     (λ tells blocks has. subst (λ (t : Task). IsInsertFull c.args.session c.in-Some.insert.at (shown_by parts.pages.layout parts.pages.pages parts.locks c.in-Some.insert.row.table blocks) t c.in-Err-Full.number) (ap (λ (place : Option Spot). task_at parts.pages.layout c.in-Some.insert place) w.nowhere) (says.1 tells blocks has))
-    c.full_table.result reply_is)) in
-    let then = put_steps g.D.Disk.told (unpromised parts) later c.args.session c.args.spare.now c.in-Some.insert (stepped.Done c.full_table.result) c.in-Some.is so in
-    record { steps = then.steps; fit = then.fit; others = then.others; stays = then.stays; cause = then.cause; spare = c.step.ensures.made; survives = subst (λ (q : Parts _). Survives g.D.Disk.told (IsBefore c.args.parts.now.pages) c.args.parts.now.pages q.pages) (sym c.full_table.ensures.rest) c.step.ensures.survives }
+    reply refl)) in
+    let then = put_settles g.D.Disk.told (unpromised parts) later c.args.session c.args.spare.now c.in-Some.insert c.args.left.now c.full_table.result c.in-Some.is
+    (record { stepped = stepped.Done reply; so = so; left_is = c.requires.left; answer_is = answer_is }) in
+    record {
+      so = then;
+      spare = c.step.ensures.made;
+      survives = subst (λ (q : Parts _). Survives g.D.Disk.told (IsBefore c.args.parts.now.pages) c.args.parts.now.pages q.pages) (sym c.full_table.ensures.rest) c.step.ensures.survives;
+    }
 
 -- the pages refuse it
 
@@ -270,8 +281,7 @@ returns-in-Err-Store g c =
     let hand = hands.Puts c.in-Some.insert.row.table c.in-Some.insert.row.values in
     let laws = c.an_undone_step_changes_nothing.ensures in
     let fits = laws.parts (unpromised parts) c.args.session hand w.fit in
-    let hand_is : c.hand_again.result ≡ hand = c.hand_again.ensures ∙ ap (λ (r : Row). hands.Puts r.table r.values) (c.row-in-Err-Store.ensures ∙ c.step.ensures.same_row) in
-    let is : stepped.Undone c.fault_of.result c.hand_again.result ≡ stepped.Undone (fault_of c.in-Err-Store.error) hand = ap (λ (f : StoreFault). stepped.Undone f c.hand_again.result) c.fault_of.ensures ∙ ap (λ (h : Hand). stepped.Undone (fault_of c.in-Err-Store.error) h) hand_is in
+    let hand_is : hands.Puts c.row-row.result.now.table c.row-row.result.now.values ≡ hand = ap (λ (r : Row). hands.Puts r.table r.values) (c.row-row.ensures ∙ c.step.ensures.same_row) in
     let undone : LeftUndone g.D.Disk.told (unpromised parts) c.step.new.pages c.drop_all.new.self c.release-in-Err-Store.new.self c.args.session hand hand = record {
       fits = fits;
       in_hand = fits.in_hand;
@@ -288,10 +298,11 @@ returns-in-Err-Store g c =
     } in
     let beside : Parts _ = record parts { pages = c.step.new.pages; locks = c.drop_all.new.self; journal = c.release-in-Err-Store.new.self } in
     let new : Parts _ = record beside { queue = c.step.new.queue } in
-    let so : StepsSo g.D.Disk.told (unpromised parts) new c.args.session hand (stepped.Undone c.fault_of.result c.hand_again.result) =
-    subst (λ (l : List (ℕ × ℕ)). StepsSo g.D.Disk.told (unpromised parts) (record beside { queue = l }) c.args.session hand (stepped.Undone c.fault_of.result c.hand_again.result)) (sym c.in-Err-Store.ensures.queue)
-    (subst (λ (a : Stepped). StepsSo g.D.Disk.told (unpromised parts) beside c.args.session hand a) (sym is)
+    let so : StepsSo g.D.Disk.told (unpromised parts) new c.args.session hand (stepped.Undone c.fault_of.result hand) =
+    subst (λ (l : List (ℕ × ℕ)). StepsSo g.D.Disk.told (unpromised parts) (record beside { queue = l }) c.args.session hand (stepped.Undone c.fault_of.result hand)) (sym c.in-Err-Store.ensures.queue)
+    (subst (λ (f : StoreFault). StepsSo g.D.Disk.told (unpromised parts) beside c.args.session hand (stepped.Undone f hand)) (sym c.fault_of.ensures)
     (undone_so g.D.Disk.told c.one_hand_changes.ensures laws.stores (unpromised parts) c.step.new.pages c.drop_all.new.self c.release-in-Err-Store.new.self c.args.session hand hand undone c.in-Err-Store.error
     (rw c.in-Err-Store.field-0-is at c.in-Err-Store.ensures.outcome))) in
-    let then = put_steps g.D.Disk.told (unpromised parts) new c.args.session c.args.spare.now c.in-Some.insert (stepped.Undone c.fault_of.result c.hand_again.result) c.in-Some.is so in
-    record { steps = then.steps; fit = then.fit; others = then.others; stays = then.stays; cause = then.cause; spare = c.step.ensures.made; survives = c.step.ensures.survives }
+    let then = put_settles g.D.Disk.told (unpromised parts) new c.args.session c.args.spare.now c.in-Some.insert c.undone.new.left c.undone.result c.in-Some.is
+    (record { stepped = stepped.Undone c.fault_of.result hand; so = so; left_is = c.undone.ensures.left ∙ ap (λ (h : Hand). Some h) hand_is; answer_is = c.undone.ensures.fault }) in
+    record { so = then; spare = c.step.ensures.made; survives = c.step.ensures.survives }

@@ -2,7 +2,6 @@ use Rattle.std.proofs.Common.{◌≡◌, [], ◌∷◌, ◌++◌, ◌+◌, ◌<�
 use Rattle.std.specs.Prelude.{IfSome, IsSome, IsSomeAnd}
 use Rattle.std.proofs.lemmas.Bool.{false≢true}
 use Rattle.block_model.specs.declared.reply.Refusal.TheVariants as refusals
-use Rattle.block_model.specs.declared.reply.Reply.{Reply}
 use Rattle.block_model.specs.declared.reply.Reply.TheVariants as replies
 use Rattle.block_model.specs.declared.request.Entry.{Entry}
 use Rattle.block_model.specs.declared.request.Request.TheVariants as requests
@@ -25,13 +24,14 @@ use Rattle.store_parts.specs.declared.parts.Parts.{Parts}
 use Rattle.store_parts.specs.Stepping.{IsFit, IsShown}
 use Rattle.store_parts.specs.UndoneLaws.{StepsSo}
 use Rattle.store_inserts.specs.Promised.{unpromised}
+use Rattle.store_inserts.specs.Settling.{SettlesSo}
 use Rattle.logged_pages.specs.Survives.{Survives}
 use Rattle.tx_table.specs.Durable.{IsBefore}
 use Rattle.tx_table.proofs.Parts.{passed_none}
 use Rattle.store_inserts.proofs.Beside.{past_room, under_way}
 use Rattle.store_inserts.proofs.Refusing.{LeftRefused, leaves_same, share_whole}
 use Rattle.store_inserts.proofs.RowParts.{no_room_so, short_so, unpromised_is}
-use Rattle.store_inserts.proofs.SpareMachine.{of_its_row, row_steps}
+use Rattle.store_inserts.proofs.SpareMachine.{of_its_row, row_settles}
 use Rattle.store_inserts.proofs.row.put_row.Goals as goal
 
 pub returns-in-Err : goal.returns-in-Err
@@ -41,7 +41,7 @@ returns-in-Err g c =
     let fits = c.an_undone_step_changes_nothing.ensures.parts parts c.args.session hand c.requires.fit in
     let so : StepsSo g.D.Disk.told parts parts c.args.session hand (stepped.Undone c.fault_of.result hand) = subst (λ (f : StoreFault). StepsSo g.D.Disk.told parts parts c.args.session hand (stepped.Undone f hand)) (sym c.fault_of.ensures)
     (c.an_undone_step_changes_nothing.ensures.refused parts parts c.args.session hand c.in-Err.error c.requires.fit fits.over (leaves_same g.D.Disk.told parts.pages) (record { transactions = refl; locks = refl; rights = refl; journal = refl; queue = refl; dropped = refl }) c.in-Err.ensures.outcome) in
-    record { steps = so.steps; fit = so.fit; others = so.others; stays = so.stays; cause = so.cause; spare = c.requires.spare; survives = passed_none g.D.Disk.told (IsBefore parts.pages) parts.pages parts.pages c.ready.ensures.stays }
+    record { so = record { stepped = stepped.Undone c.fault_of.result hand; so = so; left_is = c.undone.ensures.left; answer_is = c.undone.ensures.fault }; spare = c.requires.spare; survives = passed_none g.D.Disk.told (IsBefore parts.pages) parts.pages parts.pages c.ready.ensures.stays }
 
 pub returns-then-not-fits : goal.returns-then-not-fits
 returns-then-not-fits g c =
@@ -52,7 +52,7 @@ returns-then-not-fits g c =
     let so : StepsSo g.D.Disk.told parts parts c.args.session hand (stepped.Undone c.spent.result hand) = subst (λ (f : StoreFault). StepsSo g.D.Disk.told parts parts c.args.session hand (stepped.Undone f hand)) (sym c.spent.ensures)
     (c.an_undone_step_changes_nothing.ensures.spent parts c.args.session hand (length parts.journal.entries) c.requires.fit c.in-Ok.ensures.outcome.0 refl
     (λ names hand_list p has tells shown. no_room_so c.steps_of_an_insert.ensures.refusal parts c.args.session c.args.table c.args.values fits.in_hand.1 full names hand_list p has shown)) in
-    record { steps = so.steps; fit = so.fit; others = so.others; stays = so.stays; cause = so.cause; spare = c.requires.spare; survives = passed_none g.D.Disk.told (IsBefore parts.pages) parts.pages parts.pages c.ready.ensures.stays }
+    record { so = record { stepped = stepped.Undone c.spent.result hand; so = so; left_is = c.undone-then-not-fits.ensures.left; answer_is = c.undone-then-not-fits.ensures.fault }; spare = c.requires.spare; survives = passed_none g.D.Disk.told (IsBefore parts.pages) parts.pages parts.pages c.ready.ensures.stays }
 
 pub machine_for-requires-clause-open : goal.machine_for-requires-clause-open
 machine_for-requires-clause-open g c =
@@ -110,15 +110,21 @@ pub returns-in-Ok-machine_for : goal.returns-in-Ok-machine_for
 returns-in-Ok-machine_for g c =
     let parts = c.args.parts.now in
     let before = unpromised_is parts c.machine_for.new.parts c.machine_for.ensures.rest c.machine_for.ensures.entries c.in-Ok-machine_for.ensures.promised in
-    let steps = c.first_step.ensures in
-    let so : StepsSo g.D.Disk.told parts c.first_step.new.parts c.args.session (hands.Puts c.args.table c.args.values) c.first_step.result =
-    subst (λ (q : Parts _). StepsSo g.D.Disk.told q c.first_step.new.parts c.args.session (hands.Puts c.args.table c.args.values) c.first_step.result) before
-    (row_steps g.D.Disk.told (unpromised c.machine_for.new.parts) c.first_step.new.parts c.args.session c.machine_for.new.spare (IsInsertFor parts.pages.layout) c.args.table c.args.values c.first_step.result
-    c.in-Ok-machine_for.ensures.made c.in-Ok-machine_for.ensures.row (record { steps = steps.steps; fit = steps.fit; others = steps.others; stays = steps.stays; cause = steps.cause })) in
-    record { steps = so.steps; fit = so.fit; others = so.others; stays = so.stays; cause = so.cause; spare = subst (λ (q : Parts _). IfSome c.first_step.new.spare (IsInsertFor q.pages.layout)) c.machine_for.ensures.rest steps.spare; survives = subst (λ (q : Parts _). Survives g.D.Disk.told (IsBefore q.pages) q.pages c.first_step.new.parts.pages) c.machine_for.ensures.rest steps.survives }
+    let so : SettlesSo g.D.Disk.told parts c.first_step.new.parts c.args.session (hands.Puts c.args.table c.args.values) c.first_step.new.left c.first_step.result =
+    subst (λ (q : Parts _). SettlesSo g.D.Disk.told q c.first_step.new.parts c.args.session (hands.Puts c.args.table c.args.values) c.first_step.new.left c.first_step.result) before
+    (row_settles g.D.Disk.told (unpromised c.machine_for.new.parts) c.first_step.new.parts c.args.session c.machine_for.new.spare (IsInsertFor parts.pages.layout) c.args.table c.args.values c.first_step.new.left c.first_step.result
+    c.in-Ok-machine_for.ensures.made c.in-Ok-machine_for.ensures.row c.first_step.ensures.so) in
+    record {
+      so = so;
+      spare = subst (λ (q : Parts _). IfSome c.first_step.new.spare (IsInsertFor q.pages.layout)) c.machine_for.ensures.rest c.first_step.ensures.spare;
+      survives = subst (λ (q : Parts _). Survives g.D.Disk.told (IsBefore q.pages) q.pages c.first_step.new.parts.pages) c.machine_for.ensures.rest c.first_step.ensures.survives;
+    }
 
-pub refuse-requires-clause-promised : goal.refuse-requires-clause-promised
-refuse-requires-clause-promised g c =
+pub first_step-requires-clause-left : goal.first_step-requires-clause-left
+first_step-requires-clause-left g c = c.requires.left
+
+pub lacks_memory-requires-clause-promised : goal.lacks_memory-requires-clause-promised
+lacks_memory-requires-clause-promised g c =
     let parts = c.args.parts.now in
     let hand = hands.Puts c.args.table c.args.values in
     let fits = c.an_undone_step_changes_nothing.ensures.parts parts c.args.session hand c.requires.fit in
@@ -128,20 +134,20 @@ refuse-requires-clause-promised g c =
     let same = c.in-Err-machine_for.ensures.same in
     omega (arith, two, enough, same)
 
-pub refuse-requires-clause-open : goal.refuse-requires-clause-open
-refuse-requires-clause-open g c =
+pub lacks_memory-requires-clause-open : goal.lacks_memory-requires-clause-open
+lacks_memory-requires-clause-open g c =
     let parts = c.args.parts.now in
     let fits = c.an_undone_step_changes_nothing.ensures.parts parts c.args.session (hands.Puts c.args.table c.args.values) c.requires.fit in
     let own = under_way (transaction_of parts.transactions.opens c.args.session) fits.in_hand.0 in
     subst (λ (q : Parts _). IsSome (transaction_of q.transactions.opens c.args.session)) (sym c.machine_for.ensures.rest) (subst (λ (t : Option Open). IsSome t) (sym own.is) refl)
 
-pub returns : goal.returns
-returns g c =
+pub returns-in-Err-machine_for : goal.returns-in-Err-machine_for
+returns-in-Err-machine_for g c =
     let parts = c.args.parts.now in
     let hand = hands.Puts c.args.table c.args.values in
     let laws = c.an_undone_step_changes_nothing.ensures in
     let outcome = c.in-Ok.ensures.outcome in
-    let later = c.refuse.new.parts in
+    let later = c.lacks_memory.new.parts in
     let mid = c.machine_for.ensures.rest in
     let fits = laws.parts parts c.args.session hand c.requires.fit in
     let own = under_way (transaction_of parts.transactions.opens c.args.session) fits.in_hand.0 in
@@ -153,18 +159,17 @@ returns g c =
       whole = own.whole;
       leaves = leaves_same g.D.Disk.told parts.pages;
       over = fits.over;
-      failed = (subst (λ (q : Parts _). (o : Open) → transaction_of q.transactions.opens c.args.session ≡ Some o → later.transactions ≡ with_failed q.transactions c.args.session o) mid c.refuse.ensures.failed) own.own own.is;
-      limit = c.refuse.ensures.limit ∙ ap (λ (q : Parts _). q.locks.limit) mid;
-      none = c.refuse.ensures.none;
-      others = λ m other. c.refuse.ensures.counts.others m other ∙ ap (λ (q : Parts _). locks_of q.locks m) mid;
-      entries = c.refuse.ensures.entries ∙ ap (λ (l : List Entry). l ++ tagged_entry c.args.session c.args.table (requests.Put c.args.values) tags.NoMemory ∷ []) c.machine_for.ensures.entries;
-      promised = let one = c.refuse.ensures.promised in let same = c.in-Err-machine_for.ensures.same in omega (arith, one, same);
+      failed = (subst (λ (q : Parts _). (o : Open) → transaction_of q.transactions.opens c.args.session ≡ Some o → later.transactions ≡ with_failed q.transactions c.args.session o) mid c.lacks_memory.ensures.failed) own.own own.is;
+      limit = c.lacks_memory.ensures.limit ∙ ap (λ (q : Parts _). q.locks.limit) mid;
+      none = c.lacks_memory.ensures.none;
+      others = λ m other. c.lacks_memory.ensures.counts.others m other ∙ ap (λ (q : Parts _). locks_of q.locks m) mid;
+      entries = c.lacks_memory.ensures.entries ∙ ap (λ (l : List Entry). l ++ tagged_entry c.args.session c.args.table (requests.Put c.args.values) tags.NoMemory ∷ []) c.machine_for.ensures.entries;
+      promised = let one = c.lacks_memory.ensures.promised in let same = c.in-Err-machine_for.ensures.same in omega (arith, one, same);
       room = c.fits.ensures.0 c.if-not-fits.false;
     } in
-    let so : StepsSo g.D.Disk.told parts later c.args.session hand (stepped.Done c.refuse.result) =
-    subst (λ (r : Reply). StepsSo g.D.Disk.told parts later c.args.session hand (stepped.Done r)) (sym c.refuse.ensures.reply)
-    (subst (λ (q : Parts _). StepsSo g.D.Disk.told parts q c.args.session hand (stepped.Done (replies.Refused refusals.Memory)))
-    (sym (c.refuse.ensures.rest ∙ ap (λ (q : Parts _). record q { transactions = later.transactions; locks = later.locks; journal = later.journal }) mid))
+    let so : StepsSo g.D.Disk.told parts later c.args.session hand (stepped.Done (replies.Refused refusals.Memory)) =
+    subst (λ (q : Parts _). StepsSo g.D.Disk.told parts q c.args.session hand (stepped.Done (replies.Refused refusals.Memory)))
+    (sym (c.lacks_memory.ensures.rest ∙ ap (λ (q : Parts _). record q { transactions = later.transactions; locks = later.locks; journal = later.journal }) mid))
     (short_so g.D.Disk.told c.one_hand_changes.ensures laws.stores c.steps_of_an_insert.ensures.refusal parts parts.pages later.locks later.transactions later.journal c.args.session c.args.table c.args.values tags.NoMemory tt own.own refused
-    (subst (λ (q : Parts _). GivesAll (holder q.locks) (holder later.locks) c.args.session) mid c.refuse.ensures.given) (record { leaves = leaves_same g.D.Disk.told parts.pages; pages = λ tells. refl }) (outcome.0, outcome.1) refl)) in
-    record { steps = so.steps; fit = so.fit; others = so.others; stays = so.stays; cause = so.cause; spare = c.machine_for.ensures.spare; survives = subst (λ (q : Parts _). Survives g.D.Disk.told (IsBefore c.args.parts.now.pages) c.args.parts.now.pages q.pages) (sym (c.refuse.ensures.rest ∙ ap (λ (q : Parts _). record q { transactions = later.transactions; locks = later.locks; journal = later.journal }) mid)) (passed_none g.D.Disk.told (IsBefore parts.pages) parts.pages parts.pages c.ready.ensures.stays) }
+    (subst (λ (q : Parts _). GivesAll (holder q.locks) (holder later.locks) c.args.session) mid c.lacks_memory.ensures.given) (record { leaves = leaves_same g.D.Disk.told parts.pages; pages = λ tells. refl }) (outcome.0, outcome.1) refl) in
+    record { so = record { stepped = stepped.Done (replies.Refused refusals.Memory); so = so; left_is = c.requires.left; answer_is = c.lacks_memory.ensures.reply }; spare = c.machine_for.ensures.spare; survives = subst (λ (q : Parts _). Survives g.D.Disk.told (IsBefore c.args.parts.now.pages) c.args.parts.now.pages q.pages) (sym (c.lacks_memory.ensures.rest ∙ ap (λ (q : Parts _). record q { transactions = later.transactions; locks = later.locks; journal = later.journal }) mid)) (passed_none g.D.Disk.told (IsBefore parts.pages) parts.pages parts.pages c.ready.ensures.stays) }

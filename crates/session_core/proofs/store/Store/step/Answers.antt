@@ -1,13 +1,16 @@
-use Rattle.std.proofs.Common.{◌≡◌, List, set, Option, None, IfSome, sym, ap, subst, ◌∙◌, arith}
-use Rattle.std.proofs.lemmas.List.{set-set}
+use Rattle.std.proofs.Common.{set, Option, IfSome, IsSome, Result, refl, sym, ap, subst, ◌∙◌, arith}
 use Rattle.brin_insert.specs.declared.insert.Insert.{Insert}
 use Rattle.brin_insert.specs.Inserts.{IsInsertFor}
+use Rattle.store_parts.specs.declared.faults.Step.{Step}
+use Rattle.store_parts.specs.declared.faults.StoreFault.{StoreFault}
 use Rattle.store_parts.specs.declared.hand.Hand.{Hand}
 use Rattle.store_parts.specs.StepIs.{answer_of, hand_after}
-use Rattle.store_parts.specs.StoreStates.{store_of, with_hand}
-use Rattle.session_core.specs.SessionLists.{hands_of, names_of, spare_in, spares_of}
+use Rattle.store_parts.specs.StoreStates.{StoreState, hand_at, hand_in, store_of, with_hand}
+use Rattle.session_core.specs.declared.sessions.Session.{Session}
+use Rattle.session_core.specs.SessionLists.{hands_of, names_of, spares_of}
+use Rattle.session_core.specs.Stops.{StopsSo}
 use Rattle.session_core.proofs.Kept.{few_each, kept_as, none_beyond, session_below}
-use Rattle.session_core.proofs.Lists.{stands}
+use Rattle.session_core.proofs.Lists.{hand_here, hands_changed, in_list, names_kept, spare_here, spares_changed}
 use Rattle.session_core.proofs.Stepping.{is_step, kept_behind, step_as}
 use Rattle.session_core.proofs.store.Store.step.Goals as goal
 
@@ -21,66 +24,72 @@ few_locks_are_held-requires-clause-few g c =
     let items = c.self.inside.sessions.items in
     few_each g.D.Disk.told c.laws_of_sessions.ensures c.self.inside.parts (names_of items) (hands_of items) (spares_of items) c.self.invariant
 
-pub step_of-stepped-requires-clause-fit : goal.step_of-stepped-requires-clause-fit
-step_of-stepped-requires-clause-fit g c =
+pub taken-hand-requires : goal.taken-hand-requires
+taken-hand-requires g c =
     let items = c.self.inside.sessions.items in
-    let there = session_below g.D.Disk.told c.laws_of_sessions.ensures c.self.inside.parts (names_of items) (hands_of items) (spares_of items) c.self.invariant c.args.session c.take_hand-hand.result c.take_hand-hand.ensures.hand in
-    (names_of items, hands_of items, c.take_hand-hand.ensures.hand, c.self.invariant.fits c.args.session (omega (arith, there, c.self.invariant.few_sessions)))
+    let some : IsSome (hand_in (hands_of items) c.args.session) = subst (λ (s : StoreState _). IsSome (hand_at s c.args.session)) (sym c.self.view_is) c.requires in
+    subst (λ (h : Option Hand). IsSome h) (hand_here items c.args.session c.index_mut-own.result.now c.index_mut-own.ensures.value (in_list items c.args.session some)) some
 
-pub step_of-stepped-requires-clause-spare : goal.step_of-stepped-requires-clause-spare
-step_of-stepped-requires-clause-spare g c =
-    let is : c.take_spare-spare.result ≡ spare_in (spares_of c.self.inside.sessions.items) c.args.session =
-    c.take_spare-spare.ensures.spare ∙ ap (λ (l : List (Option Insert)). spare_in l c.args.session) c.take_hand-hand.ensures.spares in
-    subst (λ (o : Option Insert). IfSome o (IsInsertFor c.self.inside.parts.pages.layout)) (sym is) (c.self.invariant.spare c.args.session)
-
-pub put_spare-requires : goal.put_spare-requires
-put_spare-requires g c =
+pub step_of-requires-clause-fit : goal.step_of-requires-clause-fit
+step_of-requires-clause-fit g c =
     let items = c.self.inside.sessions.items in
-    let there = session_below g.D.Disk.told c.laws_of_sessions.ensures c.self.inside.parts (names_of items) (hands_of items) (spares_of items) c.self.invariant c.args.session c.take_hand-hand.result c.take_hand-hand.ensures.hand in
-    stands c.take_spare-spare.new.sessions.items (names_of items) c.args.session (c.take_spare-spare.ensures.names ∙ c.take_hand-hand.ensures.names) there
+    let n = c.args.session in
+    let some : IsSome (hand_in (hands_of items) n) = subst (λ (s : StoreState _). IsSome (hand_at s n)) (sym c.self.view_is) c.requires in
+    let was = hand_here items n c.index_mut-own.result.now c.index_mut-own.ensures.value (in_list items n some) ∙ c.taken-hand.ensures.was in
+    let there = session_below g.D.Disk.told c.laws_of_sessions.ensures c.self.inside.parts (names_of items) (hands_of items) (spares_of items) c.self.invariant n c.taken-hand.result was in
+    (names_of items, hands_of items, was, c.self.invariant.fits n (omega (arith, there, c.self.invariant.few_sessions)))
 
-pub put_hand-requires : goal.put_hand-requires
-put_hand-requires g c =
+pub step_of-requires-clause-shown : goal.step_of-requires-clause-shown
+step_of-requires-clause-shown g c =
     let items = c.self.inside.sessions.items in
-    let there = session_below g.D.Disk.told c.laws_of_sessions.ensures c.self.inside.parts (names_of items) (hands_of items) (spares_of items) c.self.invariant c.args.session c.take_hand-hand.result c.take_hand-hand.ensures.hand in
-    stands c.put_spare.new.sessions.items (names_of items) c.args.session (c.put_spare.ensures.names ∙ c.take_spare-spare.ensures.names ∙ c.take_hand-hand.ensures.names) there
+    let n = c.args.session in
+    let some : IsSome (hand_in (hands_of items) n) = subst (λ (s : StoreState _). IsSome (hand_at s n)) (sym c.self.view_is) c.requires in
+    let was = hand_here items n c.index_mut-own.result.now c.index_mut-own.ensures.value (in_list items n some) ∙ c.taken-hand.ensures.was in
+    λ tells ready. (names_of items, hands_of items, was, c.self.invariant.shown tells ready)
+
+pub step_of-requires-clause-left : goal.step_of-requires-clause-left
+step_of-requires-clause-left g c = c.taken-hand.ensures.empty
+
+pub step_of-requires-clause-spare : goal.step_of-requires-clause-spare
+step_of-requires-clause-spare g c =
+    let items = c.self.inside.sessions.items in
+    let n = c.args.session in
+    let some : IsSome (hand_in (hands_of items) n) = subst (λ (s : StoreState _). IsSome (hand_at s n)) (sym c.self.view_is) c.requires in
+    subst (λ (o : Option Insert). IfSome o (IsInsertFor c.self.inside.parts.pages.layout))
+    (spare_here items n c.index_mut-own.result.now c.index_mut-own.ensures.value (in_list items n some)) (c.self.invariant.spare n)
 
 pub invariant_of-self : goal.invariant_of-self
 invariant_of-self g c =
     let items = c.self.inside.sessions.items in
     let n = c.args.session in
-    let answer = c.step_of-stepped.result in
-    let spare = c.step_of-stepped.new.spare in
-    let names : names_of c.put_hand.new.sessions.items ≡ names_of items = c.put_hand.ensures.names ∙ c.put_spare.ensures.names ∙ c.take_spare-spare.ensures.names ∙ c.take_hand-hand.ensures.names in
-    let hands : hands_of c.put_hand.new.sessions.items ≡ with_hand (hands_of items) n (hand_after answer) =
-    c.put_hand.ensures.hands
-    ∙ ap (λ (l : List (Option Hand)). set l n c.answered-answer.result.1) (c.put_spare.ensures.hands ∙ c.take_spare-spare.ensures.hands ∙ c.take_hand-hand.ensures.hands)
-    ∙ set-set (hands_of items) n None c.answered-answer.result.1
-    ∙ ap (λ (h : Option Hand). set (hands_of items) n h) c.answered-answer.ensures.hand in
-    let spares : spares_of c.put_hand.new.sessions.items ≡ set (spares_of items) n spare =
-    c.put_hand.ensures.spares ∙ c.put_spare.ensures.spares
-    ∙ ap (λ (l : List (Option Insert)). set l n spare) (c.take_spare-spare.ensures.spares ∙ ap (λ (l : List (Option Insert)). set l n None) c.take_hand-hand.ensures.spares)
-    ∙ set-set (spares_of items) n None spare in
-    kept_as g.D.Disk.told c.step_of-stepped.new.parts (names_of items) (names_of c.put_hand.new.sessions.items) (with_hand (hands_of items) n (hand_after answer)) (hands_of c.put_hand.new.sessions.items)
-    (set (spares_of items) n spare) (spares_of c.put_hand.new.sessions.items) names hands spares
-    (kept_behind g.D.Disk.told c.laws_of_sessions.ensures c.self.inside.parts (names_of items) (hands_of items) (spares_of items) c.self.invariant c.step_of-stepped.new.parts n c.take_hand-hand.result
-    c.take_hand-hand.ensures.hand answer c.step_of-stepped.ensures.so spare c.step_of-stepped.ensures.spare)
+    let own = c.index_mut-own.result.now in
+    let now : Session = record own { hand = c.step_of.new.left; spare = c.step_of.new.spare } in
+    let made = c.step_of.ensures.so in
+    let some : IsSome (hand_in (hands_of items) n) = subst (λ (s : StoreState _). IsSome (hand_at s n)) (sym c.self.view_is) c.requires in
+    let was = hand_here items n own c.index_mut-own.ensures.value (in_list items n some) ∙ c.taken-hand.ensures.was in
+    let names = names_kept items n own now c.index_mut-own.ensures.value refl in
+    let hands = hands_changed items n now ∙ ap (λ (h : Option Hand). set (hands_of items) n h) made.left_is in
+    kept_as g.D.Disk.told c.step_of.new.parts (names_of items) (names_of (set items n now)) (with_hand (hands_of items) n (hand_after made.stepped)) (hands_of (set items n now))
+    (set (spares_of items) n now.spare) (spares_of (set items n now)) names hands (spares_changed items n now)
+    (kept_behind g.D.Disk.told c.laws_of_sessions.ensures c.self.inside.parts (names_of items) (hands_of items) (spares_of items) c.self.invariant c.step_of.new.parts n c.taken-hand.result
+    was made.stepped made.so now.spare c.step_of.ensures.spare)
 
 pub returns : goal.returns
 returns g c =
     let items = c.self.inside.sessions.items in
     let n = c.args.session in
-    let answer = c.step_of-stepped.result in
-    let names : names_of c.put_hand.new.sessions.items ≡ names_of items = c.put_hand.ensures.names ∙ c.put_spare.ensures.names ∙ c.take_spare-spare.ensures.names ∙ c.take_hand-hand.ensures.names in
-    let hands : hands_of c.put_hand.new.sessions.items ≡ with_hand (hands_of items) n (hand_after answer) =
-    c.put_hand.ensures.hands
-    ∙ ap (λ (l : List (Option Hand)). set l n c.answered-answer.result.1) (c.put_spare.ensures.hands ∙ c.take_spare-spare.ensures.hands ∙ c.take_hand-hand.ensures.hands)
-    ∙ set-set (hands_of items) n None c.answered-answer.result.1
-    ∙ ap (λ (h : Option Hand). set (hands_of items) n h) c.answered-answer.ensures.hand in
-    let step = step_as g.D.Disk.told c.args.self.now (store_of c.self.inside.parts (names_of items) (hands_of items)) c.step_of-stepped.new.parts (names_of items) (names_of c.put_hand.new.sessions.items)
-    (with_hand (hands_of items) n (hand_after answer)) (hands_of c.put_hand.new.sessions.items) n (answer_of answer) c.answered-answer.result.0 c.self.view_is names hands c.answered-answer.ensures.answer
-    (is_step g.D.Disk.told c.laws_of_sessions.ensures c.self.inside.parts (names_of items) (hands_of items) (spares_of items) c.self.invariant c.step_of-stepped.new.parts n c.take_hand-hand.result
-    c.take_hand-hand.ensures.hand answer c.step_of-stepped.ensures.so) in
+    let own = c.index_mut-own.result.now in
+    let now : Session = record own { hand = c.step_of.new.left; spare = c.step_of.new.spare } in
+    let made = c.step_of.ensures.so in
+    let some : IsSome (hand_in (hands_of items) n) = subst (λ (s : StoreState _). IsSome (hand_at s n)) (sym c.self.view_is) c.requires in
+    let was = hand_here items n own c.index_mut-own.ensures.value (in_list items n some) ∙ c.taken-hand.ensures.was in
+    let names = names_kept items n own now c.index_mut-own.ensures.value refl in
+    let hands = hands_changed items n now ∙ ap (λ (h : Option Hand). set (hands_of items) n h) made.left_is in
+    let stops = subst (λ (answer : Result Step StoreFault). StopsSo g.D.Disk.told c.self.inside.parts.transactions n c.self.inside.parts.pages c.step_of.new.parts.pages c.taken-hand.result answer) made.answer_is c.step_of.ensures.survives in
+    let step = step_as g.D.Disk.told c.args.self.now (store_of c.self.inside.parts (names_of items) (hands_of items)) c.step_of.new.parts (names_of items) (names_of (set items n now))
+    (with_hand (hands_of items) n (hand_after made.stepped)) (hands_of (set items n now)) n (answer_of made.stepped) c.step_of.result c.self.view_is names hands made.answer_is
+    (is_step g.D.Disk.told c.laws_of_sessions.ensures c.self.inside.parts (names_of items) (hands_of items) (spares_of items) c.self.invariant c.step_of.new.parts n c.taken-hand.result
+    was made.stepped made.so stops) in
     record {
       steps = step.steps;
       hand = step.hand;
@@ -89,6 +98,7 @@ returns g c =
       others = step.others;
       statement = step.statement;
       still = step.still;
+      survives = step.survives;
       leaves = step.leaves;
       journal = step.journal;
       ready = step.ready;

@@ -1,0 +1,3 @@
+pub mod FoundTable
+pub mod FoundLaws
+pub mod StopLaws
