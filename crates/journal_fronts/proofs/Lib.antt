@@ -1,10 +1,10 @@
 mod Openings
 mod Rows
 mod Steps
-mod Numbers
+pub mod Numbers
 mod Splits
-mod Fronts
-mod Commits
+pub mod Fronts
+pub mod Commits
 mod Copies
 mod Oldest
 mod Taken

@@ -50,7 +50,7 @@ use Rattle.store_parts.specs.declared.hand.Hit.{Hit}
 use Rattle.store_parts.specs.declared.hand.Marking.{Marking}
 use Rattle.store_parts.specs.HandFits.{FitsHand, IsHandFor}
 use Rattle.store_parts.specs.Hands.{HandShows, hits_left, ids_of, statement_of}
-use Rattle.store_parts.specs.HandsInTables.{InItsTable, IsDesummariseAt, IsExplainAt, IsMarkingAt, IsScanBy, IsSummariseAt, IsTaskOf}
+use Rattle.store_parts.specs.HandsInTables.{InItsTable, IsDesummariseAt, IsExplainAt, IsMarkingBy, IsScanBy, IsSummariseAt, IsTaskOf}
 use Rattle.store_parts.specs.ShowsPlace.{ShowsPlace}
 use Rattle.store_parts.specs.StoreStates.{StoreState, hand_at}
 use Rattle.session_core.specs.Ending.{GoesWithin}
@@ -125,6 +125,10 @@ module _ (layout : DiskLayout) (sizes : HasBoundedSizes layout) (table : ℕ) (b
   find_bounded (Some o) deletes hand task of goes is =
       subst IsTaskBounded (sym is.task_is) (scan_bounded layout hand.judging (scanning is.sees is.judged deletes hand) hand.judging.stage (extent_low hand.judging of goes))
 
+  marks_bounded : (transaction : Option Open) (marking : Marking) (task : Task) → IsMarkingBy tx stored transaction blocks marking task → IsTaskBounded task
+  marks_bounded None marking task is = absurd is
+  marks_bounded (Some o) marking task is = subst IsTaskBounded (sym is.task_is) (few_left marking)
+
   task_bounded : (hand : Hand) (task : Task) → IsHandFor layout own hand → GoesWithin hand → IsTaskOf layout table blocks tx stored own (Some hand) task → IsTaskBounded task
   task_bounded (hands.Begins numbers) task fit goes is = subst IsTaskBounded (sym is) tt
   task_bounded hands.Commits task fit goes is = subst IsTaskBounded (sym is) tt
@@ -139,7 +143,7 @@ module _ (layout : DiskLayout) (sizes : HasBoundedSizes layout) (table : ℕ) (b
   task_bounded (hands.Deletes scan) task fit goes is =
       in_its_table scan.judging.query.table table (IsScanBy layout blocks tx stored own true scan task) task is (λ here. find_bounded own true scan task fit.1.judging goes here)
   task_bounded (hands.Marks marking) task fit goes is =
-      in_its_table marking.query.table table (IsMarkingAt blocks marking task) task is (λ here. subst IsTaskBounded (sym here.task_is) (few_left marking))
+      in_its_table marking.query.table table (IsMarkingBy tx stored own blocks marking task) task is (λ here. marks_bounded own marking task here)
   task_bounded (hands.Explains explain) task fit goes is =
       in_its_table explain.judging.query.table table (IsExplainAt layout explain.judging task) task is
       (λ here. subst IsTaskBounded (sym here.1) (scan_bounded layout explain.judging (explaining here.0) explain.judging.stage (extent_low explain.judging fit.0 goes)))

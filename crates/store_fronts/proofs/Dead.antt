@@ -53,10 +53,10 @@ use Rattle.journal_fronts.specs.UnseenRows.{DeadRowsAreUnseen, IsUnseen}
 use Rattle.store_parts.specs.ShowsPlace.{IsPlaceOf}
 use Rattle.store_parts.specs.StoreStates.{ShownStore}
 use Rattle.store_fronts.specs.DeadToAll.{DeadToAllIsDead, DropsTheDeadByJournal, living_of, snapshots_of}
-use Rattle.store_fronts.specs.FrontsStand.{FrontsStand}
+use Rattle.status_fronts.specs.FrontsStand.{FrontsStand}
 use Rattle.store_fronts.proofs.Fronts.{goes_on}
-use Rattle.store_fronts.proofs.Rows.{row_is_version, version_is_row}
-use Rattle.store_fronts.proofs.Snapshots.{StandsIn, is_of_open, is_open, its_front}
+use Rattle.status_fronts.proofs.Rows.{row_is_version, version_is_row}
+use Rattle.status_fronts.proofs.Snapshots.{StandsIn, is_of_open, is_open, its_front}
 
 -- ---- statuses
 
@@ -101,7 +101,7 @@ each_snapshot (Some x ∷ os) test all (suc n) o was = each_snapshot os test (an
 
 -- ---- a row of a table
 
-module _ (s : ShownStore) (p : Place) (shown : IsPlaceOf s p) (stands : FrontsStand s.layout s.pages s.transactions shown.database.stored p) (table : ℕ) (spot : Spot) (row : StoredRow) (below : table < length s.layout.schema.tables)
+module _ (s : ShownStore) (p : Place) (shown : IsPlaceOf s p) (table : ℕ) (spot : Spot) (row : StoredRow) (below : table < length s.layout.schema.tables)
     (there : StandsAt s.layout s.pages table spot row) where
   abbrev t : TransactionsState
   t = s.transactions
@@ -111,6 +111,9 @@ module _ (s : ShownStore) (p : Place) (shown : IsPlaceOf s p) (stands : FrontsSt
 
   abbrev shows : ShowsDatabase s.layout s.pages t db
   shows = shown.database
+
+  abbrev stands : FrontsStand s.layout s.pages t shows.stored p
+  stands = shown.fronts
 
   abbrev have : HaveTransactions t db
   have = sessions_shown s.layout s.pages t db shows
@@ -327,14 +330,14 @@ pub record JournalLaws : Type 0 where
   pub unseen : DeadRowsAreUnseen
 
 pub dead_to_all : JournalLaws → DeadToAllIsDead
-dead_to_all laws s p table spot row shown stands below there = (
-  dead_to_all_is_dead s p shown stands table spot row below there laws.numbers laws.copies laws.oldest laws.by_front,
-  dead_is_dead_to_all s p shown stands table spot row below there laws.began laws.numbers laws.unseen,
+dead_to_all laws s p table spot row shown below there = (
+  dead_to_all_is_dead s p shown table spot row below there laws.numbers laws.copies laws.oldest laws.by_front,
+  dead_is_dead_to_all s p shown table spot row below there laws.began laws.numbers laws.unseen,
 )
 
 -- ---- the rows of a block that go
 
-module _ (laws : JournalLaws) (s : ShownStore) (p : Place) (table block : ℕ) (blocks blocked : List (List Slot)) (shown : IsPlaceOf s p) (stands : FrontsStand s.layout s.pages s.transactions shown.database.stored p) (below : table < length s.layout.schema.tables)
+module _ (laws : JournalLaws) (s : ShownStore) (p : Place) (table block : ℕ) (blocks blocked : List (List Slot)) (shown : IsPlaceOf s p) (below : table < length s.layout.schema.tables)
     (has : HasBlocks s.layout s.pages table blocks) (drops : DropsTheDead (living_of s.transactions shown.database.stored) blocks blocked block) (k : ℕ) where
   abbrev x : Spot
   x = record { block = block; slot = k }
@@ -343,7 +346,7 @@ module _ (laws : JournalLaws) (s : ShownStore) (p : Place) (table block : ℕ) (
   row_of row = record { table = table; id = row.id; values = row.values }
 
   is_dead_by : (row : StoredRow) → slot_at blocks x ≡ Some row → IsTrue (is_dead (living_of s.transactions shown.database.stored) row) ↔ IsDead p row.id
-  is_dead_by row there = dead_to_all laws s p table x row shown stands below (record { blocks = blocks; has = has; there = there })
+  is_dead_by row there = dead_to_all laws s p table x row shown below (record { blocks = blocks; has = has; there = there })
 
   gone_is_dead : (before after : Slot) → slot_at blocks x ≡ before → slot_at blocked x ≡ after → IsTrue (has_gone (row_in table before) (row_in table after)) → (r : Row) × (row_in table before ≡ Some r) × IsDead p r.id
   gone_is_dead None after was is gone = absurd (false≢true gone)
@@ -365,4 +368,4 @@ module _ (laws : JournalLaws) (s : ShownStore) (p : Place) (table block : ℕ) (
   )
 
 pub drops_by_journal : JournalLaws → DropsTheDeadByJournal
-drops_by_journal laws s p table block blocks blocked shown stands below has drops k = drops_dead laws s p table block blocks blocked shown stands below has drops k
+drops_by_journal laws s p table block blocks blocked shown below has drops k = drops_dead laws s p table block blocks blocked shown below has drops k

@@ -1,13 +1,4 @@
-mod Following
-mod Snapshots
-mod Statuses
-mod Within
-mod Beginning
-mod Ending
-mod Starting
-mod Rows
 mod Fronts
 mod Dead
 mod Wanted
 mod Watching
-mod SeenBefore

@@ -12,6 +12,7 @@ use Rattle.heap_rows.specs.RowPlaces.{slot_at}
 use Rattle.snapshot_core.specs.declared.statuses.Status.{Status}
 use Rattle.row_versions.specs.declared.sessions.Open.{Open}
 use Rattle.tx_table.specs.TxState.{TxState}
+use Rattle.transactions.specs.GivenStatuses.{given_status}
 use Rattle.range_tuple.specs.TupleBytes.{tuple_bytes}
 use Rattle.coverage.specs.Knowing.{Knows}
 use Rattle.coverage.specs.Statements.{Empty, OnIndex, Statement}
@@ -40,10 +41,12 @@ use Rattle.brin_summarise.specs.declared.wish.Wish.{Wish}
 use Rattle.brin_summarise.specs.declared.wish.Wish.TheVariants as wishes
 use Rattle.brin_summarise.specs.Summarises.{SummariseState}
 use Rattle.brin_summarise.specs.TableSteps as summarises
+use Rattle.status_fronts.specs.SeenBefore.{WasSeenBy}
 use Rattle.store_parts.specs.declared.hand.Hand.{Hand}
 use Rattle.store_parts.specs.declared.hand.Hand.TheVariants as hands
+use Rattle.store_parts.specs.declared.hand.Marking.{Marking}
 use Rattle.store_parts.specs.Hands.{hits_left, ids_of}
-use Rattle.store_parts.specs.HandsInTables.{InItsTable, IsDesummariseAt, IsExplainAt, IsMarkingAt, IsScanBy, IsSummariseAt, IsTaskOf, sight_of}
+use Rattle.store_parts.specs.HandsInTables.{InItsTable, IsDesummariseAt, IsExplainAt, IsMarkingBy, IsScanBy, IsSummariseAt, IsTaskOf, sight_of}
 
 -- an insert of that row at that place, at an index or before it asks for a summary there
 abbrev pub IsInsertingAt : (b k : ℕ) → Row → (at : ℕ) → Task → Type 0
@@ -62,12 +65,15 @@ pub record IsSeenBy (blocks : List (List Slot)) (tx : TxState) (stored : List St
   pub is : transaction ≡ Some own
   pub seen : (row : StoredRow) → slot_at blocks (record { block = b; slot = k }) ≡ Some row → IsTrue (sees_stored (sight_of tx stored own) row)
 
--- a delete that marks saw it
-pub record IsSeenInMarks (b k : ℕ) (task : Task) : Type 0 where
+-- a delete that marks saw it, and so did its session's transaction before its own deletes
+pub record IsSeenInMarks (blocks : List (List Slot)) (tx : TxState) (stored : List Status) (transaction : Option Open) (b k : ℕ) (task : Task) : Type 0 where
   pub scan : TableScan
   pub ids : List RowId
   pub is : task ≡ Marks scan ids
   pub sees : IsTrue (scan.sees b k)
+  pub own : Open
+  pub own_is : transaction ≡ Some own
+  pub saw : (row : StoredRow) → slot_at blocks (record { block = b; slot = k }) ≡ Some row → WasSeenBy (given_status tx.first stored) own row
 
 nothing : ⊥ ⊎ ⊥ → ⊥
 nothing wants = elim wants [ inl none ↦ none | inr none ↦ none ]
@@ -144,7 +150,7 @@ module _ (b k : ℕ) where
   module _ (layout : DiskLayout) (table : ℕ) (blocks : List (List Slot)) (tx : TxState) (stored : List Status) (task : Task) where
     -- what is told of a place that the statement in hand wants
     abbrev pub TellsWho : Option Open → Option Hand → Type 0
-    TellsWho transaction hand = (HasPut b k task → IsPutBy hand b k task) × (SeesPlace b k task → IsSeenBy blocks tx stored transaction b k ⊎ IsSeenInMarks b k task)
+    TellsWho transaction hand = (HasPut b k task → IsPutBy hand b k task) × (SeesPlace b k task → IsSeenBy blocks tx stored transaction b k ⊎ IsSeenInMarks blocks tx stored transaction b k task)
 
     wants_none : {transaction : Option Open} {hand : Option Hand} → (Wants task → ⊥) → TellsWho transaction hand
     wants_none none = (λ has. absurd (none (inl has)), λ sees. absurd (none (inr sees)))
@@ -173,8 +179,22 @@ module _ (b k : ℕ) where
           inl (record { own = o; is = refl; seen = λ row there. sym (at.now b k row there) ∙ so }),
     )
 
-    by_marks : {transaction : Option Open} {hand : Option Hand} (scan : TableScan) (ids : List RowId) → task ≡ Marks scan ids → TellsWho transaction hand
-    by_marks scan ids is = (λ has. absurd (subst (HasPut b k) is has), λ sees. inr (record { scan = scan; ids = ids; is = is; sees = subst (SeesPlace b k) is sees }))
+    by_marks : {hand : Option Hand} (transaction : Option Open) (marking : Marking) → IsMarkingBy tx stored transaction blocks marking task → TellsWho transaction hand
+    by_marks None marking at = absurd at
+    by_marks (Some o) marking at = (
+      λ has. absurd (subst (HasPut b k) at.task_is has),
+      λ sees.
+          let so = subst (SeesPlace b k) at.task_is sees in
+          inr (record {
+            scan = at.scan;
+            ids = ids_of (hits_left marking);
+            is = at.task_is;
+            sees = so;
+            own = o;
+            own_is = refl;
+            saw = λ row there. at.saw (record { block = b; slot = k }) row there so;
+          }),
+    )
 
     by_explain : {transaction : Option Open} {hand : Option Hand} (scan : ScanHand) → IsExplainAt layout scan task → TellsWho transaction hand
     by_explain scan at = (
@@ -200,7 +220,7 @@ module _ (b k : ℕ) where
     tells_who transaction (Some (hands.Deleting query)) at = at_rest at
     tells_who transaction (Some (hands.Deletes scan)) at = in_own scan.judging.query.table (IsScanBy layout blocks tx stored transaction true scan task) (by_scan transaction true scan) at
     tells_who transaction (Some (hands.Marks marking)) at =
-        in_own marking.query.table (IsMarkingAt blocks marking task) (λ (there : IsMarkingAt blocks marking task). by_marks there.scan (ids_of (hits_left marking)) there.task_is) at
+        in_own marking.query.table (IsMarkingBy tx stored transaction blocks marking task) (by_marks transaction marking) at
     tells_who transaction (Some (hands.Explains explain)) at = in_own explain.judging.query.table (IsExplainAt layout explain.judging task) (by_explain explain.judging) at
     tells_who transaction (Some (hands.Summarises a)) at = in_own (index_at layout a.index).table (IsSummariseAt layout a task) (by_summarise a) at
     tells_who transaction (Some (hands.Desummarises a)) at = in_own (index_at layout a.index).table (IsDesummariseAt layout a task) (by_desummarise a) at

@@ -37,7 +37,7 @@ use Rattle.store_parts.specs.declared.hand.Hand.TheVariants as hands
 use Rattle.store_parts.specs.ShowsPlace.{IsPlaceOf, IsRowOf, ShowsTable, is_put}
 use Rattle.store_parts.specs.StoreStates.{ShownStore, hand_in}
 use Rattle.store_fronts.specs.DeadToAll.{living_of, snapshots_of}
-use Rattle.store_fronts.specs.Watched.{MarkedAreSeen, MarkedAreSpared, OwnDeleteIsUnseen, SeenBeforeIsSpared, TableIsSpared, TableIsWatched}
+use Rattle.store_fronts.specs.Watched.{MarkedAreSeen, OwnDeleteIsUnseen, SeenBeforeIsSpared, TableIsSpared, TableIsWatched}
 use Rattle.store_fronts.proofs.Dead.{each_snapshot}
 use Rattle.store_fronts.proofs.Wanted.{IsPutBy, IsSeenBy, TellsWho, put_stands, tells_who}
 
@@ -191,22 +191,21 @@ module _ (s : ShownStore) (p : Place) (n table block : ℕ) (w : TableState) (sh
       let undone : has_done o.snapshot o.t row.deleter (status row.deleter) ≡ false = false_from_not (has_done o.snapshot o.t row.deleter (status row.deleter)) parts.1 in
       seen_before_is_spared s p m o row shown seen.is (record { put = parts.0; undeleted = (or_parts (eqb row.deleter o.t) (in_snapshot o.snapshot row.deleter (status row.deleter)) undone).1 })
 
-  module _ (marked : MarkedAreSpared live n shows.blocks shows.unseen) where
-    wanted_spared : (m : ℕ) (x : Spot) (row : StoredRow) → m ≢ n → slot_at shows.blocks x ≡ Some row → HasPut x.block x.slot (shows.unseen.task m) ⊎ SeesPlace x.block x.slot (shows.unseen.task m) → is_dead live row ≡ false
-    wanted_spared m x row other there wants = elim wants [
-      | inl has ↦ put_spared m x row there ((who s p table w shown shows below m x).0 has)
-      | inr sees ↦ elim ((who s p table w shown shows below m x).1 sees) [ inl seen ↦ seen_spared m x row there seen | inr marks ↦ marked m marks.scan marks.ids x row other marks.is there marks.sees ]
-    ]
+  wanted_spared : (m : ℕ) (x : Spot) (row : StoredRow) → m ≢ n → slot_at shows.blocks x ≡ Some row → HasPut x.block x.slot (shows.unseen.task m) ⊎ SeesPlace x.block x.slot (shows.unseen.task m) → is_dead live row ≡ false
+  wanted_spared m x row other there wants = elim wants [
+    | inl has ↦ put_spared m x row there ((who s p table w shown shows below m x).0 has)
+    | inr sees ↦ elim ((who s p table w shown shows below m x).1 sees) [ inl seen ↦ seen_spared m x row there seen | inr marks ↦ seen_before_is_spared s p m marks.own row shown marks.own_is (marks.saw row there) ]
+  ]
 
-    by_slots : (blocked : List (List Slot)) → DropsTheDead live shows.blocks blocked block → (m b k : ℕ) → m ≢ n → (before after : Slot) → slot_at shows.blocks (record { block = b; slot = k }) ≡ before → slot_at blocked (record { block = b; slot = k }) ≡ after
-        → IsTrue (has_gone (row_in table before) (row_in table after)) → HasPut b k (shows.unseen.task m) ⊎ SeesPlace b k (shows.unseen.task m) → ⊥
-    by_slots blocked drops m b k other None after was is gone wants = false≢true gone
-    by_slots blocked drops m b k other (Some row) (Some now) was is gone wants = false≢true gone
-    by_slots blocked drops m b k other (Some row) None was is gone wants =
-        let x : Spot = record { block = b; slot = k } in
-        false≢true (sym (wanted_spared m x row other was wants) ∙ (drops.gone x row was is).1)
+  by_slots : (blocked : List (List Slot)) → DropsTheDead live shows.blocks blocked block → (m b k : ℕ) → m ≢ n → (before after : Slot) → slot_at shows.blocks (record { block = b; slot = k }) ≡ before → slot_at blocked (record { block = b; slot = k }) ≡ after
+      → IsTrue (has_gone (row_in table before) (row_in table after)) → HasPut b k (shows.unseen.task m) ⊎ SeesPlace b k (shows.unseen.task m) → ⊥
+  by_slots blocked drops m b k other None after was is gone wants = false≢true gone
+  by_slots blocked drops m b k other (Some row) (Some now) was is gone wants = false≢true gone
+  by_slots blocked drops m b k other (Some row) None was is gone wants =
+      let x : Spot = record { block = b; slot = k } in
+      false≢true (sym (wanted_spared m x row other was wants) ∙ (drops.gone x row was is).1)
 
 pub table_is_spared : TableIsSpared
-table_is_spared s p n table block w paged locked blocked shown shows below drops marked m b k other gone wants =
+table_is_spared s p n table block w paged locked blocked shown shows below drops m b k other gone wants =
     let x : Spot = record { block = b; slot = k } in
-    by_slots s p n table block w shown shows below marked blocked drops m b k other (slot_at shows.blocks x) (slot_at blocked x) refl refl gone wants
+    by_slots s p n table block w shown shows below blocked drops m b k other (slot_at shows.blocks x) (slot_at blocked x) refl refl gone wants

@@ -17,7 +17,6 @@ use Rattle.line_texts.specs.DeadRows.{IsDead}
 use Rattle.line_texts.specs.Place.{Place}
 use Rattle.store_parts.specs.ShowsPlace.{IsPlaceOf}
 use Rattle.store_parts.specs.StoreStates.{ShownStore}
-use Rattle.store_fronts.specs.FrontsStand.{FrontsStand}
 
 -- the snapshots of the open transactions
 abbrev pub snapshots_of : List (Option Open) → List Snapshot
@@ -32,12 +31,12 @@ living_of t stored = living (snapshots_of t.opens) t.tx.first stored
 -- of the rows that stand in a table of a store
 abbrev pub DeadToAllIsDead : Type 0
 DeadToAllIsDead = (s : ShownStore) (p : Place) (table : ℕ) (spot : Spot) (row : StoredRow) → (shown : IsPlaceOf s p)
-    → FrontsStand s.layout s.pages s.transactions shown.database.stored p → table < length s.layout.schema.tables → StandsAt s.layout s.pages table spot row
+    → table < length s.layout.schema.tables → StandsAt s.layout s.pages table spot row
     → IsTrue (is_dead (living_of s.transactions shown.database.stored) row) ↔ IsDead p row.id
 
 -- where exactly the rows of a block go that are dead to all, the dead by the journal go
 abbrev pub DropsTheDeadByJournal : Type 0
 DropsTheDeadByJournal = (s : ShownStore) (p : Place) (table block : ℕ) (blocks blocked : List (List Slot)) → (shown : IsPlaceOf s p)
-    → FrontsStand s.layout s.pages s.transactions shown.database.stored p → table < length s.layout.schema.tables → HasBlocks s.layout s.pages table blocks
+    → table < length s.layout.schema.tables → HasBlocks s.layout s.pages table blocks
     → DropsTheDead (living_of s.transactions shown.database.stored) blocks blocked block → (k : ℕ)
     → IsTrue (has_gone (rows_in table blocks block k) (rows_in table blocked block k)) ↔ ((r : Row) × (rows_in table blocks block k ≡ Some r) × IsDead p r.id)

@@ -1,5 +1,5 @@
 -- Which rows of a table the statements of other sessions want, by open transactions and statuses.
-use Rattle.std.specs.Prelude.{◌≡◌, ◌≢◌, ℕ, ◌<◌, true, false, IsTrue, List, length, Some}
+use Rattle.std.specs.Prelude.{◌≡◌, ◌≢◌, ℕ, ◌<◌, false, IsTrue, List, length, Some}
 use Rattle.block_model.specs.declared.place.Spot.{Spot}
 use Rattle.block_model.specs.declared.row.RowId.{RowId}
 use Rattle.page_layout.specs.PageContents.{Slot}
@@ -7,8 +7,6 @@ use Rattle.page_layout.specs.RowBytes.{StoredRow}
 use Rattle.page_locks.specs.LockHolders.{LockState}
 use Rattle.page_store.specs.PageMap.{PageMap}
 use Rattle.heap_rows.specs.RowPlaces.{slot_at}
-use Rattle.snapshot_core.specs.declared.statuses.Status.{Status}
-use Rattle.snapshot_core.specs.Visibility.{has_done, in_snapshot}
 use Rattle.row_versions.specs.declared.sessions.Open.{Open}
 use Rattle.row_versions.specs.StoredVersions.{transaction_of}
 use Rattle.transactions.specs.GivenStatuses.{given_status}
@@ -21,9 +19,10 @@ use Rattle.brin_vacuum.specs.TableSteps.{IsSpared}
 use Rattle.line_texts.specs.Place.{Place}
 use Rattle.store_parts.specs.ShowsPlace.{IsPlaceOf, ShowsTable}
 use Rattle.store_parts.specs.StoreStates.{ShownStore}
+use Rattle.status_fronts.specs.SeenBefore.{WasSeenBy}
 use Rattle.store_fronts.specs.DeadToAll.{living_of}
 
--- What the place of a store doesn't tell: which rows a delete saw that marks by now, but for those that are left to mark. It isn't so of a delete that has
+-- What the place of a store doesn't tell: which rows a delete sees that marks by now, but for those that are left to mark. It isn't so of a delete that has
 -- marked a row of its own transaction (OwnDeleteIsUnseen); all rows that it saw are spared (SeenBeforeIsSpared).
 abbrev pub MarkedAreSeen : Living → (s : ℕ) → List (List Slot) → Unseen → Type 0
 MarkedAreSeen by s blocks u = (n : ℕ) (scan : TableScan) (ids : List RowId) (x : Spot) (row : StoredRow) → n ≢ s → u.task n ≡ Marks scan ids
@@ -40,28 +39,16 @@ TableIsWatched = (s : ShownStore) (p : Place) (n table : ℕ) (w : TableState) �
 abbrev pub OwnDeleteIsUnseen : Type 0
 OwnDeleteIsUnseen = (by : Living) (row : StoredRow) → row.deleter ≡ row.id.t → IsSeenLive by row → ⊥
 
--- An open transaction saw the row before its own deletes: the row is its own or of a commit in its snapshot, and the snapshot hasn't got the deleter.
-pub record WasSeenBy (status : ℕ → Status) (o : Open) (row : StoredRow) : Type 0 where
-  pub put : has_done o.snapshot o.t row.id.t (status row.id.t) ≡ true
-  pub undeleted : in_snapshot o.snapshot row.deleter (status row.deleter) ≡ false
-
--- such a row isn't dead to all, whoever deleted it since
+-- a row that an open transaction saw before its own deletes isn't dead to all, whoever deleted it since
 abbrev pub SeenBeforeIsSpared : Type 0
 SeenBeforeIsSpared = (s : ShownStore) (p : Place) (n : ℕ) (o : Open) (row : StoredRow) → (shown : IsPlaceOf s p) → transaction_of s.transactions.opens n ≡ Some o
     → WasSeenBy (given_status s.transactions.tx.first shown.database.stored) o row → is_dead (living_of s.transactions shown.database.stored) row ≡ false
 
 -- ---- the rows that go
 
--- The rows that a delete saw that marks by now aren't dead to all. Of this the place of a store tells only those that are left to mark; it follows where
--- its session's transaction saw them (SeenBeforeIsSpared).
-abbrev pub MarkedAreSpared : Living → (s : ℕ) → List (List Slot) → Unseen → Type 0
-MarkedAreSpared by s blocks u = (n : ℕ) (scan : TableScan) (ids : List RowId) (x : Spot) (row : StoredRow) → n ≢ s → u.task n ≡ Marks scan ids
-    → slot_at blocks x ≡ Some row → IsTrue (scan.sees x.block x.slot) → is_dead by row ≡ false
-
 -- Where exactly the dead rows of a block go, no other session's statement wants one of them.
 abbrev pub TableIsSpared : Type 0
 TableIsSpared = (s : ShownStore) (p : Place) (n table block : ℕ) (w : TableState) (paged : PageMap) (locked : LockState) (blocked : List (List Slot)) → (shown : IsPlaceOf s p)
     → (shows : ShowsTable s shown.database.stored table w) → table < length s.layout.schema.tables
     → DropsTheDead (living_of s.transactions shown.database.stored) shows.blocks blocked block
-    → MarkedAreSpared (living_of s.transactions shown.database.stored) n shows.blocks shows.unseen
     → IsSpared n (shown_by s.layout s.pages s.locks table shows.blocks) (shown_by s.layout paged locked table blocked) shows.unseen

@@ -161,7 +161,8 @@ module _ (laws : RefusalLaws) (old new : ShownStore) (n table : ℕ) (values : L
       laws.shown old new p n table None (refused_in n counts (p.tables table)) account shown r.others steps_in
           (laws.fewer old new stored stored o.t not_counted)
           (laws.leads old new p n None account e (fails_so (database_at p) n table copy.0 values tag failing (laws.is_failure (database_at p) n table copy.0 copy.1)).0 shown refl
-          (laws.legal (database_at p) n table copy.0 values tag copy.1 copy.2) r.entries does
+          (laws.legal (database_at p) n table copy.0 values tag copy.1 copy.2) r.entries does tt
+          (laws.within old new n o r.open_is r.failed r.pages)
           (record {
             hand = subst (λ (o : Option Hand). HandShows o None account) (sym r.now) refl;
             own = λ hand is. absurd (none-some hand (sym r.now ∙ is));

@@ -266,7 +266,8 @@ module _ (laws : RowLaws) (old new : ShownStore) (n table : ℕ) (values : List 
             → IsTaskOf old.layout table now new.transactions.tx stored (transaction_of new.transactions.opens n) (hand_in new.hands n) (then.task n) → HandAsked old.layout (hand_in new.hands n) [] → Behind at
         behind at hand_then own_then in_then is_at asked = laws.shown old new p n table at v no_account p.queue shown puts.others (steps_in in_then)
             (laws.few old new stored stored same_counts)
-            (laws.leads old new p n at no_account e (Inserted r.id) shown refl (laws.legal (database_at p) n table copy.0 values tags.Ok copy.1 (copy.2.failed ∙ puts.whole)) puts.entries does
+            (laws.leads old new p n at no_account e (Inserted r.id) shown refl (laws.legal (database_at p) n table copy.0 values tags.Ok copy.1 (copy.2.failed ∙ puts.whole)) puts.entries does tt
+            (laws.within old new n table o x (new_row r.id values) puts.open_is puts.counted puts_row refl)
             (record {
               hand = hand_then;
               own = λ hand is. subst (λ (s : DatabaseState). IsOfTransaction (transaction_of new.transactions.opens n) (finite.get s.sessions n) hand) (sym (ap (λ (z : DatabaseState × Answer). z.0) does.1)) (own_then hand is);

@@ -1,6 +1,6 @@
 -- what the steps of an insert take of the laws of the parts
 use Rattle.transactions.specs.Laws.{FailureCounts, FailureIsShown, PutCounts, PutIsShown, PutIsUnseen, RefusalIsFailure, SessionsAreShown, ShowAlike}
-use Rattle.store_parts.specs.LeadLaws.{FailureCountsNoMore, FewerCountsFew, NoRequestLeads, NothingLeavesSlots, PutLeavesSlots, RequestLeads, SameCountsFew}
+use Rattle.store_parts.specs.LeadLaws.{FailureCountsNoMore, FailureStaysWithin, FewerCountsFew, NoRequestLeads, NothingLeavesSlots, PutLeavesSlots, PutStaysWithin, RequestLeads, SameCountsFew}
 use Rattle.store_parts.specs.PlaceLaws.{AskingStepIsShown, PlaceStaysShown, TableStepIsShown}
 use Rattle.store_parts.specs.RefusalLaws.{InsertIsRefused, RefusalIsShown, RowIsRefused}
 use Rattle.store_parts.specs.RequestLaws.{PutIsLegal}
@@ -29,6 +29,7 @@ pub record RowLaws : Type 0 where
   pub shown : AskingStepIsShown
   pub own : OwnTableGoesOn
   pub leads : RequestLeads
+  pub within : PutStaysWithin
   pub legal : PutIsLegal
   pub few : SameCountsFew
   pub slots : PutLeavesSlots
@@ -45,6 +46,7 @@ pub record RefusalLaws : Type 0 where
   pub shown : TableStepIsShown
   pub table_shown : RefusalIsShown
   pub leads : RequestLeads
+  pub within : FailureStaysWithin
   pub legal : PutIsLegal
   pub fewer : FewerCountsFew
   pub no_more : FailureCountsNoMore

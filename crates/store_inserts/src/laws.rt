@@ -5,7 +5,7 @@ ghost use Rattle.store_inserts.specs.TakenLaws.{IndexLaws, RefusalLaws, RowLaws}
 use store_parts::{
     a_machine_asks, a_refusal_is_shown, a_refusal_turns, a_request_leads, a_step_is_shown,
     a_turn_is_a_step, few_rows_come_to_count, others_see_on, requests_are_legal,
-    the_own_table_goes_on,
+    the_own_table_goes_on, transactions_go_on,
 };
 use transactions::{
     a_failure_is_shown, a_put_is_shown, a_refusal_is_a_failure, a_session_has_its_transaction,
@@ -23,6 +23,7 @@ pub(crate) fn steps_of_an_insert()
     a_step_is_shown();
     the_own_table_goes_on();
     a_request_leads();
+    transactions_go_on();
     requests_are_legal();
     few_rows_come_to_count();
     others_see_on();

@@ -1,20 +1,24 @@
 -- The entries that a mark of a delete makes, and what they are answered.
-use Rattle.std.proofs.Common.{◌≡◌, ℕ, zero, suc, ◌+◌, Bool, true, false, not, ◌&&◌, List, [], ◌∷◌, ◌++◌, drop, replicate, None, Some, refl, sym, ap, ◌∙◌, subst, append_assoc, arith}
+use Rattle.std.proofs.Common.{◌≡◌, ℕ, zero, suc, ◌+◌, Bool, true, false, not, ◌&&◌, List, [], ◌∷◌, ◌++◌, drop, replicate, All, Option, None, Some, refl, sym, ap, ◌∙◌, subst, append_assoc, arith}
 use Rattle.std.specs.Option.{option_map}
 use Rattle.std.specs.FinMap as maps
+use Rattle.std.proofs.lemmas.List.Elements.{All-cons, All-nil}
 use Rattle.block_model.specs.declared.row.Row.{Row}
 use Rattle.block_model.specs.declared.row.RowId.{RowId}
 use Rattle.block_model.specs.declared.row.Query.{Query}
 use Rattle.block_model.specs.declared.reply.Refusal.TheVariants as refusals
 use Rattle.block_model.specs.declared.reply.Reply.TheVariants as replies
 use Rattle.block_model.specs.declared.request.Entry.{Entry}
+use Rattle.block_model.specs.declared.request.Request.TheVariants as requests
 use Rattle.block_model.specs.DatabaseState.{DatabaseState, OpenTransaction}
 use Rattle.block_model.specs.RequestEffect.{Answer, Found, Marked, Conflict, after_request, effect, effect_at, effect_is, is_legal_request, is_legal_at, reply_to, rows_found}
 use Rattle.block_model.specs.SerialRun.{IsLegal, is_legal, is_legal-append, serial_run, serial_run-append}
 use Rattle.statements.specs.declared.statement.Statement.{Statement}
 use Rattle.statements.specs.declared.statement.Statement.TheVariants as statements
-use Rattle.statements.specs.StatementRequests.{deleted_reply, look_entry, mark_entry, marks_reply}
+use Rattle.statements.specs.StatementRequests.{deleted_reply, look_entry, mark_entry, marks_reply, request_entry}
 use Rattle.line_texts.specs.Requests.{Course, MakesAll, MakesMark, Enters, First, Further, NoneLeft, OneMore, entered, next_request, row_to_mark}
+use Rattle.status_fronts.specs.StepLaws.{IsWithin}
+use Rattle.store_marks.specs.Looks.{look_entries}
 use Rattle.store_marks.proofs.Copies.{nil-cons, same_head, same_tail}
 
 -- ---- the row to mark next, behind so many marks
@@ -151,6 +155,17 @@ module _ (opening : DatabaseState) (n : ℕ) (q : Query) (c : Course) (x : OpenT
       behind : (first : Bool) → is_legal now (entries_of first n q row) ≡ true
       behind false = ap (λ b. b && true) (marks now refl)
       behind true = ap (λ b. b && is_legal (after_request now look) (mark_entry n q.table row ∷ [])) (legal_request look now refl refl (ap (λ a. not a && true) whole)) ∙ ap (λ b. b && true) (marks (after_request now look) (ap (λ d. d.0) looks))
+
+-- none of the entries begins or ends a transaction
+abbrev IsWithinOne : Entry → Type 0
+IsWithinOne e = IsWithin e.request
+
+mark_within : (n table : ℕ) (id : RowId) → All IsWithinOne (request_entry n table (requests.Mark id) ∷ [])
+mark_within n table id = All-cons IsWithinOne (request_entry n table (requests.Mark id)) [] tt (All-nil IsWithinOne)
+
+pub all_within : (looks : Option Query) (n table : ℕ) (id : RowId) → All IsWithinOne (look_entries n looks ++ request_entry n table (requests.Mark id) ∷ [])
+all_within None n table id = mark_within n table id
+all_within (Some query) n table id = All-cons IsWithinOne (look_entry n query) (request_entry n table (requests.Mark id) ∷ []) tt (mark_within n table id)
 
 -- a mark behind which none is left is the last of all
 pub all_made : (opening : DatabaseState) (n : ℕ) (statement : Statement) (c f : Course) → MakesMark opening n statement c f → next_request n statement f.answers ≡ None → MakesAll opening n statement c f

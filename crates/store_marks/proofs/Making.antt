@@ -1,5 +1,5 @@
 -- A mark that is made, as a step of its session.
-use Rattle.std.proofs.Common.{◌≡◌, ◌≢◌, ◌⊎◌, inl, inr, ℕ, suc, ◌+◌, ◌<◌, ◌≤◌, Bool, true, false, cond, List, [], ◌∷◌, ◌++◌, length, drop, map, replicate, All, Option, None, Some, refl, sym, ap, ◌∙◌, subst, arith}
+use Rattle.std.proofs.Common.{◌≡◌, ◌≢◌, ◌⊎◌, inl, inr, ℕ, suc, ◌+◌, ◌<◌, ◌≤◌, Bool, true, false, cond, List, [], ◌∷◌, ◌++◌, length, drop, map, replicate, All, Option, None, Some, refl, sym, ap, ◌∙◌, subst, append_assoc, arith}
 use Rattle.std.specs.Prelude.{IsTrue, if◌then◌else◌}
 use Rattle.std.specs.List.{slice_get}
 use Rattle.std.specs.FinMap as finite
@@ -41,7 +41,8 @@ use Rattle.row_versions.specs.declared.sessions.Open.{Open}
 use Rattle.row_versions.specs.StoredVersions.{transaction_of}
 use Rattle.transactions.specs.CountedRows.{counts as counts_of}
 use Rattle.transactions.specs.Laws.{CopyStands, IsMarking, MarkIsShown, MarkIsUnseen, SessionsAreShown}
-use Rattle.transactions.specs.StoredRows.{conflicts_with}
+use Rattle.transactions.specs.StoredRows.{MarksRowAt, conflicts_with}
+use Rattle.transactions.specs.TransactionsState.{TransactionsState}
 use Rattle.transactions.specs.ShowsDatabase.{DoesRequest, ShowsDatabase}
 use Rattle.table_coverage.specs.Machines.{ShownTable, table_state, task_turned}
 use Rattle.table_coverage.specs.TableSteps.{OnlyTurns}
@@ -57,10 +58,13 @@ use Rattle.store_parts.specs.declared.hand.Hit.{Hit}
 use Rattle.store_parts.specs.declared.hand.Marking.{Marking}
 use Rattle.store_parts.specs.declared.hand.Stepped.TheVariants as stepped
 use Rattle.store_parts.specs.declared.parts.Parts.{Parts}
+use Rattle.status_fronts.specs.RowsFollow.{IsOfOpen}
+use Rattle.status_fronts.specs.SeenBefore.{RowsGoOn}
+use Rattle.status_fronts.proofs.SeenBefore.{saw_rows_stay}
 use Rattle.store_parts.specs.HandFits.{IsMarkingFor}
 use Rattle.store_parts.specs.Hands.{HandShows, hits_left, ids_of}
 use Rattle.store_parts.specs.HandsAsk.{IsNoInsert}
-use Rattle.store_parts.specs.HandsInTables.{IsMarkingAt, IsTaskOf, table_in}
+use Rattle.store_parts.specs.HandsInTables.{IsMarkingAt, IsMarkingBy, IsTaskOf, table_in}
 use Rattle.store_parts.specs.JournalState.{JournalState}
 use Rattle.store_parts.specs.Leaving.{CountsFew, LeadsTo, LeavesOthers, RowsStay, SameLocks, SlotsStay, StepsInTable}
 use Rattle.store_parts.specs.PlacesAfter.{place_after}
@@ -68,6 +72,7 @@ use Rattle.store_parts.specs.ShowsPlace.{IsOfTransaction, IsPlaceOf, ShowsTable}
 use Rattle.store_parts.specs.Stepping.{MakesItsStep}
 use Rattle.store_parts.specs.StoreLaws.{HasHand}
 use Rattle.store_parts.specs.StoreStates.{ShownStore, hand_in, shown_of, store_of, with_hand}
+use Rattle.store_parts.proofs.Fronts.{fronts_within, mark_stays_within}
 use Rattle.store_parts.proofs.Leads.{mark_leaves_slots}
 use Rattle.store_parts.proofs.Slots.{marked_slot}
 use Rattle.store_parts.proofs.Places.{table_step_is_shown}
@@ -77,7 +82,7 @@ use Rattle.store_parts.proofs.Tables.{own_table_goes_on, same_contents, shown_al
 use Rattle.store_marks.specs.HitConflicts.{HitConflicts}
 use Rattle.store_marks.specs.Looks.{look_entries}
 use Rattle.store_marks.proofs.Definition.{answers_are, course, course_is, ends, goes_on}
-use Rattle.store_marks.proofs.Entries.{entries_of, legal_mark}
+use Rattle.store_marks.proofs.Entries.{all_within, entries_of, legal_mark}
 use Rattle.store_marks.proofs.Hits.{first_of, hits_from}
 use Rattle.store_marks.proofs.Turns.{IsMarkTurn, at_task, left_at, mark_turns, task_then}
 use Rattle.store_marks.proofs.Standing.{MarksAt, entries_are, is_first, marks_at}
@@ -127,6 +132,24 @@ same_rows table blocks now spot row t there changes b k = elim (same_spot (recor
   | inl is ↦ ap (λ (x : Spot). row_in table (slot_at now x)) is ∙ ap (row_in table) changes.there ∙ sym (ap (row_in table) there) ∙ ap (λ (x : Spot). row_in table (slot_at blocks x)) (sym is)
   | inr apart ↦ ap (row_in table) (changes.others (record { block = b; slot = k }) apart)
 ]
+
+-- each row that stood stands there, with its deleter or that of the open transaction that marked it
+marked_goes_on : (t : TransactionsState) (n : ℕ) (o : Open) → transaction_of t.opens n ≡ Some o → (sees : ℕ → ℕ → Bool) (blocks now : List (List Slot)) (spot : Spot) (row : StoredRow)
+    → slot_at blocks spot ≡ Some row → ChangesSlot blocks now spot (Some (marked row o.t)) → RowsGoOn t sees blocks now
+marked_goes_on t n o opened sees blocks now spot row there changes x after after_there seen = elim (same_spot x spot) [
+  | inl is ↦
+      let same : marked row o.t ≡ after = same_Some (marked row o.t) after (sym changes.there ∙ ap (slot_at now) (sym is) ∙ after_there) in
+      (row, ap (slot_at blocks) is ∙ there, ap (λ (r : StoredRow). r.id) same, inr (subst (IsOfOpen t) (ap (λ (r : StoredRow). r.deleter) same) (n, o, opened, refl)))
+  | inr apart ↦ (after, sym (changes.others x apart) ∙ after_there, refl, inl refl)
+]
+
+-- where a row stood one stands
+still_standing : (blocks now : List (List Slot)) → RowsStay blocks now → (x : Spot) → slot_at blocks x ≢ None → slot_at now x ≢ None
+still_standing blocks now rows x stood none = by_slot (slot_at blocks x) refl
+  where
+    by_slot : (slot : Slot) → slot_at blocks x ≡ slot → ⊥
+    by_slot None is = stood is
+    by_slot (Some row) is = let stays = rows x row is in none-some stays.0 (sym none ∙ stays.1)
 
 -- an index's pages are of another relation than a table's heap
 apart_from_heap : (layout : DiskLayout) (index table : ℕ) → table < length layout.schema.tables → index_relation layout index ≢ relation_of table
@@ -189,9 +212,11 @@ module _ {D : Type 0} (told : D → Told) (laws : MarkLaws) (old : Parts D) (pag
       conflicts = conflict_free;
     }
 
+    marks_row : MarksRowAt s.layout s.pages pages.pages table hit.spot at.row o.t
+    marks_row = record { blocks = at.table.blocks; has = at.table.has; there = at.there; marks = has_now; others = λ place apart. others.pages tells place apart }
+
     pub made : DoesRequest s.layout pages.pages s.transactions (database_at p) (request_entry n table (requests.Mark at.row.id)) Marked
-    made = laws.mark s.layout s.pages pages.pages s.transactions (database_at p) n table o hit.spot at.row marking_it
-        (record { blocks = at.table.blocks; has = at.table.has; there = at.there; marks = has_now; others = λ place apart. others.pages tells place apart })
+    made = laws.mark s.layout s.pages pages.pages s.transactions (database_at p) n table o hit.spot at.row marking_it marks_row
 
     pub does : effect (database_at p) (request_entry n table (requests.Mark at.stands.row.id)) ≡ (made.0, Marked)
     does = subst (λ (id : RowId). effect (database_at p) (request_entry n table (requests.Mark id)) ≡ (made.0, Marked)) (at.row_id ∙ sym at.its_id) made.1
@@ -291,6 +316,9 @@ module _ {D : Type 0} (told : D → Told) (laws : MarkLaws) (old : Parts D) (pag
       legal = subst (IsLegal p.opening) (sym (longer ∙ course_journal))
           (legal_mark p.opening n marking.query (course_of p (record { statement = statements.Delete marking.query; answers = at.answers })) at.stands.copy at.stands.got (is_first marking.look) at.stands.row shown.legal at.whole
           (subst (λ (id : RowId). finite.contains_key at.stands.copy.view id ≡ true) (sym at.its_id) at.in_copy));
+      fronts = fronts_within s after_store p shown (look_entries n marking.look ++ request_entry n table (requests.Mark hit.id) ∷ [])
+          (entries ∙ append_assoc old.journal.entries (look_entries n marking.look) (request_entry n table (requests.Mark hit.id) ∷ []))
+          (all_within marking.look n table hit.id) (mark_stays_within s after_store n table o hit.spot at.row opened refl marks_row);
       copies = λ m apart. ap (λ (d : DatabaseState). finite.get d.sessions m) (run ∙ sym (ap (λ (r : DatabaseState × Answer). r.0) made.1))
           ∙ copies_stay (database_at p) (request_entry n table (requests.Mark at.row.id)) m apart;
       hand = subst (λ (h : Option Hand). HandShows h at_then (p.accounts n)) (sym has_hand.own) shows_then;
@@ -376,15 +404,26 @@ module _ {D : Type 0} (told : D → Told) (laws : MarkLaws) (old : Parts D) (pag
       task_is = some_left (map (λ (r : Row). r.id) there.stands.more) (drop (suc marking.next) marking.hits.items) h hs there.others one_more there.stands.scan
           ∙ (λ i. Marks (there.scan_is i) (there.others i)) ∙ ap (λ (l : List Hit). Marks there.marking_at.scan (ids_of l)) (sym left_later)
 
-      marks_then : IsMarkingAt now_blocks marking_then task_now
-      marks_then = record { scan = there.marking_at.scan; task_is = task_is; stand = stand_then }
+      marks_then : IsMarkingAt old.transactions.tx.first shown.database.stored o now_blocks marking_then task_now
+      marks_then = record {
+        scan = there.marking_at.scan;
+        task_is = task_is;
+        stand = stand_then;
+        standing = λ x sees. still_standing there.table.blocks now_blocks stays x (there.marking_at.standing x sees);
+        saw = saw_rows_stay old.pages.layout old.pages.pages old.transactions (database_at p) shown.database.stored o there.marking_at.scan.sees there.table.blocks now_blocks shown.database shown.database.has
+            (marked_goes_on old.transactions n o opened there.marking_at.scan.sees there.table.blocks now_blocks hit.spot there.row there.there (slots tells there.table.blocks there.table.has there.row there.there))
+            there.marking_at.saw;
+      }
+
+      marks_by : IsMarkingBy old.transactions.tx shown.database.stored (transaction_of old.transactions.opens n) now_blocks marking_then task_now
+      marks_by = subst (λ (x : Option Open). IsMarkingBy old.transactions.tx shown.database.stored x now_blocks marking_then task_now) (sym opened) marks_then
 
       own_then : (hand : Hand) → hand_then ≡ Some hand → IsOfTransaction (transaction_of old.transactions.opens n) (Some (after_mark there.stands.copy hit.id)) hand
       own_then hand is = subst (IsOfTransaction (transaction_of old.transactions.opens n) (Some (after_mark there.stands.copy hit.id))) (same_Some (hands.Marks marking_then) hand is)
           (there.found_then ∙ ap ids_of (sym left_later))
 
       pub shown_moved : IsPlaceOf (shown_of (store_of new names (with_hand hands_ n hand_then))) (place_then hand_then names hands_ is tells p shown (Some at_then))
-      shown_moved = shown_then hand_then names hands_ is tells p shown (Some at_then) shows_then in_its_table ((λ same. marks_then), (λ apart. absurd (apart refl))) own_then tt
+      shown_moved = shown_then hand_then names hands_ is tells p shown (Some at_then) shows_then in_its_table ((λ same. marks_by), (λ apart. absurd (apart refl))) own_then tt
 
       next_row : (rows : List Row) → map (λ (r : Row). r.id) rows ≡ ids_of (drop (suc marking.next) marking.hits.items) → (row : Row) × (rest : List Row) × (rows ≡ row ∷ rest)
       next_row rows same = let found = first_of rows h.id (ids_of hs) (same ∙ ap ids_of one_more) in (found.row, found.more, found.is)

@@ -1,5 +1,5 @@
 -- A mark that meets a conflict, as a step of its session.
-use Rattle.std.proofs.Common.{◌≡◌, ◌≢◌, ℕ, ◌≤◌, ◌==◌, Bool, true, false, not, ◌&&◌, List, [], ◌∷◌, ◌++◌, length, map, Option, None, Some, refl, sym, ap, ◌∙◌, subst}
+use Rattle.std.proofs.Common.{◌≡◌, ◌≢◌, ℕ, ◌≤◌, ◌==◌, Bool, true, false, not, ◌&&◌, List, [], ◌∷◌, ◌++◌, length, map, Option, None, Some, refl, sym, ap, ◌∙◌, subst, append_assoc}
 use Rattle.std.specs.List.{slice_get}
 use Rattle.std.specs.FinMap as finite
 use Rattle.std.proofs.lemmas.List.{get_or-set_other}
@@ -51,6 +51,7 @@ use Rattle.store_parts.specs.ShowsPlace.{IsPlaceOf, ShowsTable}
 use Rattle.store_parts.specs.Stepping.{MakesItsStep}
 use Rattle.store_parts.specs.StoreLaws.{HasHand}
 use Rattle.store_parts.specs.StoreStates.{ShownStore, hand_in, shown_of, store_of, with_hand}
+use Rattle.store_parts.proofs.Fronts.{failure_stays_within, fronts_within}
 use Rattle.store_parts.proofs.Leads.{failure_counts_no_more, fewer_counts_few, nothing_leaves_slots}
 use Rattle.store_parts.proofs.Places.{table_step_is_shown}
 use Rattle.store_parts.proofs.Refusals.{mark_is_refused}
@@ -60,7 +61,7 @@ use Rattle.store_parts.proofs.Tables.{own_table_goes_on}
 use Rattle.store_marks.specs.HitConflicts.{HitConflicts}
 use Rattle.store_marks.specs.Looks.{look_entries}
 use Rattle.store_marks.proofs.Definition.{conflicts, course_met, course_met_is}
-use Rattle.store_marks.proofs.Entries.{entries_of, legal_mark}
+use Rattle.store_marks.proofs.Entries.{all_within, entries_of, legal_mark}
 use Rattle.store_marks.proofs.Standing.{MarksAt, entries_are, is_first, marks_at}
 
 -- the laws of transactions that it takes
@@ -185,6 +186,9 @@ module _ {D : Type 0} (told : D → Told) (laws : ConflictLaws) (old : Parts D) 
       legal = subst (IsLegal p.opening) (sym (longer ∙ course_journal))
           (legal_mark p.opening n marking.query (course_of p (record { statement = statements.Delete marking.query; answers = at.answers })) at.stands.copy at.stands.got (is_first marking.look) at.stands.row shown.legal at.whole
           (subst (λ (id : RowId). finite.contains_key at.stands.copy.view id ≡ true) (sym at.its_id) at.in_copy));
+      fronts = fronts_within s then p shown (look_entries n marking.look ++ request_entry n table (requests.Mark hit.id) ∷ [])
+          (entries ∙ append_assoc old.journal.entries (look_entries n marking.look) (request_entry n table (requests.Mark hit.id) ∷ []))
+          (all_within marking.look n table hit.id) (failure_stays_within s then n o opened refl (λ place. refl));
       copies = λ m apart. ap (λ (d : DatabaseState). finite.get d.sessions m) (run ∙ sym (ap (λ (r : DatabaseState × Answer). r.0) made.1))
           ∙ copies_stay (database_at p) (request_entry n table (requests.Mark at.row.id)) m apart;
       hand = subst (λ (h : Option Hand). HandShows h None (p.accounts n)) (sym has_none.own) refl;

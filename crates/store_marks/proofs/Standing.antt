@@ -29,7 +29,7 @@ use Rattle.store_parts.specs.declared.hand.Hit.{Hit}
 use Rattle.store_parts.specs.declared.hand.Marking.{Marking}
 use Rattle.store_parts.specs.HandFits.{IsMarkingFor, IsUnderWay}
 use Rattle.store_parts.specs.Hands.{HandShows, MarkAnswers, hits_left, ids_of}
-use Rattle.store_parts.specs.HandsInTables.{IsMarkingAt, IsTaskOf}
+use Rattle.store_parts.specs.HandsInTables.{IsMarkingAt, IsMarkingBy, IsTaskOf}
 use Rattle.store_parts.specs.Shares.{look_share}
 use Rattle.store_parts.specs.ShowsPlace.{IsLeftToMark, IsPlaceOf, ShowsTable}
 use Rattle.store_parts.specs.StoreStates.{ShownStore, hand_in}
@@ -73,7 +73,7 @@ pub record MarksAt (s : ShownStore) (p : Place) (n : ℕ) (marking : Marking) (h
   pub in_copy : finite.contains_key stands.copy.view hit.id ≡ true
   pub found_then : map (λ (r : Row). r.id) (rows_found (after_mark stands.copy hit.id) marking.query) ≡ ids_of (drop (suc marking.next) marking.hits.items)
   pub table : ShowsTable s shown.database.stored marking.query.table (p.tables marking.query.table)
-  pub marking_at : IsMarkingAt table.blocks marking (table.unseen.task n)
+  pub marking_at : IsMarkingAt s.transactions.tx.first shown.database.stored o table.blocks marking (table.unseen.task n)
   pub scan_is : stands.scan ≡ marking_at.scan
   pub row : StoredRow
   pub there : slot_at table.blocks hit.spot ≡ Some row
@@ -106,8 +106,9 @@ module _ (sessions : SessionsAreShown) (copies : CopyStands) (s : ShownStore) (p
   abbrev table : ShowsTable s shown.database.stored marking.query.table (p.tables marking.query.table)
   table = shown.tables marking.query.table fits.table
 
-  abbrev marking_at : IsMarkingAt table.blocks marking (table.unseen.task n)
-  marking_at = (subst (λ (h : Option Hand). IsTaskOf s.layout marking.query.table table.blocks s.transactions.tx shown.database.stored (transaction_of s.transactions.opens n) h (table.unseen.task n)) hands_is (table.tasks n)).0 refl
+  abbrev marking_at : IsMarkingAt s.transactions.tx.first shown.database.stored o table.blocks marking (table.unseen.task n)
+  marking_at = subst (λ (x : Option Open). IsMarkingBy s.transactions.tx shown.database.stored x table.blocks marking (table.unseen.task n)) opened
+      ((subst (λ (h : Option Hand). IsTaskOf s.layout marking.query.table table.blocks s.transactions.tx shown.database.stored (transaction_of s.transactions.opens n) h (table.unseen.task n)) hands_is (table.tasks n)).0 refl)
 
   abbrev in_view : IsFirstOf (rows_found found.0 marking.query) hit.id (ids_of (drop (suc marking.next) marking.hits.items))
   in_view = first_of (rows_found found.0 marking.query) hit.id (ids_of (drop (suc marking.next) marking.hits.items)) (left ∙ left_is)

@@ -7,6 +7,7 @@ pub mod Locks
 pub mod Tables
 pub mod Steps
 pub mod Asks
+pub mod Fronts
 pub mod Places
 pub mod Refusals
 pub mod Undone

@@ -6,14 +6,15 @@ use Rattle.table_coverage.specs.Accounts.{no_account}
 use Rattle.table_coverage.specs.Table.{Resting}
 use Rattle.transactions.specs.CountedRows.{counts as counts_of}
 use Rattle.brin_insert.specs.AskedFor.{AreRequestsOf, NoRequests}
+use Rattle.status_fronts.proofs.Starting.{start_stands}
 use Rattle.store_parts.specs.declared.hand.Hand.{Hand}
 use Rattle.store_parts.specs.Hands.{HandShows}
 use Rattle.store_parts.specs.HandsAsk.{HandAsked}
 use Rattle.store_parts.specs.HandsInTables.{IsTaskOf}
-use Rattle.store_parts.specs.OpeningLaws.{OpenedIsShown, unseen_at_rest}
+use Rattle.store_parts.specs.OpeningLaws.{OpenedIsShown, place_opened, unseen_at_rest}
 
 pub opened_is_shown : OpenedIsShown
-opened_is_shown s opening tables empty unasked undropped none database opened order = record {
+opened_is_shown s opening tables empty unasked undropped none started database opened order = record {
   layout = refl;
   names = refl;
   queue = subst (λ (l : List (ℕ × ℕ)). AreRequestsOf s.layout l []) (sym unasked) NoRequests;
@@ -22,6 +23,7 @@ opened_is_shown s opening tables empty unasked undropped none database opened or
   journal = sym empty;
   legal = refl;
   database = database;
+  fronts = start_stands s.layout s.pages s.transactions database.stored (place_opened s opening tables) database database.has started refl;
   hands = λ n. subst (λ (h : Option Hand). HandShows h None no_account) (sym (none n)) refl;
   own = λ n hand is. absurd (none-some hand (sym (none n) ∙ is));
   tables = λ table below. record {

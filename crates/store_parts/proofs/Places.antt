@@ -1,5 +1,5 @@
 -- the place that a store shows behind a step
-use Rattle.std.proofs.Common.{◌≡◌, ◌≢◌, ◌⊎◌, inl, inr, ℕ, ◌<◌, ◌/◌, ◌%◌, Bool, List, length, Option, None, Some, refl, sym, ap, subst, ◌∙◌, arith}
+use Rattle.std.proofs.Common.{◌≡◌, ◌≢◌, ◌⊎◌, inl, inr, ℕ, ◌<◌, Bool, List, length, Option, None, Some, refl, sym, ap, subst, ◌∙◌, arith}
 use Rattle.std.specs.Prelude.{IsTrue}
 use Rattle.std.specs.FinMap as finite
 use Rattle.std.proofs.lemmas.Bool.{cases_eq}
@@ -10,18 +10,16 @@ use Rattle.block_model.specs.DatabaseState.{OpenTransaction}
 use Rattle.block_model.specs.SerialRun.{serial_run}
 use Rattle.store_layout.specs.DiskLayout.{DiskLayout}
 use Rattle.page_layout.specs.PageContents.{Slot}
-use Rattle.page_layout.specs.declared.format.TheConstants.{STATUS_ENTRIES}
 use Rattle.page_locks.specs.LockChanges.{page_of}
 use Rattle.page_locks.specs.LockHolders.{LockState}
 use Rattle.page_locks.specs.RightHolders.{right_of}
-use Rattle.page_store.specs.PageMap.{PageMap, block_at}
 use Rattle.heap_rows.specs.HeapBlocks.{HasBlocks}
 use Rattle.heap_rows.specs.Heaps.{relation_of as heap_of}
 use Rattle.heap_rows.specs.RowPlaces.{slot_at}
 use Rattle.snapshot_core.specs.declared.statuses.Status.{Status}
 use Rattle.row_versions.specs.declared.sessions.Open.{Open}
 use Rattle.row_versions.specs.StoredVersions.{transaction_of}
-use Rattle.tx_table.specs.Statuses.{HasEntry, HasStatuses, status_of, status_relation}
+use Rattle.tx_table.specs.Statuses.{HasStatuses, status_relation}
 use Rattle.tx_table.proofs.Pages.{statuses_one}
 use Rattle.transactions.specs.CountedRows.{counts as counts_of}
 use Rattle.transactions.specs.TransactionsState.{TransactionsState}
@@ -48,18 +46,11 @@ use Rattle.store_parts.specs.ShowsPlace.{IsOfTransaction, IsPlaceOf, ShowsTable}
 use Rattle.store_parts.specs.StoreStates.{ShownStore, dropped_in, hand_in}
 use Rattle.store_parts.specs.TableLaws.{CountsFewIn, IsQuiet}
 use Rattle.store_parts.proofs.Asks.{asked_then, asks_none, told_then}
+use Rattle.store_parts.proofs.Fronts.{statuses_stay}
 use Rattle.store_parts.proofs.Locks.{gives_none}
 use Rattle.store_parts.proofs.Steps.{other_after, table_after, updated_apart, updated_here}
 use Rattle.store_parts.proofs.Tables.{all_rows_stay, at_layout, locks_none, own_rests, same_blocks, same_contents, sees_same, shown_alike, table_stays}
 use Rattle.store_parts.proofs.Slots.{same_slots}
-
--- pages of statuses that stay have the same statuses
-statuses_stay : (layout : DiskLayout) (pages paged : PageMap) (stored : List Status) → ((block : ℕ) → block_at paged status_relation block ≡ block_at pages status_relation block)
-    → HasStatuses layout pages stored → HasStatuses layout paged stored
-statuses_stay layout pages paged stored same has = record {
-  counted = has.counted;
-  each = λ t below. subst (λ (page : List ℕ). HasEntry page (t % STATUS_ENTRIES) (status_of stored t)) (sym (same (t / STATUS_ENTRIES))) (has.each t below);
-}
 
 -- ---- rows that count in a table
 
@@ -198,6 +189,7 @@ module _ (old new : ShownStore) (p : Place) (n table : ℕ) (shown : IsPlaceOf o
       journal = refl;
       legal = leads.legal;
       database = leads.database;
+      fronts = leads.fronts leads.database.stored led leads.database.has refl refl;
       hands = hand_then;
       own = own_then old new p n shown leaves at account leads;
       tables = λ i below. subst (λ (l : List Status). ShowsTable (at_layout new old.layout) l i (led.tables i)) (sym same_stored) (table_then i below);
@@ -273,6 +265,7 @@ module _ (old new : ShownStore) (p : Place) (n : ℕ) (later : List Status) (sho
     journal = refl;
     legal = leads.legal;
     database = leads.database;
+    fronts = leads.fronts leads.database.stored at_once leads.database.has refl refl;
     hands = hand_at_once;
     own = own_then old new p n shown leaves None (p.accounts n) leads;
     tables = λ i below. subst (λ (l : List Status). ShowsTable (at_layout new old.layout) l i (at_once.tables i)) (sym same_later) (table_at_once i below);
@@ -347,6 +340,7 @@ module _ (old new : ShownStore) (p : Place) (n : ℕ) (shown : IsPlaceOf old p) 
     journal = same_entries;
     legal = shown.legal;
     database = database_same;
+    fronts = stays.hand.fronts database_same.stored p database_same.has refl same_entries;
     hands = hand_same;
     own = λ m hand is. subst (λ (e : List Entry). IsOfTransaction (transaction_of new.transactions.opens m) (finite.get (serial_run p.opening e).sessions m) hand) (sym same_entries)
         (own_then old new p n shown others (p.hands n) (p.accounts n) stays.hand m hand is);

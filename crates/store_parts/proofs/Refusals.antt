@@ -223,7 +223,7 @@ module _ (old new : ShownStore) (stored : List Status) (n table : ℕ) (w : Tabl
   refused_table step = own_table_goes_on old new stored n table w (refused_in n counts_then w) unseen_then shows.blocks shows leaves step refused_shown
       (same_blocks old.layout old.pages new.pages table shows.blocks (λ block. pages (record { relation = heap_of table; block = block })) shows.has)
       (shows.lock ∙ ap (λ (r : List (Option ℕ)). right_of r table) (sym rights)) (λ t. refl) (λ m other. pick_other m n Resting (shows.unseen.task m) other) own_refused
-      (record { rows = (same_slots shows.blocks).rows; seen = λ m o other is. (same_slots shows.blocks).seen (sight_of old.transactions.tx stored o) })
+      (record { rows = (same_slots shows.blocks).rows; seen = λ m o other is. (same_slots shows.blocks).seen (sight_of old.transactions.tx stored o); lacks = λ m o other is. (same_slots shows.blocks).lacks (sight_of old.transactions.tx stored o) })
 
 pub refusal_is_shown : RefusalIsShown
 refusal_is_shown old new stored n table w shows leaves pages gives rights quiet elsewhere step = refused_table old new stored n table w shows leaves pages gives rights quiet elsewhere step

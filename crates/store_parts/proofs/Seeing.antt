@@ -3,16 +3,19 @@ use Rattle.std.proofs.Common.{◌≡◌, ◌≢◌, ◌⊎◌, inl, inr, ℕ, ze
 use Rattle.std.specs.Prelude.{IsTrue}
 use Rattle.std.proofs.lemmas.List.Elements.{All-weaker}
 use Rattle.std.proofs.lemmas.Bool.{eq-eqb}
-use Rattle.std.proofs.lemmas.Option.{none-some}
+use Rattle.std.proofs.lemmas.Option.{none-some, same_Some}
 use Rattle.block_model.specs.declared.place.Spot.{Spot}
 use Rattle.block_model.specs.declared.row.Row.{Row}
+use Rattle.block_model.specs.declared.row.RowId.{RowId}
 use Rattle.store_layout.specs.DiskLayout.{DiskLayout}
 use Rattle.page_layout.specs.PageContents.{Slot}
 use Rattle.page_layout.specs.RowBytes.{StoredRow}
 use Rattle.heap_rows.specs.RowPlaces.{slot_at}
 use Rattle.snapshot_core.specs.declared.statuses.Status.{Status}
+use Rattle.snapshot_core.specs.Visibility.{has_done}
 use Rattle.row_versions.specs.declared.sessions.Open.{Open}
 use Rattle.tx_table.specs.TxState.{TxState}
+use Rattle.transactions.specs.GivenStatuses.{given_status}
 use Rattle.table_coverage.specs.Table.{Resting, Scans, TableScan, Task}
 use Rattle.table_coverage.specs.TableSteps.{SeesPlace}
 use Rattle.index_steps.specs.IndexTuples.{index_at}
@@ -25,13 +28,15 @@ use Rattle.brin_scan.specs.SeenRows.{SeesLater}
 use Rattle.brin_scan.specs.TableScans.{Beside, table_scan, task_of}
 use Rattle.brin_scan.proofs.Remembered.{stands_later}
 use Rattle.brin_scan.proofs.Seen.{stays_seen}
+use Rattle.status_fronts.specs.SeenBefore.{SawRows}
+use Rattle.status_fronts.proofs.SeenBefore.{put_still, undeleted_still}
 use Rattle.store_parts.specs.declared.hand.Hand.{Hand}
 use Rattle.store_parts.specs.declared.hand.Hand.TheVariants as hands
 use Rattle.store_parts.specs.declared.hand.Hit.{Hit}
 use Rattle.store_parts.specs.declared.hand.Marking.{Marking}
 use Rattle.store_parts.specs.Hands.{hits_left}
-use Rattle.store_parts.specs.HandsInTables.{InItsTable, IsMarkingAt, IsScanAt, IsScanBy, IsTaskOf, sight_of, table_in}
-use Rattle.store_parts.specs.Leaving.{SeenRowsStay, SeesSlots}
+use Rattle.store_parts.specs.HandsInTables.{InItsTable, IsMarkingAt, IsMarkingBy, IsScanAt, IsScanBy, IsTaskOf, sight_of, table_in}
+use Rattle.store_parts.specs.Leaving.{LacksDeleters, SeenRowsStay, SeesSlots}
 
 -- each row that a scan's session sees stands in a slot
 abbrev pub SeesStanding : List (List Slot) → Task → Type 0
@@ -112,17 +117,55 @@ module _ (sight later : Sight) (blocks now : List (List Slot)) (task : Task) (la
       remembers = stands_later sight later lasts hand.last at.remembers;
     }
 
--- a delete's marks go on where the rows that it saw stay
-marks_go_on : (blocks now : List (List Slot)) (marking : Marking) (task : Task) → SeenRowsStay task blocks now → IsMarkingAt blocks marking task → IsMarkingAt now marking task
-marks_go_on blocks now marking task rows at = record {
-  scan = at.scan;
-  task_is = at.task_is;
-  stand = All-weaker (λ (h : Hit). (row : StoredRow) × (slot_at blocks h.spot ≡ Some row) × (row.id ≡ h.id) × IsTrue (at.scan.sees h.spot.block h.spot.slot))
-      (λ (h : Hit). (row : StoredRow) × (slot_at now h.spot ≡ Some row) × (row.id ≡ h.id) × IsTrue (at.scan.sees h.spot.block h.spot.slot))
-      (λ h stood.
-      let stays = rows h.spot stood.0 (subst (SeesPlace h.spot.block h.spot.slot) (sym at.task_is) stood.3) stood.1 in
-      (stays.0, stays.1, stays.2 ∙ stood.2, stood.3)) (hits_left marking) at.stand;
-}
+-- a delete's marks go on where the rows that it saw stay, and what its transaction saw it saw still
+module _ (tx then : TxState) (stored later : List Status) (o : Open) (blocks now : List (List Slot)) (marking : Marking) (task : Task) (lasts : SeesLater (sight_of tx stored o) (sight_of then later o))
+    (lacks : LacksDeleters (sight_of tx stored o) blocks now) (rows : SeenRowsStay task blocks now) (at : IsMarkingAt tx.first stored o blocks marking task) where
+  -- what stands in a place that its scan saw is the row that stood there
+  abbrev StoodThere : Spot → StoredRow → Type 0
+  StoodThere x row = (was : StoredRow) × (slot_at blocks x ≡ Some was) × (was.id ≡ row.id)
+
+  stood_there : (x : Spot) (row : StoredRow) → slot_at now x ≡ Some row → IsTrue (at.scan.sees x.block x.slot) → StoodThere x row
+  stood_there x row there sees = by_slot (slot_at blocks x) refl
+    where
+      by_slot : (slot : Slot) → slot_at blocks x ≡ slot → StoodThere x row
+      by_slot None is = absurd (at.standing x sees is)
+      by_slot (Some was) is =
+          let stays = rows x was (subst (SeesPlace x.block x.slot) (sym at.task_is) sees) is in
+          let same : stays.0 ≡ row = same_Some stays.0 row (sym stays.1 ∙ there) in
+          (was, is, sym stays.2 ∙ ap (λ (r : StoredRow). r.id) same)
+
+  standing_then : (x : Spot) → IsTrue (at.scan.sees x.block x.slot) → slot_at now x ≢ None
+  standing_then x sees none = by_slot (slot_at blocks x) refl
+    where
+      by_slot : (slot : Slot) → slot_at blocks x ≡ slot → ⊥
+      by_slot None is = at.standing x sees is
+      by_slot (Some was) is =
+          let stays = rows x was (subst (SeesPlace x.block x.slot) (sym at.task_is) sees) is in
+          none-some stays.0 (sym none ∙ stays.1)
+
+  saw_then : SawRows then.first later o at.scan.sees now
+  saw_then x row there sees =
+      let was = stood_there x row there sees in
+      let before = at.saw x was.0 was.1 sees in
+      let old : ℕ → Status = given_status tx.first stored in
+      let new : ℕ → Status = given_status then.first later in
+      record {
+        put = subst (λ (id : RowId). has_done o.snapshot o.t id.t (new id.t) ≡ true) was.2 (put_still o old new lasts.ended was.0.id.t before.put);
+        undeleted = undeleted_still o old new lasts.ended row.deleter (lacks x was.0 row was.1 there before.undeleted);
+      }
+
+  marks_go_on : IsMarkingAt then.first later o now marking task
+  marks_go_on = record {
+    scan = at.scan;
+    task_is = at.task_is;
+    stand = All-weaker (λ (h : Hit). (row : StoredRow) × (slot_at blocks h.spot ≡ Some row) × (row.id ≡ h.id) × IsTrue (at.scan.sees h.spot.block h.spot.slot))
+        (λ (h : Hit). (row : StoredRow) × (slot_at now h.spot ≡ Some row) × (row.id ≡ h.id) × IsTrue (at.scan.sees h.spot.block h.spot.slot))
+        (λ h stood.
+        let stays = rows h.spot stood.0 (subst (SeesPlace h.spot.block h.spot.slot) (sym at.task_is) stood.3) stood.1 in
+        (stays.0, stays.1, stays.2 ∙ stood.2, stood.3)) (hits_left marking) at.stand;
+    standing = standing_then;
+    saw = saw_then;
+  }
 
 -- what holds in its own table may change
 in_its_table : (own table : ℕ) (Here There : Type 0) (task : Task) → (Here → There) → InItsTable own table Here task → InItsTable own table There task
@@ -131,11 +174,15 @@ in_its_table own table Here There task leads at = (λ is. leads (at.0 is), at.1)
 module _ (layout : DiskLayout) (table : ℕ) (blocks now : List (List Slot)) (tx then : TxState) (stored later : List Status) (task : Task) (rows : SeenRowsStay task blocks now) (well : ScansWell blocks task) where
   -- an open transaction sees on
   abbrev pub SeesOn : Option Open → Type 0
-  SeesOn transaction = (o : Open) → transaction ≡ Some o → SeesLater (sight_of tx stored o) (sight_of then later o) × SeesSlots (sight_of tx stored o) blocks now
+  SeesOn transaction = (o : Open) → transaction ≡ Some o → SeesLater (sight_of tx stored o) (sight_of then later o) × SeesSlots (sight_of tx stored o) blocks now × LacksDeleters (sight_of tx stored o) blocks now
 
   scan_by : (transaction : Option Open) (deletes : Bool) (hand : FindHand) → SeesOn transaction → IsScanBy layout blocks tx stored transaction deletes hand task → IsScanBy layout now then later transaction deletes hand task
   scan_by None deletes hand on at = at
   scan_by (Some o) deletes hand on at = scan_goes_on (sight_of tx stored o) (sight_of then later o) blocks now task (on o refl).0 rows (on o refl).1 well layout deletes hand at
+
+  marks_by : (transaction : Option Open) (marking : Marking) → SeesOn transaction → IsMarkingBy tx stored transaction blocks marking task → IsMarkingBy then later transaction now marking task
+  marks_by None marking on at = at
+  marks_by (Some o) marking on at = marks_go_on tx then stored later o blocks now marking task (on o refl).0 (on o refl).2 rows at
 
   pub task_goes_on : (transaction : Option Open) (hand : Option Hand) → SeesOn transaction → IsTaskOf layout table blocks tx stored transaction hand task → IsTaskOf layout table now then later transaction hand task
   task_goes_on transaction None on at = at
@@ -148,7 +195,7 @@ module _ (layout : DiskLayout) (table : ℕ) (blocks now : List (List Slot)) (tx
   task_goes_on transaction (Some (hands.Selects scan)) on at = in_its_table scan.judging.query.table table (IsScanBy layout blocks tx stored transaction false scan task) (IsScanBy layout now then later transaction false scan task) task (scan_by transaction false scan on) at
   task_goes_on transaction (Some (hands.Deleting query)) on at = at
   task_goes_on transaction (Some (hands.Deletes scan)) on at = in_its_table scan.judging.query.table table (IsScanBy layout blocks tx stored transaction true scan task) (IsScanBy layout now then later transaction true scan task) task (scan_by transaction true scan on) at
-  task_goes_on transaction (Some (hands.Marks marking)) on at = in_its_table marking.query.table table (IsMarkingAt blocks marking task) (IsMarkingAt now marking task) task (marks_go_on blocks now marking task rows) at
+  task_goes_on transaction (Some (hands.Marks marking)) on at = in_its_table marking.query.table table (IsMarkingBy tx stored transaction blocks marking task) (IsMarkingBy then later transaction now marking task) task (marks_by transaction marking on) at
   task_goes_on transaction (Some (hands.Explains explain)) on at = at
   task_goes_on transaction (Some (hands.Summarises a)) on at = at
   task_goes_on transaction (Some (hands.Desummarises a)) on at = at

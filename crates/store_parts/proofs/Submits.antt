@@ -28,6 +28,7 @@ use Rattle.brin_summarise.specs.TableSteps as summarises
 use Rattle.line_texts.specs.LineTexts.{with_statement}
 use Rattle.line_texts.specs.Names.{dropped_of}
 use Rattle.line_texts.specs.Place.{Hand as HandAt, Place, database_at, new_hand}
+use Rattle.status_fronts.proofs.Within.{any_place_stands}
 use Rattle.store_parts.specs.declared.hand.Hand.{Hand}
 use Rattle.store_parts.specs.declared.hand.Hand.TheVariants as hands
 use Rattle.store_parts.specs.Hands.{HandShows, TellsSo, AnswersAre, statement_of}
@@ -221,6 +222,7 @@ submitted_is_shown s p n new dropped hand shown none changes forgets fresh = rec
   journal = shown.journal;
   legal = shown.legal;
   database = shown.database;
+  fronts = any_place_stands s.layout s.pages s.transactions shown.database.stored p (with_statement p n (statement_of hand)) refl refl shown.fronts;
   hands = hand_taken s p n new dropped hand shown none changes forgets fresh;
   own = own_taken s p n new dropped hand shown none changes forgets fresh;
   tables = table_taken s p n new dropped hand shown none changes forgets fresh;
@@ -237,6 +239,7 @@ named_is_shown s p names new shown same = record {
   journal = shown.journal;
   legal = shown.legal;
   database = shown.database;
+  fronts = any_place_stands s.layout s.pages s.transactions shown.database.stored p (record p { names = names }) refl refl shown.fronts;
   hands = λ m. subst (λ (h : Option Hand). HandShows h (p.hands m) (p.accounts m)) (sym (same m)) (shown.hands m);
   own = λ m hand is. shown.own m hand (sym (same m) ∙ is);
   tables = λ i below. record {

@@ -29,7 +29,7 @@ use Rattle.brin_scan.specs.Finds.{stands_by}
 use Rattle.brin_scan.specs.SeenRows.{SeesLater}
 use Rattle.store_parts.specs.declared.hand.Hand.{Hand}
 use Rattle.store_parts.specs.HandsInTables.{IsTaskOf, sight_of, table_in}
-use Rattle.store_parts.specs.Leaving.{LeavesOthers, LeavesTable, RowsStay, SeeAlike, SeenRowsStay, SeesSlots}
+use Rattle.store_parts.specs.Leaving.{LacksDeleters, LeavesOthers, LeavesTable, RowsStay, SeeAlike, SeenRowsStay, SeesSlots}
 use Rattle.store_parts.specs.PlacesAfter.{recounted}
 use Rattle.store_parts.specs.ShowsPlace.{ShowsTable}
 use Rattle.store_parts.specs.StoreStates.{ShownStore, hand_in}
@@ -114,6 +114,7 @@ module _ (old new : ShownStore) (stored later : List Status) (n table : ℕ) (w 
   abbrev pub OthersSeeOn : Type 0
   OthersSeeOn = (m : ℕ) (o : Open) → m ≢ n → transaction_of old.transactions.opens m ≡ Some o
       → SeesLater (sight_of old.transactions.tx stored o) (sight_of new.transactions.tx later o) × SeesSlots (sight_of old.transactions.tx stored o) shows.blocks now
+      × LacksDeleters (sight_of old.transactions.tx stored o) shows.blocks now
 
   -- another session's statement is at what it was at
   pub other_task : OthersSeeOn → (m : ℕ) → m ≢ n → IsTaskOf old.layout table now new.transactions.tx later (transaction_of new.transactions.opens m) (hand_in new.hands m) (shows.unseen.task m)
@@ -155,7 +156,7 @@ module _ (old new : ShownStore) (stored later : List Status) (n table : ℕ) (w 
   tasks_then m = elim (cases_eq m n) [
     | inl same ↦ subst (λ (k : ℕ). IsTaskOf old.layout table shows.blocks new.transactions.tx later (transaction_of new.transactions.opens k) (hand_in new.hands k) (shows.unseen.task k)) (sym same) own_task
     | inr other ↦ other_task old new stored later n table w shows leaves shows.blocks (λ k away. all_rows_stay (shows.unseen.task k) shows.blocks shows.blocks (same_slots shows.blocks).rows)
-        (λ k o away is. (alike k o away is, (same_slots shows.blocks).seen (sight_of old.transactions.tx stored o))) m other
+        (λ k o away is. (alike k o away is, (same_slots shows.blocks).seen (sight_of old.transactions.tx stored o), (same_slots shows.blocks).lacks (sight_of old.transactions.tx stored o))) m other
   ]
 
   shown_at_layout : ShowsTable (at_layout new old.layout) later table (recounted w counts)
@@ -212,13 +213,13 @@ own_table_is_pruned old new stored n table w v u now shows leaves step shown has
     tasks m = elim (cases_eq m n) [
       | inl same ↦ subst (λ (k : ℕ). IsTaskOf old.layout table now new.transactions.tx stored (transaction_of new.transactions.opens k) (hand_in new.hands k) (u.task k)) (sym same) own
       | inr other ↦ subst (λ (q : Task). IsTaskOf old.layout table now new.transactions.tx stored (transaction_of new.transactions.opens m) (hand_in new.hands m) q) (sym (others m other))
-          (other_task old new stored stored n table w shows leaves now slots.rows (λ k o away is. (sees_same old new stored o leaves.first, slots.seen k o away is)) m other)
+          (other_task old new stored stored n table w shows leaves now slots.rows (λ k o away is. (sees_same old new stored o leaves.first, slots.seen k o away is, slots.lacks k o away is)) m other)
     ]
 
 pub own_table_goes_on : OwnTableGoesOn
 own_table_goes_on old new stored n table w v u now shows leaves step shown has lock counts others own slots =
     own_table_is_pruned old new stored n table w v u now shows leaves step shown has lock counts others own
-    (record { rows = λ m away. all_rows_stay (shows.unseen.task m) shows.blocks now slots.rows; seen = slots.seen })
+    (record { rows = λ m away. all_rows_stay (shows.unseen.task m) shows.blocks now slots.rows; seen = slots.seen; lacks = slots.lacks })
 
 pub table_is_kept : TableIsKept
 table_is_kept s stored n table w task shows at = record {

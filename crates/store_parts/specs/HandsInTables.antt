@@ -24,6 +24,7 @@ use Rattle.brin_scan.specs.TableScans as scans
 use Rattle.brin_summarise.specs.Summarises.{SummariseState}
 use Rattle.brin_summarise.specs.TableSteps as summarises
 use Rattle.line_texts.specs.Beginnings.{StandsAt}
+use Rattle.status_fronts.specs.SeenBefore.{SawRows}
 use Rattle.store_parts.specs.declared.hand.Hand.{Hand}
 use Rattle.store_parts.specs.declared.hand.Hand.TheVariants as hands
 use Rattle.store_parts.specs.declared.hand.Hit.{Hit}
@@ -50,11 +51,19 @@ abbrev pub IsScanBy : DiskLayout → List (List Slot) → TxState → List Statu
 IsScanBy layout blocks tx stored None deletes hand task = ⊥
 IsScanBy layout blocks tx stored (Some o) deletes hand task = IsScanAt layout blocks (sight_of tx stored o) deletes hand task
 
--- a delete that marks: each row that is left stands where it was found, and is one that its scan saw
-pub record IsMarkingAt (blocks : List (List Slot)) (marking : Marking) (task : Task) : Type 0 where
+-- A delete that marks: each row that is left stands where it was found, and is one that its scan saw; in each place that its scan saw a row stands,
+-- and its session's transaction saw that before its own deletes.
+pub record IsMarkingAt (first : ℕ) (stored : List Status) (o : Open) (blocks : List (List Slot)) (marking : Marking) (task : Task) : Type 0 where
   pub scan : TableScan
   pub task_is : task ≡ Marks scan (ids_of (hits_left marking))
   pub stand : All (λ (h : Hit). (row : StoredRow) × (slot_at blocks h.spot ≡ Some row) × (row.id ≡ h.id) × IsTrue (scan.sees h.spot.block h.spot.slot)) (hits_left marking)
+  pub standing : (x : Spot) → IsTrue (scan.sees x.block x.slot) → slot_at blocks x ≢ None
+  pub saw : SawRows first stored o scan.sees blocks
+
+-- of a session's open transaction
+abbrev pub IsMarkingBy : TxState → List Status → Option Open → List (List Slot) → Marking → Task → Type 0
+IsMarkingBy tx stored None blocks marking task = ⊥
+IsMarkingBy tx stored (Some o) blocks marking task = IsMarkingAt tx.first stored o blocks marking task
 
 -- an explain, whatever it made of the ranges so far
 abbrev pub IsExplainAt : DiskLayout → ScanHand → Task → Type 0
@@ -80,7 +89,8 @@ IsTaskOf layout table blocks tx stored transaction (Some (hands.Selects scan)) t
     InItsTable scan.judging.query.table table (IsScanBy layout blocks tx stored transaction false scan task) task
 IsTaskOf layout table blocks tx stored transaction (Some (hands.Deletes scan)) task =
     InItsTable scan.judging.query.table table (IsScanBy layout blocks tx stored transaction true scan task) task
-IsTaskOf layout table blocks tx stored transaction (Some (hands.Marks marking)) task = InItsTable marking.query.table table (IsMarkingAt blocks marking task) task
+IsTaskOf layout table blocks tx stored transaction (Some (hands.Marks marking)) task =
+    InItsTable marking.query.table table (IsMarkingBy tx stored transaction blocks marking task) task
 IsTaskOf layout table blocks tx stored transaction (Some (hands.Explains explain)) task = InItsTable explain.judging.query.table table (IsExplainAt layout explain.judging task) task
 IsTaskOf layout table blocks tx stored transaction (Some (hands.Summarises a)) task = InItsTable (index_at layout a.index).table table (IsSummariseAt layout a task) task
 IsTaskOf layout table blocks tx stored transaction (Some (hands.Desummarises a)) task = InItsTable (index_at layout a.index).table table (IsDesummariseAt layout a task) task

@@ -1,6 +1,7 @@
 -- what requests and changes of transactions lead to
-use Rattle.std.specs.Prelude.{◌≡◌, ℕ, ◌<◌, false, not, ◌&&◌, ◌||◌, ◌==◌, List, [], ◌∷◌, ◌++◌, length, set, Option, Some}
+use Rattle.std.specs.Prelude.{◌≡◌, ℕ, ◌<◌, Bool, false, not, ◌&&◌, ◌||◌, ◌==◌, List, [], ◌∷◌, ◌++◌, length, set, Option, Some}
 use Rattle.std.specs.FinMap as finite
+use Rattle.block_model.specs.declared.place.Place.{Place as PagePlace}
 use Rattle.block_model.specs.declared.place.Spot.{Spot}
 use Rattle.block_model.specs.declared.request.Entry.{Entry}
 use Rattle.block_model.specs.DatabaseState.{DatabaseState}
@@ -8,7 +9,7 @@ use Rattle.block_model.specs.RequestEffect.{Answer, IsLegalRequest, after_reques
 use Rattle.page_layout.specs.PageContents.{Slot}
 use Rattle.page_layout.specs.PageWrites.{marked}
 use Rattle.page_layout.specs.RowBytes.{StoredRow}
-use Rattle.page_store.specs.PageMap.{block_at}
+use Rattle.page_store.specs.PageMap.{block_at, page_at}
 use Rattle.store_opening.specs.PageOrder.{IsIndexInOrder}
 use Rattle.heap_rows.specs.Heaps.{relation_of as heap_of}
 use Rattle.heap_rows.specs.RowPlaces.{ChangesSlot, FillsSlot, slot_at, with_row}
@@ -17,17 +18,23 @@ use Rattle.snapshot_core.specs.declared.statuses.Status.TheVariants as statuses
 use Rattle.row_versions.specs.declared.sessions.Open.{Open}
 use Rattle.row_versions.specs.StoredVersions.{transaction_of}
 use Rattle.tx_table.specs.Statuses.{HasStatuses, number_limit, status_relation}
+use Rattle.tx_table.specs.TxState.{TxState}
 use Rattle.transactions.specs.CountedRows.{counts as counts_of}
 use Rattle.transactions.specs.Laws.{BeginIsUnseen, EndIsUnseen, MarkIsUnseen, PutIsUnseen, RowIsOfTransactions, ShowAlike}
 use Rattle.transactions.specs.ShowsDatabase.{DoesRequest, ShowsDatabase}
-use Rattle.transactions.specs.StoredRows.{StandsAt, conflicts_with}
+use Rattle.transactions.specs.StoredRows.{MarksRowAt, PutsRow, StandsAt, conflicts_with}
+use Rattle.transactions.specs.TransactionsState.{with_failed, with_row_counted}
 use Rattle.index_contents.specs.IndexContents.{index_page}
 use Rattle.table_coverage.specs.Accounts.{Account}
 use Rattle.table_coverage.specs.Table.{TableState}
+use Rattle.brin_scan.specs.Finds.{sees_stored}
 use Rattle.line_texts.specs.Place.{Hand as HandAt, Place, database_at}
+use Rattle.status_fronts.specs.SeenBefore.{SawRows}
+use Rattle.status_fronts.specs.StepLaws.{IsWithin}
 use Rattle.store_parts.specs.declared.hand.Hand.{Hand}
 use Rattle.store_parts.specs.Hands.{HandShows}
-use Rattle.store_parts.specs.Leaving.{CountsFew, HasNoRows, LeadsTo, SeeAlike, SlotsStay}
+use Rattle.store_parts.specs.HandsInTables.{sight_of}
+use Rattle.store_parts.specs.Leaving.{CountsFew, HasNoRows, LeadsTo, SeeAlike, SlotsStay, StaysWithin}
 use Rattle.store_parts.specs.RefusalLaws.{CountsNoMore}
 use Rattle.store_parts.specs.ShowsPlace.{IsOfTransaction, IsPlaceOf, ShowsTable}
 use Rattle.store_parts.specs.StoreStates.{ShownStore, hand_in}
@@ -39,18 +46,18 @@ pub record HasInHand (old new : ShownStore) (n : ℕ) (at : Option HandAt) (acco
   pub order : (index : ℕ) → index < length old.layout.schema.indexes → IsIndexInOrder old.layout.sizes.index_blocks (index_page old.layout old.pages index)
       → IsIndexInOrder old.layout.sizes.index_blocks (index_page old.layout new.pages index)
 
--- one request of the session
+-- one request of the session, a put, a look or a mark
 abbrev pub RequestLeads : Type 0
 RequestLeads = (old new : ShownStore) (p : Place) (n : ℕ) (at : Option HandAt) (account : Account) (e : Entry) (answer : Answer) → IsPlaceOf old p → e.session ≡ n
     → IsLegalRequest (database_at p) e → new.entries ≡ old.entries ++ e ∷ [] → DoesRequest old.layout new.pages new.transactions (database_at p) e answer
-    → HasInHand old new n at account (after_request (database_at p) e) → LeadsTo old new p n at account
+    → IsWithin e.request → StaysWithin old new → HasInHand old new n at account (after_request (database_at p) e) → LeadsTo old new p n at account
 
 -- two requests of the session, one right after the other
 abbrev pub TwoRequestsLead : Type 0
 TwoRequestsLead = (old new : ShownStore) (p : Place) (n : ℕ) (at : Option HandAt) (account : Account) (e f : Entry) → IsPlaceOf old p → e.session ≡ n → f.session ≡ n
     → IsLegalRequest (database_at p) e → IsLegalRequest (after_request (database_at p) e) f → new.entries ≡ (old.entries ++ e ∷ []) ++ f ∷ []
     → ShowsDatabase old.layout new.pages new.transactions (after_request (after_request (database_at p) e) f)
-    → HasInHand old new n at account (after_request (after_request (database_at p) e) f) → LeadsTo old new p n at account
+    → IsWithin e.request → IsWithin f.request → StaysWithin old new → HasInHand old new n at account (after_request (after_request (database_at p) e) f) → LeadsTo old new p n at account
 
 -- none, where the pages of statuses and of the tables' heaps stay, and so do the transactions
 abbrev pub NoRequestLeads : Type 0
@@ -59,6 +66,27 @@ NoRequestLeads = ShowAlike → (old new : ShownStore) (p : Place) (n : ℕ) (at 
     → ((block : ℕ) → block_at new.pages status_relation block ≡ block_at old.pages status_relation block)
     → ((table block : ℕ) → table < length old.layout.schema.tables → block_at new.pages (heap_of table) block ≡ block_at old.pages (heap_of table) block)
     → HasInHand old new n at account (database_at p) → LeadsTo old new p n at account
+
+-- ---- which steps begin and end no transaction
+
+-- where the session's transaction puts a row
+abbrev pub PutStaysWithin : Type 0
+PutStaysWithin = (old new : ShownStore) (n table : ℕ) (o : Open) (spot : Spot) (row : StoredRow) → transaction_of old.transactions.opens n ≡ Some o
+    → new.transactions ≡ with_row_counted old.transactions n o → PutsRow old.layout old.pages new.pages table spot row → row.deleter ≡ 0 → StaysWithin old new
+
+-- where it marks one
+abbrev pub MarkStaysWithin : Type 0
+MarkStaysWithin = (old new : ShownStore) (n table : ℕ) (o : Open) (spot : Spot) (row : StoredRow) → transaction_of old.transactions.opens n ≡ Some o
+    → new.transactions ≡ old.transactions → MarksRowAt old.layout old.pages new.pages table spot row o.t → StaysWithin old new
+
+-- where it looks, and no page changes
+abbrev pub LookStaysWithin : Type 0
+LookStaysWithin = (old new : ShownStore) → new.transactions ≡ old.transactions → ((place : PagePlace) → page_at new.pages place ≡ page_at old.pages place) → StaysWithin old new
+
+-- and where it fails, and no page changes
+abbrev pub FailureStaysWithin : Type 0
+FailureStaysWithin = (old new : ShownStore) (n : ℕ) (o : Open) → transaction_of old.transactions.opens n ≡ Some o
+    → new.transactions ≡ with_failed old.transactions n o → ((place : PagePlace) → page_at new.pages place ≡ page_at old.pages place) → StaysWithin old new
 
 -- ---- what the others see
 
@@ -92,6 +120,13 @@ EndSeesAlike = EndIsUnseen → (old new : ShownStore) (d : DatabaseState) (store
 -- statuses that stay
 abbrev pub SameSeesAlike : Type 0
 SameSeesAlike = (old new : ShownStore) (stored : List Status) (n : ℕ) → new.transactions.tx.first ≡ old.transactions.tx.first → SeeAlike n old new stored stored
+
+-- ---- what a scan sees
+
+-- its transaction saw before its own deletes
+abbrev pub ScanSawRows : Type 0
+ScanSawRows = (tx : TxState) (stored : List Status) (o : Open) (sees : ℕ → ℕ → Bool) (blocks : List (List Slot))
+    → ((b k : ℕ) (row : StoredRow) → slot_at blocks (record { block = b; slot = k }) ≡ Some row → sees b k ≡ sees_stored (sight_of tx stored o) row) → SawRows tx.first stored o sees blocks
 
 -- ---- which rows count
 

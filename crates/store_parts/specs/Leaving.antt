@@ -15,9 +15,10 @@ use Rattle.store_opening.specs.PageOrder.{IsIndexInOrder}
 use Rattle.heap_rows.specs.Heaps.{relation_of as heap_of}
 use Rattle.heap_rows.specs.RowPlaces.{slot_at}
 use Rattle.snapshot_core.specs.declared.statuses.Status.{Status}
+use Rattle.snapshot_core.specs.Visibility.{in_snapshot}
 use Rattle.row_versions.specs.declared.sessions.Open.{Open}
 use Rattle.row_versions.specs.StoredVersions.{transaction_of}
-use Rattle.tx_table.specs.Statuses.{status_relation}
+use Rattle.tx_table.specs.Statuses.{HasStatuses, status_relation}
 use Rattle.transactions.specs.CountedRows.{counts as counts_of}
 use Rattle.transactions.specs.ShowsDatabase.{ShowsDatabase}
 use Rattle.transactions.specs.StoredRows.{StandsAt}
@@ -33,6 +34,9 @@ use Rattle.brin_scan.specs.Finds.{Sight, sees_stored}
 use Rattle.brin_scan.specs.SeenRows.{SeesLater}
 use Rattle.line_texts.specs.Names.{dropped_of}
 use Rattle.line_texts.specs.Place.{Hand as HandAt, Place, database_at}
+use Rattle.status_fronts.specs.FrontsStand.{FrontsStand}
+use Rattle.status_fronts.specs.RowsFollow.{RowsFollow}
+use Rattle.status_fronts.specs.StepLaws.{OpensStay}
 use Rattle.store_parts.specs.declared.hand.Hand.{Hand}
 use Rattle.store_parts.specs.Hands.{HandShows}
 use Rattle.store_parts.specs.HandsAsk.{HandAsked, IsNoInsert}
@@ -105,21 +109,41 @@ abbrev pub SeenRowsStay : Task → (old new : List (List Slot)) → Type 0
 SeenRowsStay task old new = (spot : Spot) (row : StoredRow) → SeesPlace spot.block spot.slot task → slot_at old spot ≡ Some row
     → (now : StoredRow) × (slot_at new spot ≡ Some now) × (now.id ≡ row.id) × (now.values ≡ row.values)
 
+-- the snapshot hasn't got the deleter of a row that stands in a slot, where it hadn't got that of the row before
+abbrev pub LacksDeleters : Sight → (old new : List (List Slot)) → Type 0
+LacksDeleters sight old new = (spot : Spot) (row now : StoredRow) → slot_at old spot ≡ Some row → slot_at new spot ≡ Some now
+    → in_snapshot sight.snapshot row.deleter (sight.status row.deleter) ≡ false → in_snapshot sight.snapshot now.deleter (sight.status now.deleter) ≡ false
+
 -- what each other session's statement sees stays, and its transaction sees of the slots what it saw
 pub record SeenSlotsStay (n : ℕ) (s : ShownStore) (tasks : ℕ → Task) (stored : List Status) (old new : List (List Slot)) : Type 0 where
   pub rows : (m : ℕ) → m ≢ n → SeenRowsStay (tasks m) old new
   pub seen : (m : ℕ) (o : Open) → m ≢ n → transaction_of s.transactions.opens m ≡ Some o → SeesSlots (sight_of s.transactions.tx stored o) old new
+  pub lacks : (m : ℕ) (o : Open) → m ≢ n → transaction_of s.transactions.opens m ≡ Some o → LacksDeleters (sight_of s.transactions.tx stored o) old new
 
 -- rows stay, and each other session's transaction sees of the slots what it saw
 pub record SlotsStay (n : ℕ) (s : ShownStore) (stored : List Status) (old new : List (List Slot)) : Type 0 where
   pub rows : RowsStay old new
   pub seen : (m : ℕ) (o : Open) → m ≢ n → transaction_of s.transactions.opens m ≡ Some o → SeesSlots (sight_of s.transactions.tx stored o) old new
+  pub lacks : (m : ℕ) (o : Open) → m ≢ n → transaction_of s.transactions.opens m ≡ Some o → LacksDeleters (sight_of s.transactions.tx stored o) old new
 
--- What a step of session n leads to: the parts show the database of the journal then, which is legal; the other sessions' copies stay; the session has
--- this in hand, with this to tell; and the pages of each index stay in order.
+-- A step begins and ends no transaction: the pages of statuses stay, each open transaction was open with its number and its snapshot, and rows go on.
+pub record StaysWithin (old new : ShownStore) : Type 0 where
+  pub statuses : (block : ℕ) → block_at new.pages status_relation block ≡ block_at old.pages status_relation block
+  pub first : new.transactions.tx.first ≡ old.transactions.tx.first
+  pub opens : OpensStay old.transactions new.transactions
+  pub rows : RowsFollow old.layout old.pages new.pages old.transactions
+
+-- Whichever statuses the pages have then, they and the snapshots stand to the fronts of the journal: in each place that has it, with the opening of this one.
+abbrev pub FrontsThen : (old new : ShownStore) → Place → Type 0
+FrontsThen old new p = (stored : List Status) (q : Place) → HasStatuses old.layout new.pages stored → q.opening ≡ p.opening → q.journal ≡ new.entries
+    → FrontsStand old.layout new.pages new.transactions stored q
+
+-- What a step of session n leads to: the parts show the database of the journal then, which is legal, and stand to its fronts; the other sessions' copies
+-- stay; the session has this in hand, with this to tell; and the pages of each index stay in order.
 pub record LeadsTo (old new : ShownStore) (p : Place) (n : ℕ) (at : Option HandAt) (account : Account) : Type 0 where
   pub database : ShowsDatabase old.layout new.pages new.transactions (serial_run p.opening new.entries)
   pub legal : IsLegal p.opening new.entries
+  pub fronts : FrontsThen old new p
   pub copies : (m : ℕ) → m ≢ n → finite.get (serial_run p.opening new.entries).sessions m ≡ finite.get (database_at p).sessions m
   pub hand : HandShows (hand_in new.hands n) at account
   pub own : (hand : Hand) → hand_in new.hands n ≡ Some hand

@@ -8,6 +8,7 @@ use Rattle.store_opening.specs.PageOrder.{IsIndexInOrder}
 use Rattle.heap_rows.specs.HeapBlocks.{HasBlocks}
 use Rattle.snapshot_core.specs.declared.statuses.Status.{Status}
 use Rattle.transactions.specs.CountedRows.{counts as counts_of}
+use Rattle.transactions.specs.Laws.{IsOpened}
 use Rattle.transactions.specs.ShowsDatabase.{ShowsDatabase}
 use Rattle.index_contents.specs.IndexContents.{index_page}
 use Rattle.table_coverage.specs.Accounts.{no_account}
@@ -47,7 +48,7 @@ place_opened s opening tables = record {
 
 abbrev pub OpenedIsShown : Type 0
 OpenedIsShown = (s : ShownStore) (opening : DatabaseState) (tables : ℕ → TableState) → s.entries ≡ [] → s.queue ≡ [] → ((n : ℕ) → dropped_in s.dropped n ≡ []) → ((n : ℕ) → hand_in s.hands n ≡ None)
-    → (database : ShowsDatabase s.layout s.pages s.transactions opening)
+    → IsOpened s.transactions → (database : ShowsDatabase s.layout s.pages s.transactions opening)
     → ((table : ℕ) → table < length s.layout.schema.tables → IsTableOpened s database.stored table (tables table))
     → ((index : ℕ) → index < length s.layout.schema.indexes → IsIndexInOrder s.layout.sizes.index_blocks (index_page s.layout s.pages index))
     → IsPlaceOf s (place_opened s opening tables)

@@ -22,6 +22,7 @@ use Rattle.index_steps.specs.ShownRows.{shown_by}
 use Rattle.brin_insert.specs.AskedFor.{AreRequestsOf}
 use Rattle.line_texts.specs.Names.{dropped_of}
 use Rattle.line_texts.specs.Place.{Place, database_at}
+use Rattle.status_fronts.specs.FrontsStand.{FrontsStand}
 use Rattle.store_parts.specs.declared.hand.Hand.{Hand}
 use Rattle.store_parts.specs.declared.hand.Hand.TheVariants as hands
 use Rattle.store_parts.specs.Hands.{HandShows, hits_left, ids_of}
@@ -76,6 +77,8 @@ pub record IsPlaceOf (s : ShownStore) (p : Place) : Type 0 where
   pub legal : IsLegal p.opening p.journal
   -- the rows on the pages, their statuses and the open transactions show the database of the journal
   pub database : ShowsDatabase s.layout s.pages s.transactions (database_at p)
+  -- these statuses and the snapshots of the open transactions stand to the fronts of the journal
+  pub fronts : FrontsStand s.layout s.pages s.transactions database.stored p
   -- the statements in hand
   pub hands : (n : ℕ) → HandShows (hand_in s.hands n) (p.hands n) (p.accounts n)
   pub own : (n : ℕ) (hand : Hand) → hand_in s.hands n ≡ Some hand → IsOfTransaction (transaction_of s.transactions.opens n) (finite.get (database_at p).sessions n) hand

@@ -14,6 +14,7 @@ use Rattle.store_layout.specs.DiskLayout.{DiskLayout}
 use Rattle.heap_rows.specs.HeapBlocks.{HasBlocks}
 use Rattle.heap_rows.specs.RowPlaces.{ChangesSlot, FillsSlot, slot_at, with_row}
 use Rattle.snapshot_core.specs.declared.statuses.Status.{Status}
+use Rattle.snapshot_core.specs.Visibility.{in_snapshot}
 use Rattle.row_versions.specs.StoredVersions.{transaction_of}
 use Rattle.transactions.specs.CountedRows.{counts as counts_of}
 use Rattle.coverage.specs.Statements.{Copied, Empty, Held}
@@ -26,7 +27,7 @@ use Rattle.index_steps.specs.ShownRows.{ShowsKept, shown_by}
 use Rattle.brin_scan.specs.Finds.{Sight, sees_stored}
 use Rattle.brin_scan.specs.SeenRows.{IsOthersSince, StaysInSlot}
 use Rattle.store_parts.specs.HandsInTables.{IsTaskOf, table_in}
-use Rattle.store_parts.specs.Leaving.{LeavesOthers, LeavesTable, RowsStay, SeeAlike, SeenSlotsStay, SeesSlots, SlotsStay}
+use Rattle.store_parts.specs.Leaving.{LacksDeleters, LeavesOthers, LeavesTable, RowsStay, SeeAlike, SeenSlotsStay, SeesSlots, SlotsStay}
 use Rattle.store_parts.specs.PlacesAfter.{recounted}
 use Rattle.store_parts.specs.ShowsPlace.{ShowsTable}
 use Rattle.store_parts.specs.StoreStates.{ShownStore, hand_in}
@@ -102,6 +103,7 @@ TableShowsAlike = (n table : ℕ) (old new : ShownStore) (blocks : List (List Sl
 pub record AreSameSlots (blocks : List (List Slot)) : Type 0 where
   pub rows : RowsStay blocks blocks
   pub seen : (sight : Sight) → SeesSlots sight blocks blocks
+  pub lacks : (sight : Sight) → LacksDeleters sight blocks blocks
 
 abbrev pub SameSlotsStay : Type 0
 SameSlotsStay = (blocks : List (List Slot)) → AreSameSlots blocks
@@ -111,6 +113,7 @@ pub record IsSlotFilled (row : StoredRow) (old new : List (List Slot)) : Type 0 
   pub rows : RowsStay old new
   pub seen : (sight : Sight) → IsOthersSince sight row.id.t → SeesSlots sight old new
   pub unseen : (sight : Sight) → sees_stored sight row ≡ false → SeesSlots sight old new
+  pub lacks : (sight : Sight) → LacksDeleters sight old new
 
 abbrev pub FilledSlotStays : Type 0
 FilledSlotStays = (count : ℕ) (spot : Spot) (row : StoredRow) (blocks : List (List Slot)) → FillsSlot count spot row blocks
@@ -121,6 +124,7 @@ pub record IsSlotMarked (row : StoredRow) (deleter : ℕ) (old new : List (List 
   pub rows : RowsStay old new
   pub seen : (sight : Sight) → StaysInSlot sight row (marked row deleter) → SeesSlots sight old new
   pub alike : (sight : Sight) → sees_stored sight (marked row deleter) ≡ sees_stored sight row → SeesSlots sight old new
+  pub lacks : (sight : Sight) → in_snapshot sight.snapshot deleter (sight.status deleter) ≡ false → LacksDeleters sight old new
 
 abbrev pub MarkedSlotStays : Type 0
 MarkedSlotStays = (spot : Spot) (row : StoredRow) (deleter : ℕ) (old new : List (List Slot)) → slot_at old spot ≡ Some row

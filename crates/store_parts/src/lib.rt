@@ -28,7 +28,9 @@ pub use dropped_requests::DroppedRequests;
 pub use faults::{Step, StoreFault, fault_of};
 pub use hand::{Hand, Hit, Marking, Stepped};
 pub use journal::Journal;
-pub use laws_leads::{a_request_leads, few_rows_come_to_count, others_see_on};
+pub use laws_leads::{
+    a_request_leads, a_scan_saw_its_rows, few_rows_come_to_count, others_see_on, transactions_go_on,
+};
 pub use laws_opening::an_opened_store_is_shown;
 pub use laws_places::{a_step_is_shown, places_after_a_step};
 pub use laws_refusals::{a_refusal_is_shown, a_refusal_turns};

@@ -1,12 +1,12 @@
 -- what a scan has found with its last step
-use Rattle.std.proofs.Common.{◌≡◌, inl, inr, ℕ, zero, suc, ◌+◌, ◌<◌, ◌≤◌, ◌==◌, Bool, true, false, ◌&&◌, ◌||◌, List, [], ◌∷◌, length, map, get_or, Option, Some, All, IsSorted, refl, sym, ap, ◌∙◌, arith}
+use Rattle.std.proofs.Common.{◌≡◌, ◌≢◌, inl, inr, ℕ, zero, suc, ◌+◌, ◌<◌, ◌≤◌, ◌==◌, Bool, true, false, ◌&&◌, ◌||◌, List, [], ◌∷◌, length, map, get_or, Option, None, Some, All, IsSorted, refl, sym, ap, ◌∙◌, arith}
 use Rattle.std.specs.Prelude.{IsTrue}
 use Rattle.std.specs.List.{IsDistinct}
 use Rattle.std.specs.Ordering.{eq_by_cmp, is_lt}
 use Rattle.std.proofs.lemmas.Bool.{eq-eqb, false≢true}
 use Rattle.std.proofs.lemmas.List.{get_or-map, length-map}
 use Rattle.std.proofs.lemmas.List.Sorted.{IsPermutation-map}
-use Rattle.std.proofs.lemmas.Option.{same_Some}
+use Rattle.std.proofs.lemmas.Option.{none-some, same_Some}
 use Rattle.block_model.specs.declared.place.Spot.{Spot}
 use Rattle.block_model.specs.declared.reply.Point.{Point}
 use Rattle.block_model.specs.declared.row.Query.{Query}
@@ -134,6 +134,13 @@ module _ (laws : LookLaws) (old : ShownStore) (n : ℕ) (looking : Looking) (bef
         let known = (between_kept laws old n looking before o there p shown after same now point goes).finds n its_done (done_there laws old n looking before o there p shown after same now point goes) f.1.block f.1.slot
         (found_is f.1.block f.1.slot ∙ found_here after.found k d below) in
         sym (sees_is f.1.block f.1.slot) ∙ known.2
+
+    -- where its session sees a row, it stands
+    pub sees_standing : (x : Spot) → IsTrue (at.sees x.block x.slot) → slot_at (shows laws old n looking before o there p shown).blocks x ≢ None
+    sees_standing x sees none =
+        let known = (between_kept laws old n looking before o there p shown after same now point goes).scans n its_done (done_there laws old n looking before o there p shown after same now point goes) x.block x.slot
+        (sees_is x.block x.slot ∙ sees) in
+        none-some known.0 (sym (ap (row_in query.table) none) ∙ known.1)
 
     -- and each that is found is one, and stands there
     is_found_there : (k : ℕ) (d : Row × Spot) → k < length after.found

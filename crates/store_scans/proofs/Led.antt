@@ -30,6 +30,7 @@ use Rattle.store_parts.specs.Leaving.{LeadsTo, LeavesOthers, SameLocks, StepsInT
 use Rattle.store_parts.specs.PlacesAfter.{TurnsIn, place_after}
 use Rattle.store_parts.specs.ShowsPlace.{IsOfTransaction, IsPlaceOf, ShowsTable}
 use Rattle.store_parts.specs.StoreStates.{ShownStore, hand_in}
+use Rattle.store_parts.proofs.Fronts.{fronts_same}
 use Rattle.store_parts.proofs.Leads.{nothing_leaves_slots, same_counts_few}
 use Rattle.store_parts.proofs.Places.{table_step_is_shown}
 use Rattle.store_parts.proofs.Tables.{own_table_goes_on}
@@ -70,6 +71,7 @@ nothing_entered old new n p shown left same at account hand own =
           (subst (λ (m : PageMap). ShowsDatabase old.layout m new.transactions (database_at p)) (sym left.pages)
           (subst (λ (t : TransactionsState). ShowsDatabase old.layout old.pages t (database_at p)) (sym left.transactions) shown.database));
       legal = subst (IsLegal p.opening) (sym same_entries) shown.legal;
+      fronts = fronts_same old new p shown same left.transactions left.pages;
       copies = λ m apart. ap (λ (e : List Entry). finite.get (serial_run p.opening e).sessions m) same_entries;
       hand = hand;
       own = λ now is. subst (λ (e : List Entry). IsOfTransaction (transaction_of new.transactions.opens n) (finite.get (serial_run p.opening e).sessions n) now) (sym same_entries) (own now is);

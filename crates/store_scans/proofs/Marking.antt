@@ -26,6 +26,7 @@ use Rattle.statements.specs.declared.statement.Statement.TheVariants as statemen
 use Rattle.row_versions.specs.declared.sessions.Open.{Open}
 use Rattle.row_versions.specs.StoredVersions.{transaction_of}
 use Rattle.transactions.specs.CountedRows.{counts as counts_of}
+use Rattle.transactions.specs.TransactionsState.{TransactionsState}
 use Rattle.table_coverage.specs.Accounts.{Account, no_account}
 use Rattle.table_coverage.specs.Machines.{table_state, task_turned}
 use Rattle.table_coverage.specs.RowOrder.{AreInOrder, IsAmong}
@@ -45,21 +46,22 @@ use Rattle.store_parts.specs.declared.hand.Hand.TheVariants as hands
 use Rattle.store_parts.specs.declared.hand.Hit.{Hit}
 use Rattle.store_parts.specs.declared.hand.Marking.{Marking}
 use Rattle.store_parts.specs.Hands.{HandShows, hits_left, ids_of}
-use Rattle.store_parts.specs.HandsInTables.{IsMarkingAt, IsTaskOf, table_in}
+use Rattle.store_parts.specs.HandsInTables.{IsMarkingAt, IsMarkingBy, IsTaskOf, table_in}
 use Rattle.store_parts.specs.Leaving.{LeadsTo}
 use Rattle.store_parts.specs.PlacesAfter.{place_after}
 use Rattle.store_parts.specs.ShowsPlace.{IsLeftToMark, IsOfTransaction, IsPlaceOf}
 use Rattle.store_parts.specs.StoreStates.{ShownStore, hand_in}
+use Rattle.store_parts.proofs.Leads.{scan_saw_rows}
 use Rattle.store_parts.proofs.Steps.{turn_goes_on}
 use Rattle.store_scans.specs.declared.looking.Looking.TheVariants as lookings
 use Rattle.store_scans.specs.FoundLists.{ListsHits, hit_of, rows_of}
 use Rattle.store_scans.specs.LookLaws.{LookLaws}
-use Rattle.store_scans.proofs.Found.{found_here, goes, ids_distinct, now, read, rows_are, rows_sorted, scan_then, sees_found}
+use Rattle.store_scans.proofs.Found.{found_here, goes, ids_distinct, now, read, rows_are, rows_sorted, scan_then, sees_found, sees_standing}
 use Rattle.store_scans.proofs.GoesOn.{enters_nothing}
 use Rattle.store_scans.proofs.Stepped.{MakesStep}
 use Rattle.store_scans.proofs.Led.{IsInHand, ScanLeft, nothing_entered, place_shown}
 use Rattle.store_scans.proofs.Ordered.{among_them, one_among, one_at, row_ids, rows_in_order, same_ids}
-use Rattle.store_scans.proofs.Standing.{LooksThere, account_is, in_hand, pages_show, shows, w}
+use Rattle.store_scans.proofs.Standing.{LooksThere, account_is, in_hand, pages_show, scans_at, shows, w}
 use Rattle.store_scans.proofs.Stands.{IsThere}
 use Rattle.store_scans.proofs.Turns.{copy, reads, tells_nothing, turns_there}
 
@@ -145,15 +147,25 @@ module _ (laws : LookLaws) (old new : ShownStore) (n : ℕ) (before after : Find
       (slot.0, slot.1, sym (ap (λ (r : Row). r.id) slot.2), seen.2)) ordered ordered_seen))
 
   module _ (is : hand_in new.hands n ≡ Some (hands.Marks marking)) where
-    marking_at : IsMarkingAt (shows laws old n lookings.Delete before o there p shown).blocks marking next
-    marking_at = record { scan = found_scan; task_is = refl; stand = marks_stand }
+    marking_at : IsMarkingAt old.transactions.tx.first shown.database.stored o (shows laws old n lookings.Delete before o there p shown).blocks marking next
+    marking_at = record {
+      scan = found_scan;
+      task_is = refl;
+      stand = marks_stand;
+      standing = sees_standing laws old n lookings.Delete before after o there p shown same point steps stand;
+      saw = scan_saw_rows old.transactions.tx shown.database.stored o found_scan.sees (shows laws old n lookings.Delete before o there p shown).blocks (scans_at laws old n lookings.Delete before o there p shown).now;
+    }
+
+    marking_by : IsMarkingBy new.transactions.tx shown.database.stored (transaction_of new.transactions.opens n) (shows laws old n lookings.Delete before o there p shown).blocks marking next
+    marking_by = subst (λ (t : TransactionsState). IsMarkingBy t.tx shown.database.stored (transaction_of t.opens n) (shows laws old n lookings.Delete before o there p shown).blocks marking next) (sym left.transactions)
+        (subst (λ (x : Option Open). IsMarkingBy old.transactions.tx shown.database.stored x (shows laws old n lookings.Delete before o there p shown).blocks marking next) (sym there.opened) marking_at)
 
     in_hand_then : IsInHand old new n number (shows laws old n lookings.Delete before o there p shown).blocks shown.database.stored next
     in_hand_then = record {
       asks = subst IsNoInsert (sym is) tt;
       is_in = λ other there_is. sym (same_Some after.judging.query.table other (sym (ap (table_in old.layout) is) ∙ there_is)) ∙ ap (λ (q : Query). q.table) same;
       task = subst (λ (h : Option Hand). IsTaskOf old.layout number (shows laws old n lookings.Delete before o there p shown).blocks new.transactions.tx shown.database.stored (transaction_of new.transactions.opens n) h next) (sym is)
-          ((λ own. marking_at), (λ away. absurd (away (ap (λ (q : Query). q.table) same))));
+          ((λ own. marking_by), (λ away. absurd (away (ap (λ (q : Query). q.table) same))));
     }
 
     shows_then : HandShows (hand_in new.hands n) (Some hand) account

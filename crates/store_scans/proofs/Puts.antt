@@ -37,7 +37,8 @@ use Rattle.brin_summarise.specs.Summarises.{SummariseState}
 use Rattle.brin_summarise.specs.TableSteps as summarises
 use Rattle.store_parts.specs.declared.hand.Hand.{Hand}
 use Rattle.store_parts.specs.declared.hand.Hand.TheVariants as hands
-use Rattle.store_parts.specs.HandsInTables.{InItsTable, IsExplainAt, IsMarkingAt, IsScanBy, IsSummariseAt, IsTaskOf, IsDesummariseAt}
+use Rattle.store_parts.specs.declared.hand.Marking.{Marking}
+use Rattle.store_parts.specs.HandsInTables.{InItsTable, IsExplainAt, IsMarkingBy, IsScanBy, IsSummariseAt, IsTaskOf, IsDesummariseAt}
 
 -- an insert of that row at that place, at an index or before it asks for a summary there
 abbrev pub IsInsertingAt : (b k : ℕ) → Row → (at : ℕ) → Task → Type 0
@@ -120,6 +121,10 @@ module _ (b k : ℕ) where
       | inr away ↦ absurd (subst (HasPut b k) (at.1 away) has)
     ]
 
+    marks_by_none : (transaction : Option Open) (marking : Marking) → IsMarkingBy tx stored transaction blocks marking task → HasPut b k task → ⊥
+    marks_by_none None marking at has = at
+    marks_by_none (Some o) marking at has = subst (HasPut b k) at.task_is has
+
     pub put_by : (hand : Option Hand) → IsTaskOf layout table blocks tx stored transaction hand task → HasPut b k task → IsPutBy hand b k task
     put_by None at has = absurd (subst (HasPut b k) at has)
     put_by (Some (hands.Begins numbers)) at has = absurd (subst (HasPut b k) at has)
@@ -132,7 +137,7 @@ module _ (b k : ℕ) where
     put_by (Some (hands.Deleting query)) at has = absurd (subst (HasPut b k) at has)
     put_by (Some (hands.Deletes scan)) at has = absurd (in_none scan.judging.query.table (IsScanBy layout blocks tx stored transaction true scan task) (scan_by_none transaction true scan) at has)
     put_by (Some (hands.Marks marking)) at has =
-        absurd (in_none marking.query.table (IsMarkingAt blocks marking task) (λ (there : IsMarkingAt blocks marking task) put. subst (HasPut b k) there.task_is put) at has)
+        absurd (in_none marking.query.table (IsMarkingBy tx stored transaction blocks marking task) (marks_by_none transaction marking) at has)
     put_by (Some (hands.Explains explain)) at has =
         absurd (in_none explain.judging.query.table (IsExplainAt layout explain.judging task)
         (λ (there : IsExplainAt layout explain.judging task) put. scan_puts_none layout explain.judging.stage explain.judging _ (subst (HasPut b k) there.1 put)) at has)

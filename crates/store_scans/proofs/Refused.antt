@@ -39,6 +39,7 @@ use Rattle.store_parts.specs.PlacesAfter.{place_after, place_at_once}
 use Rattle.store_parts.specs.RefusalLaws.{CountsNoMore, refused_in}
 use Rattle.store_parts.specs.ShowsPlace.{IsPlaceOf, ShowsTable}
 use Rattle.store_parts.specs.StoreStates.{ShownStore, hand_in}
+use Rattle.store_parts.proofs.Fronts.{failure_stays_within}
 use Rattle.store_parts.proofs.Leads.{failure_counts_no_more, fewer_counts_few, nothing_leaves_slots, request_leads, same_sees_alike}
 use Rattle.store_parts.proofs.Places.{step_at_once_is_shown, table_step_is_shown}
 use Rattle.store_parts.proofs.Requests.{look_is_legal}
@@ -117,7 +118,8 @@ module _ (laws : LookLaws) (old new : ShownStore) (n : ℕ) (looking : Looking) 
   asks_none = record { queue = left.queue; dropped = left.dropped; told = refl; hand = subst IsNoInsert (sym left.none) tt }
 
   leads : LeadsTo old new p n None (p.accounts n)
-  leads = request_leads old new p n None (p.accounts n) e NoMemory shown refl legal left.entries does has_none
+  leads = request_leads old new p n None (p.accounts n) e NoMemory shown refl legal left.entries does tt
+      (failure_stays_within old new n o there.opened left.transactions (λ place. ap (λ (m : PageMap). page_at m place) left.pages)) has_none
 
   abbrev counts : ℕ → Bool
   counts = counts_of new.transactions stored

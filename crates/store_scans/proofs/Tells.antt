@@ -12,7 +12,7 @@ use Rattle.block_model.specs.DatabaseState.{DatabaseState}
 use Rattle.block_model.specs.RequestEffect.{Answer, Found, IsLegalRequest, after_request, effect, rows_found}
 use Rattle.store_layout.specs.DiskLayout.{DiskLayout}
 use Rattle.page_layout.specs.PageContents.{Slot}
-use Rattle.page_store.specs.PageMap.{PageMap}
+use Rattle.page_store.specs.PageMap.{PageMap, page_at}
 use Rattle.page_locks.specs.declared.did.Did.TheVariants as did
 use Rattle.snapshot_core.specs.declared.statuses.Status.{Status}
 use Rattle.statements.specs.declared.limits.TheConstants.{MAX_ENTRIES}
@@ -42,6 +42,7 @@ use Rattle.store_parts.specs.Leaving.{LeadsTo}
 use Rattle.store_parts.specs.PlacesAfter.{place_after}
 use Rattle.store_parts.specs.ShowsPlace.{IsPlaceOf}
 use Rattle.store_parts.specs.StoreStates.{ShownStore, hand_in}
+use Rattle.store_parts.proofs.Fronts.{look_stays_within}
 use Rattle.store_parts.proofs.Leads.{request_leads}
 use Rattle.store_parts.proofs.Requests.{look_is_legal}
 use Rattle.store_parts.proofs.Steps.{turn_replies}
@@ -132,7 +133,8 @@ module _ (laws : LookLaws) (old new : ShownStore) (n : ℕ) (looking : Looking) 
   }
 
   leads : LeadsTo old new p n None account
-  leads = request_leads old new p n None account e (Found (rows_found (copy laws old n looking before o there p shown).0 query)) shown refl legal looked (d, does, shows_then) has_none
+  leads = request_leads old new p n None account e (Found (rows_found (copy laws old n looking before o there p shown).0 query)) shown refl legal looked (d, does, shows_then) tt
+      (look_stays_within old new left.transactions (λ place. ap (λ (m : PageMap). page_at m place) left.pages)) has_none
 
   abbrev course : Course
   course = entered p.opening (course_of p hand) e

@@ -57,7 +57,7 @@ module _ (s : ShownStore) (new : IsNewStore s) (database : ShowsDatabase s.layou
   }
 
   shown : IsPlaceOf s its_start
-  shown = opened s initial_state its_tables new.entries new.queue new.dropped new.hands database (λ table below. record {
+  shown = opened s initial_state its_tables new.entries new.queue new.dropped new.hands new.opened database (λ table below. record {
     blocks = [];
     has = blocks table below;
     unnamed = λ i x. false;

@@ -11,6 +11,7 @@ use Rattle.block_model.specs.SerialRun.{IsLegal, serial_run}
 use Rattle.disk_trait.specs.Told.{Told}
 use Rattle.store_layout.specs.DiskLayout.{DiskLayout}
 use Rattle.store_opening.specs.PageOrder.{IsIndexInOrder}
+use Rattle.heap_rows.specs.Heaps.{relation_of as heap_of}
 use Rattle.page_locks.specs.LockCounts.{locks_of}
 use Rattle.page_locks.specs.LockHolders.{LockState}
 use Rattle.page_locks.specs.RightHolders.{right_of}
@@ -21,6 +22,7 @@ use Rattle.statements.specs.declared.limits.TheConstants.{MAX_ENTRIES}
 use Rattle.statements.specs.HeapRoom.{full_table}
 use Rattle.statements.specs.StatementRequests.{reply_to_statement}
 use Rattle.row_versions.specs.StoredVersions.{transaction_of}
+use Rattle.tx_table.specs.LeavesRest.{LeavesRest}
 use Rattle.tx_table.specs.Statuses.{HasStatuses, status_relation}
 use Rattle.tx_table.specs.TxState.{IsOver}
 use Rattle.transactions.specs.CountedRows.{counts as counts_of}
@@ -31,6 +33,11 @@ use Rattle.line_texts.specs.Place.{Hand as HandAt, Place, database_at}
 use Rattle.line_texts.specs.Requests.{Course, Enters, MakesAll, NoneLeft, OneMore, entered, next_request}
 use Rattle.line_texts.specs.StatementSteps.{Ended, IsAtOnce, StepsTo, course_of}
 use Rattle.reply_texts.specs.declared.dropped.Dropped.{Dropped}
+use Rattle.status_fronts.specs.FrontsStand.{FrontsStand}
+use Rattle.status_fronts.specs.RowsFollow.{RowsFollow}
+use Rattle.status_fronts.specs.StepLaws.{GoesOn}
+use Rattle.status_fronts.proofs.Following.{same_heaps_follow}
+use Rattle.status_fronts.proofs.Within.{any_statuses_stand}
 use Rattle.store_parts.specs.declared.hand.Hand.{Hand}
 use Rattle.store_parts.specs.declared.hand.Stepped.TheVariants as stepped
 use Rattle.store_parts.specs.declared.parts.Parts.{Parts}
@@ -38,7 +45,7 @@ use Rattle.store_parts.specs.HandFits.{locks_held, right_held}
 use Rattle.store_parts.specs.Hands.{AnswersAre, HandShows, statement_of}
 use Rattle.store_parts.specs.HandsAsk.{IsNoInsert}
 use Rattle.store_parts.specs.HandsInTables.{table_in}
-use Rattle.store_parts.specs.Leaving.{CountsFew, LeadsTo, LeavesOthers, SeeAlike, StepsAtOnce}
+use Rattle.store_parts.specs.Leaving.{CountsFew, FrontsThen, LeadsTo, LeavesOthers, SeeAlike, StepsAtOnce}
 use Rattle.store_parts.specs.PlaceLaws.{StepAtOnceIsShown}
 use Rattle.store_parts.specs.PlacesAfter.{place_at_once}
 use Rattle.store_parts.specs.RequestLaws.{OneMoreIsLegal, OneMoreIsRun, OthersCopiesStay}
@@ -158,6 +165,11 @@ pub record StaysBeside {D : Type 0} (old new : Parts D) (n : ℕ) : Type 0 where
   pub queue : new.queue ≡ old.queue
   pub dropped : new.dropped ≡ old.dropped
 
+-- a request that changes pages of statuses alone leaves the rows
+pub heaps_follow : {D : Type 0} (told : D → Told) (old new : Parts D) → LeavesRest told old.pages new.pages → Tells told old.pages → RowsFollow old.pages.layout old.pages.pages new.pages.pages old.transactions
+heaps_follow told old new rest tells = same_heaps_follow old.pages.layout old.pages.pages new.pages.pages old.transactions
+    (λ table block below. rest.pages tells (record { relation = heap_of table; block = block }) (λ (is : heap_of table ≡ status_relation). absurd (omega (arith, is))))
+
 -- an index has a relation behind that of the statuses
 not_statuses : (layout : DiskLayout) (index : ℕ) → index_relation layout index ≢ status_relation
 not_statuses layout index is = omega (arith, is)
@@ -192,11 +204,12 @@ module _ {D : Type 0} (laws : Laws) (old new : Parts D) (n : ℕ) (hand : Hand) 
 
   -- behind it the session has nothing in hand, and the journal these entries
   leads : (p : Place) (account : Account)
-      → ShowsDatabase old.pages.layout new.pages.pages new.transactions (serial_run p.opening new.journal.entries) → IsLegal p.opening new.journal.entries
+      → ShowsDatabase old.pages.layout new.pages.pages new.transactions (serial_run p.opening new.journal.entries) → IsLegal p.opening new.journal.entries → FrontsThen before after p
       → ((m : ℕ) → m ≢ n → finite.get (serial_run p.opening new.journal.entries).sessions m ≡ finite.get (database_at p).sessions m) → LeadsTo before after p n None account
-  leads p account database legal copies = record {
+  leads p account database legal fronts copies = record {
     database = database;
     legal = legal;
+    fronts = fronts;
     copies = copies;
     hand = subst (λ (h : Option Hand). HandShows h None account) (sym has_none.own) refl;
     own = λ now there. absurd (none-some now (sym has_none.own ∙ there));
@@ -204,11 +217,11 @@ module _ {D : Type 0} (laws : Laws) (old new : Parts D) (n : ℕ) (hand : Hand) 
   }
 
   pub shown_then : (p : Place) (shown : IsPlaceOf before p) (restates : Restates old new n shown.database.stored)
-      → ShowsDatabase old.pages.layout new.pages.pages new.transactions (serial_run p.opening new.journal.entries) → IsLegal p.opening new.journal.entries
+      → ShowsDatabase old.pages.layout new.pages.pages new.transactions (serial_run p.opening new.journal.entries) → IsLegal p.opening new.journal.entries → FrontsThen before after p
       → ((m : ℕ) → m ≢ n → finite.get (serial_run p.opening new.journal.entries).sessions m ≡ finite.get (database_at p).sessions m)
       → IsPlaceOf after (place_at_once p n (counts_of new.transactions restates.later) new.journal.entries)
-  shown_then p shown restates database legal copies =
-      laws.shown before after p n restates.later shown others_left at_once restates.has restates.alike restates.few has_none.own (leads p (p.accounts n) database legal copies)
+  shown_then p shown restates database legal fronts copies =
+      laws.shown before after p n restates.later shown others_left at_once restates.has restates.alike restates.few has_none.own (leads p (p.accounts n) database legal fronts copies)
       (record { queue = stays.queue; dropped = stays.dropped; told = refl; hand = subst IsNoInsert (sym has_none.own) tt })
 
 -- ---- the request
@@ -255,6 +268,9 @@ pub record DoesRequestNow {D : Type 0} (told : D → Told) (old new : Parts D) (
   pub legal : (s : DatabaseState) → ShowsDatabase old.pages.layout old.pages.pages old.transactions s → IsLegalRequest s e
   pub may : (p : Place) → ShowsDatabase old.pages.layout old.pages.pages old.transactions (database_at p) → p.layout ≡ old.pages.layout → IsAtOnce p (statement_of hand)
   pub restates : Tells told old.pages → (s : DatabaseState) (shows : ShowsDatabase old.pages.layout old.pages.pages old.transactions s) → Restates old new n shows.stored
+  pub fronts : (tells : Tells told old.pages) (p q : Place) (shows : ShowsDatabase old.pages.layout old.pages.pages old.transactions (database_at p))
+      → FrontsStand old.pages.layout old.pages.pages old.transactions shows.stored p → GoesOn p q (e ∷ [])
+      → FrontsStand old.pages.layout new.pages.pages new.transactions (restates tells (database_at p) shows).later q
 
 module _ {D : Type 0} (told : D → Told) (laws : Laws) (old new : Parts D) (n : ℕ) (hand : Hand) (e : Entry) (answer : Answer) (reply : Reply) (now : DoesRequestNow told old new n hand e answer reply) where
   pub makes_its_step : MakesItsStep told old new n hand (stepped.Done reply)
@@ -274,7 +290,9 @@ module _ {D : Type 0} (told : D → Told) (laws : Laws) (old new : Parts D) (n :
       let answered : reply_to d e ≡ answer = ap (λ (r : DatabaseState × Answer). r.1) does.1 in
       let may : IsAtOnce p (statement_of hand) = now.may p shown.database shown.layout in (
         place_at_once p n (counts_of new.transactions restates.later) new.journal.entries,
-        shown_then laws old new n hand (now.stays tells) now.in_none names hands is p shown restates database legal copies,
+        shown_then laws old new n hand (now.stays tells) now.in_none names hands is p shown restates database legal
+            (λ stored q has opening journal. any_statuses_stand old.pages.layout new.pages.pages new.transactions restates.later stored q restates.has has
+            (now.fronts tells p q shown.database shown.fronts (record { opening = opening; journal = journal ∙ longer }))) copies,
         record {
           hand = record { statement = statement_of hand; answers = [] };
           in_hand = in_hand laws n hand e answer reply p only answered may shows;

@@ -33,6 +33,9 @@ use Rattle.brin_scan.specs.Finds.{stands_by}
 use Rattle.line_texts.specs.Place.{Place, database_at}
 use Rattle.line_texts.specs.StatementSteps as steps
 use Rattle.line_texts.specs.StatementSteps.{Ended, IsAtOnce, LacksRoom, StepsTo, numbers_of}
+use Rattle.status_fronts.specs.FrontsStand.{FrontsStand}
+use Rattle.status_fronts.specs.StepLaws.{GoesOn}
+use Rattle.status_fronts.proofs.Beginning.{begin_stands}
 use Rattle.store_parts.specs.declared.hand.Hand.{Hand}
 use Rattle.store_parts.specs.declared.hand.Hand.TheVariants as hands
 use Rattle.store_parts.specs.declared.hand.Stepped.TheVariants as stepped
@@ -45,12 +48,13 @@ use Rattle.store_parts.specs.ShowsPlace.{ShowsPlace}
 use Rattle.store_parts.specs.StepLaws.{LacksNumber}
 use Rattle.store_parts.specs.JournalState.{JournalState}
 use Rattle.store_parts.specs.Stepping.{IsFit, MakesItsStep}
-use Rattle.store_parts.specs.StoreStates.{hand_in, store_of}
+use Rattle.store_parts.specs.StoreStates.{hand_in, shown_of, store_of, with_hand}
 use Rattle.store_parts.specs.UndoneLaws.{FitsParts, StepsSo}
+use Rattle.store_parts.proofs.Fronts.{fronts_same}
 use Rattle.store_parts.proofs.Requests.{begin_is_legal}
 use Rattle.store_parts.proofs.Steps.{lacks_number as no_number}
 use Rattle.store_parts.proofs.Undone.{fit_of_parts}
-use Rattle.store_transactions.proofs.AtOnce.{DoesRequestNow, IsOnly, Laws, LeavesParts, Restates, StaysBeside, done, makes_its_step, shown_then, the_laws}
+use Rattle.store_transactions.proofs.AtOnce.{DoesRequestNow, IsOnly, Laws, LeavesParts, Restates, StaysBeside, done, heaps_follow, makes_its_step, shown_then, the_laws}
 use Rattle.store_transactions.proofs.Rooms.{lacks}
 
 -- ---- a begin is one request
@@ -100,7 +104,7 @@ module _ {D : Type 0} (told : D → Told) (with_laws : BeginLaws) (old new : Par
   pub others_same : (m : ℕ) → m ≢ n → transaction_of new.transactions.opens m ≡ transaction_of old.transactions.opens m
   others_same m apart = ap (λ (t : TransactionsState). transaction_of t.opens m) so.begun ∙ get_or-set_other old.transactions.opens n m (Some (next_open old.transactions)) None apart
 
-  restates : Tells told old.pages → (s : DatabaseState) (shows : ShowsDatabase old.pages.layout old.pages.pages old.transactions s) → Restates old new n shows.stored
+  abbrev restates : Tells told old.pages → (s : DatabaseState) (shows : ShowsDatabase old.pages.layout old.pages.pages old.transactions s) → Restates old new n shows.stored
   restates tells s shows = record {
     later = set shows.stored old.transactions.tx.next status.Begun;
     has = so.statuses tells shows.stored shows.has;
@@ -119,6 +123,15 @@ module _ {D : Type 0} (told : D → Told) (with_laws : BeginLaws) (old new : Par
               omega (arith, put, same, is))
         ];
   }
+
+  -- the new snapshot has exactly the transactions that had ended
+  fronts : (tells : Tells told old.pages) (p q : Place) (shows : ShowsDatabase old.pages.layout old.pages.pages old.transactions (database_at p))
+      → FrontsStand old.pages.layout old.pages.pages old.transactions shows.stored p → GoesOn p q (request_entry n 0 requests.Begin ∷ [])
+      → FrontsStand old.pages.layout new.pages.pages new.transactions (set shows.stored old.transactions.tx.next status.Begun) q
+  fronts tells p q shows stands goes =
+      subst (λ (t : TransactionsState). FrontsStand old.pages.layout new.pages.pages t (set shows.stored old.transactions.tx.next status.Begun) q) (sym so.begun)
+      (begin_stands old.pages.layout old.pages.pages new.pages.pages old.transactions shows.stored p q n (request_entry n 0 requests.Begin) shows shows.has stands so.idle
+      (record { session = refl; asks = refl }) goes (heaps_follow told old new so.rest tells))
 
   request : DoesRequestNow told old new n (hands.Begins numbers) (request_entry n 0 requests.Begin) (Begun t) (replies.Begun t)
   request = record {
@@ -142,6 +155,7 @@ module _ {D : Type 0} (told : D → Told) (with_laws : BeginLaws) (old new : Par
         let next_is : (database_at p).next ≡ old.transactions.tx.next = (with_laws.sessions old.pages.layout old.pages.pages old.transactions (database_at p) shows).next in
         subst (λ (next : ℕ). next < numbers_of p.layout) (sym next_is) (subst (λ (layout : DiskLayout). old.transactions.tx.next < numbers_of layout) (sym is) so.some));
     restates = restates;
+    fronts = fronts;
   }
 
   pub begins : LeavesParts told old new n (hands.Begins numbers) → StepsSo told old new n (hands.Begins numbers) (stepped.Done (replies.Begun t))
@@ -198,6 +212,7 @@ module _ {D : Type 0} (told : D → Told) (with_laws : BeginLaws) (old new : Par
             (subst (λ (t : TransactionsState). ShowsDatabase old.pages.layout old.pages.pages t (serial_run p.opening new.journal.entries)) (sym so.transactions)
             (subst (ShowsDatabase old.pages.layout old.pages.pages old.transactions) (sym run) shown.database)))
             (subst (IsLegal p.opening) (sym journal_is) shown.legal)
+            (fronts_same (shown_of (store_of old names hands_)) (shown_of (store_of new names (with_hand hands_ n None))) p shown so.entries so.transactions (ap (λ (view : View D). view.pages) so.pages))
             (λ m apart. ap (λ (s : DatabaseState). finite.get s.sessions m) run),
         record {
           hand = shows.0;

@@ -33,9 +33,12 @@ use Rattle.transactions.specs.Laws.{CommitCounts, EndIsUnseen, RollbackCounts, S
 use Rattle.transactions.specs.ShowsDatabase.{DoesRequest, OfDatabase, ShowsDatabase}
 use Rattle.transactions.specs.TransactionsState.{OfOpen, TransactionsState, with_open}
 use Rattle.brin_scan.specs.Finds.{stands_by}
-use Rattle.line_texts.specs.Place.{Place}
+use Rattle.line_texts.specs.Place.{Place, database_at}
 use Rattle.line_texts.specs.StatementSteps as steps
 use Rattle.line_texts.specs.StatementSteps.{Ended, IsAtOnce, LacksRoom}
+use Rattle.status_fronts.specs.FrontsStand.{FrontsStand}
+use Rattle.status_fronts.specs.StepLaws.{GoesOn, IsEnding}
+use Rattle.status_fronts.proofs.Ending.{end_stands}
 use Rattle.store_parts.specs.declared.hand.Hand.{Hand}
 use Rattle.store_parts.specs.declared.hand.Hand.TheVariants as hands
 use Rattle.store_parts.specs.declared.hand.Stepped.TheVariants as stepped
@@ -46,7 +49,7 @@ use Rattle.store_parts.specs.HandsInTables.{table_in}
 use Rattle.store_parts.specs.RequestLaws.{EndIsLegal}
 use Rattle.store_parts.specs.Shares.{hand_share, open_share, share_of}
 use Rattle.store_parts.specs.UndoneLaws.{StepsSo}
-use Rattle.store_transactions.proofs.AtOnce.{the_laws, DoesRequestNow, IsOnly, Laws, LeavesParts, Restates, StaysBeside, done, makes_its_step}
+use Rattle.store_transactions.proofs.AtOnce.{the_laws, DoesRequestNow, IsOnly, Laws, LeavesParts, Restates, StaysBeside, done, heaps_follow, makes_its_step}
 
 -- ---- the session has none then, and the others theirs
 
@@ -89,6 +92,7 @@ pub record EndsSo {D : Type 0} (told : D → Told) (old new : Parts D) (n : ℕ)
   pub own : Open
   pub opened : transaction_of old.transactions.opens n ≡ Some own
   pub end : Status
+  pub ending : IsEnding e.request own.failed end
   pub ended : new.transactions ≡ with_open old.transactions n None
   pub rest : LeavesRest told old.pages new.pages
   pub statuses : OfStatuses told old.pages (λ stored. HasStatuses old.pages.layout new.pages.pages (set stored own.t end))
@@ -116,7 +120,7 @@ module _ {D : Type 0} (told : D → Told) (with_laws : EndLaws) (old new : Parts
   pub none_now : transaction_of new.transactions.opens n ≡ None
   none_now = ap (λ (t : TransactionsState). transaction_of t.opens n) so.ended ∙ none_here old.transactions.opens n so.own so.opened
 
-  restates : Tells told old.pages → (s : DatabaseState) (shows : ShowsDatabase old.pages.layout old.pages.pages old.transactions s) → Restates old new n shows.stored
+  abbrev restates : Tells told old.pages → (s : DatabaseState) (shows : ShowsDatabase old.pages.layout old.pages.pages old.transactions s) → Restates old new n shows.stored
   restates tells s shows = record {
     later = set shows.stored so.own.t so.end;
     has = so.statuses tells shows.stored shows.has;
@@ -141,6 +145,15 @@ module _ {D : Type 0} (told : D → Told) (with_laws : EndLaws) (old new : Parts
     dropped = so.dropped;
   }
 
+  -- its status says whether the journal has its commit
+  fronts : (tells : Tells told old.pages) (p q : Place) (shows : ShowsDatabase old.pages.layout old.pages.pages old.transactions (database_at p))
+      → FrontsStand old.pages.layout old.pages.pages old.transactions shows.stored p → GoesOn p q (e ∷ [])
+      → FrontsStand old.pages.layout new.pages.pages new.transactions (set shows.stored so.own.t so.end) q
+  fronts tells p q shows stands goes =
+      subst (λ (t : TransactionsState). FrontsStand old.pages.layout new.pages.pages t (set shows.stored so.own.t so.end) q) (sym so.ended)
+      (end_stands old.pages.layout old.pages.pages new.pages.pages old.transactions shows.stored p q n so.own e so.end shows shows.has stands so.opened
+      (so.only old.pages.layout).own so.ending goes (heaps_follow told old new so.rest tells))
+
   request : DoesRequestNow told old new n hand e answer reply
   request = record {
     only = so.only;
@@ -152,6 +165,7 @@ module _ {D : Type 0} (told : D → Told) (with_laws : EndLaws) (old new : Parts
     legal = so.legal;
     may = λ p shows is. so.may p;
     restates = restates;
+    fronts = fronts;
   }
 
   pub ends : LeavesParts told old new n hand → StepsSo told old new n hand (stepped.Done reply)
@@ -233,6 +247,7 @@ module _ {D : Type 0} (told : D → Told) (laws : TransactionLaws) (old : Parts 
         own = own.0;
         opened = own.1;
         end = if committed then status.Committed else status.RolledBack;
+        ending = is;
         ended = ended_is;
         rest = rest;
         statuses = statuses own.0 own.1;
@@ -262,6 +277,7 @@ module _ {D : Type 0} (told : D → Told) (laws : TransactionLaws) (old : Parts 
         own = own.0;
         opened = own.1;
         end = status.RolledBack;
+        ending = refl;
         ended = ended_is;
         rest = rest;
         statuses = statuses own.0 own.1;

@@ -40,6 +40,7 @@ use Rattle.store_parts.specs.Leaving.{LeadsTo, LeavesOthers, SameLocks, StepsInT
 use Rattle.store_parts.specs.PlacesAfter.{TurnsIn, place_after}
 use Rattle.store_parts.specs.ShowsPlace.{IsLeftToMark, IsOfTransaction, IsPlaceOf, ShowsTable}
 use Rattle.store_parts.specs.StoreStates.{ShownStore, hand_in}
+use Rattle.store_parts.proofs.Fronts.{fronts_same}
 use Rattle.store_parts.proofs.Leads.{nothing_leaves_slots, same_counts_few}
 use Rattle.store_parts.proofs.Places.{table_step_is_shown}
 use Rattle.store_parts.proofs.Tables.{own_table_goes_on}
@@ -104,6 +105,7 @@ module _ (old new : ShownStore) (n : ℕ) (before : ExplainHand) (left : Explain
         (subst (λ (m : PageMap). ShowsDatabase old.layout m new.transactions (database_at p)) (sym left.pages)
         (subst (λ (t : TransactionsState). ShowsDatabase old.layout old.pages t (database_at p)) (sym left.transactions) shown.database));
     legal = subst (IsLegal p.opening) (sym same_entries) shown.legal;
+    fronts = fronts_same old new p shown left.entries left.transactions left.pages;
     copies = λ m apart. ap (λ (e : List Entry). finite.get (serial_run p.opening e).sessions m) same_entries;
     hand = subst (λ (a : Account). HandShows (hand_in new.hands n) at a) (sym empty) in_hand.shows;
     own = λ hand is. in_hand.own (transaction_of new.transactions.opens n) (finite.get (serial_run p.opening new.entries).sessions n) hand is;

@@ -21,8 +21,8 @@ use Rattle.transactions.specs.StoredRows.{OtherRelationsStay, StandsAt}
 use Rattle.transactions.specs.TransactionsState.{TransactionsState}
 use Rattle.transactions.proofs.Shown.{blocks_kept}
 use Rattle.transactions.proofs.Standing.{one_blocks}
-use Rattle.store_fronts.specs.FrontsStand.{DeletersFollow}
-use Rattle.store_fronts.specs.RowsFollow.{DropFollows, IsOfOpen, MarkFollows, PutFollows, RowsFollow, SameHeapsFollow, StoodBefore}
+use Rattle.status_fronts.specs.FrontsStand.{DeletersFollow}
+use Rattle.status_fronts.specs.RowsFollow.{DropFollows, IsOfOpen, MarkFollows, PutFollows, RowsFollow, SameHeapsFollow, StoodBefore}
 
 -- ---- where heaps stay
 

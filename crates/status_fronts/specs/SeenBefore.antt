@@ -1,5 +1,5 @@
--- The rows that a delete saw while it scanned, and that it marks by now.
-use Rattle.std.specs.Prelude.{◌≡◌, ◌≢◌, ◌⊎◌, ℕ, ◌<◌, Bool, IsTrue, List, set, Some}
+-- the rows that an open transaction saw before its own deletes, and how they stay
+use Rattle.std.specs.Prelude.{◌≡◌, ◌≢◌, ◌⊎◌, ℕ, ◌<◌, Bool, true, false, IsTrue, List, set, Some}
 use Rattle.block_model.specs.declared.place.Spot.{Spot}
 use Rattle.block_model.specs.DatabaseState.{DatabaseState}
 use Rattle.store_layout.specs.DiskLayout.{DiskLayout}
@@ -9,27 +9,23 @@ use Rattle.page_store.specs.PageMap.{PageMap}
 use Rattle.heap_rows.specs.RowPlaces.{slot_at}
 use Rattle.snapshot_core.specs.declared.statuses.Status.{Status}
 use Rattle.snapshot_core.specs.declared.statuses.Status.TheVariants as status
+use Rattle.snapshot_core.specs.Visibility.{has_done, in_snapshot}
 use Rattle.row_versions.specs.declared.sessions.Open.{Open}
 use Rattle.row_versions.specs.StoredVersions.{transaction_of}
 use Rattle.tx_table.specs.Statuses.{HasStatuses, number_limit}
-use Rattle.tx_table.specs.TxState.{TxState}
 use Rattle.transactions.specs.GivenStatuses.{given_status}
 use Rattle.transactions.specs.ShowsDatabase.{ShowsDatabase}
 use Rattle.transactions.specs.TransactionsState.{TransactionsState}
-use Rattle.table_coverage.specs.Table.{Task}
-use Rattle.brin_scan.specs.Finds.{FindHand}
-use Rattle.store_parts.specs.HandsInTables.{IsScanAt, sight_of}
-use Rattle.store_fronts.specs.RowsFollow.{IsOfOpen}
-use Rattle.store_fronts.specs.Watched.{WasSeenBy}
+use Rattle.status_fronts.specs.RowsFollow.{IsOfOpen}
 
--- an open transaction saw each row that stands where these places are, before its own deletes
+-- An open transaction saw the row before its own deletes: the row is its own or of a commit in its snapshot, and the snapshot hasn't got the deleter.
+pub record WasSeenBy (status : ℕ → Status) (o : Open) (row : StoredRow) : Type 0 where
+  pub put : has_done o.snapshot o.t row.id.t (status row.id.t) ≡ true
+  pub undeleted : in_snapshot o.snapshot row.deleter (status row.deleter) ≡ false
+
+-- so it saw each row that stands where these places are
 abbrev pub SawRows : (first : ℕ) → List Status → Open → (sees : ℕ → ℕ → Bool) → List (List Slot) → Type 0
 SawRows first stored o sees blocks = (x : Spot) (row : StoredRow) → slot_at blocks x ≡ Some row → IsTrue (sees x.block x.slot) → WasSeenBy (given_status first stored) o row
-
--- so it is of a scan
-abbrev pub ScanSawRows : Type 0
-ScanSawRows = (layout : DiskLayout) (blocks : List (List Slot)) (tx : TxState) (stored : List Status) (o : Open) (deletes : Bool) (hand : FindHand) (task : Task)
-    → (at : IsScanAt layout blocks (sight_of tx stored o) deletes hand task) → SawRows tx.first stored o at.sees blocks
 
 -- each row at these places stood there, with this deleter or one that was open
 abbrev pub RowsGoOn : TransactionsState → (sees : ℕ → ℕ → Bool) → (old new : List (List Slot)) → Type 0

@@ -1,6 +1,6 @@
--- the rows that a delete saw while it scanned
-use Rattle.std.proofs.Common.{◌≡◌, inl, inr, ℕ, Bool, true, false, not, ◌&&◌, ◌||◌, eqb, List, set, refl, sym, ap, subst, ◌∙◌}
-use Rattle.std.proofs.lemmas.Bool.{and_left, and_parts, and_right, or_parts}
+-- the rows that an open transaction saw before its own deletes
+use Rattle.std.proofs.Common.{◌≡◌, inl, inr, ℕ, Bool, true, false, ◌&&◌, ◌||◌, eqb, List, set, refl, sym, ap, subst, ◌∙◌}
+use Rattle.std.proofs.lemmas.Bool.{and_left, and_right}
 use Rattle.block_model.specs.declared.row.RowId.{RowId}
 use Rattle.snapshot_core.specs.declared.statuses.Status.{Status}
 use Rattle.snapshot_core.specs.declared.statuses.Status.TheVariants.{Begun}
@@ -9,17 +9,7 @@ use Rattle.row_versions.specs.declared.sessions.Open.{Open}
 use Rattle.transactions.specs.GivenStatuses.{given_status}
 use Rattle.transactions.proofs.Others.{begin_unseen, end_unseen}
 use Rattle.transactions.proofs.Shown.{one_list_shown, open_one}
-use Rattle.store_fronts.specs.SeenBefore.{SawRowsAtBegin, SawRowsAtEnd, SawRowsStay, ScanSawRows}
-use Rattle.store_fronts.proofs.Watching.{false_from_not}
-
--- what a transaction sees it saw
-pub scan_saw_rows : ScanSawRows
-scan_saw_rows layout blocks tx stored o deletes hand task at x row there sees =
-    let status : ℕ → Status = given_status tx.first stored in
-    let put : Bool = has_done o.snapshot o.t row.id.t (status row.id.t) in
-    let gone : Bool = has_done o.snapshot o.t row.deleter (status row.deleter) in
-    let parts = and_parts put (not gone) (sym (at.now x.block x.slot row there) ∙ sees) in
-    record { put = parts.0; undeleted = (or_parts (eqb row.deleter o.t) (in_snapshot o.snapshot row.deleter (status row.deleter)) (false_from_not gone parts.1)).1 }
+use Rattle.status_fronts.specs.SeenBefore.{SawRowsAtBegin, SawRowsAtEnd, SawRowsStay}
 
 -- a row that stays, perhaps marked by one that is open
 pub saw_rows_stay : SawRowsStay
@@ -46,10 +36,10 @@ module _ (o : Open) (old new : ℕ → Status) (same : (u : ℕ) → had_ended o
   same_seen : (u : ℕ) → in_snapshot o.snapshot u (new u) ≡ in_snapshot o.snapshot u (old u)
   same_seen u = same_in_snapshot u (had_ended o.snapshot u) refl
 
-  put_still : (u : ℕ) → has_done o.snapshot o.t u (old u) ≡ true → has_done o.snapshot o.t u (new u) ≡ true
+  pub put_still : (u : ℕ) → has_done o.snapshot o.t u (old u) ≡ true → has_done o.snapshot o.t u (new u) ≡ true
   put_still u done = ap (λ b. eqb u o.t || b) (same_seen u) ∙ done
 
-  undeleted_still : (u : ℕ) → in_snapshot o.snapshot u (old u) ≡ false → in_snapshot o.snapshot u (new u) ≡ false
+  pub undeleted_still : (u : ℕ) → in_snapshot o.snapshot u (old u) ≡ false → in_snapshot o.snapshot u (new u) ≡ false
   undeleted_still u is = same_seen u ∙ is
 
 pub saw_rows_at_begin : SawRowsAtBegin

@@ -20,15 +20,40 @@ use Rattle.line_texts.specs.Place.{Place, database_at}
 use Rattle.journal_fronts.specs.Beginnings.{OpenTransactionsBegan}
 use Rattle.journal_fronts.specs.Commits.{CommitsStand}
 use Rattle.journal_fronts.specs.Openings.{NoneOpen, RowsAreEarlier}
-use Rattle.store_fronts.specs.FrontsStand.{FrontsStand}
-use Rattle.store_fronts.specs.RowsFollow.{RowsFollow}
-use Rattle.store_fronts.specs.StepLaws.{AnyStatusesStand, GoesOn, IsWithin, OpensStay, OwnStepsKeepOpens, StepWithinStands}
-use Rattle.store_fronts.proofs.Following.{HasBoth, all_follow, both_follow}
-use Rattle.store_fronts.proofs.Snapshots.{StandsIn, has_none, its_front, stands_on, which}
-use Rattle.store_fronts.proofs.Statuses.{commits_within}
+use Rattle.journal_fronts.proofs.Commits.{commits_stand}
+use Rattle.journal_fronts.proofs.Fronts.{open_transactions_began}
+use Rattle.status_fronts.specs.FrontsStand.{FrontsStand}
+use Rattle.status_fronts.specs.RowsFollow.{RowsFollow}
+use Rattle.status_fronts.specs.StepLaws.{AnyPlaceStands, AnyStatusesStand, GoesOn, IsWithin, OpensStay, OwnStepsKeepOpens, StepWithinStands}
+use Rattle.status_fronts.proofs.Following.{HasBoth, all_follow, both_follow}
+use Rattle.status_fronts.proofs.Snapshots.{StandsAtFronts, StandsIn, has_none, its_front, stands_on, which}
+use Rattle.status_fronts.proofs.Statuses.{commits_within, same_commits}
 
 pub any_statuses_stand : AnyStatusesStand
 any_statuses_stand layout pages t stored other p has has_other stands = subst (λ (l : List Status). FrontsStand layout pages t l p) (statuses_one layout pages stored other has has_other) stands
+
+-- what is known of a place by its opening and its journal
+module _ (layout : DiskLayout) (pages : PageMap) (t : TransactionsState) (stored : List Status) (p q : Place) (opening : q.opening ≡ p.opening) (journal : q.journal ≡ p.journal) (stands : FrontsStand layout pages t stored p) where
+  same_fronts : (n : ℕ) (o : Open) → transaction_of t.opens n ≡ Some o → StandsIn q n o.t o.snapshot
+  same_fronts n o was =
+      subst (λ (l : List Entry). StandsAtFronts q.opening l n o.t o.snapshot) (sym journal)
+      (subst (λ (d : DatabaseState). StandsAtFronts d p.journal n o.t o.snapshot) (sym opening) (stands.snapshots n o was))
+
+  pub place_stands : FrontsStand layout pages t stored q
+  place_stands = record {
+    none_open = subst NoneOpen (sym opening) stands.none_open;
+    earlier = subst RowsAreEarlier (sym opening) stands.earlier;
+    first = ap (λ (d : DatabaseState). d.next) opening ∙ stands.first;
+    commits = λ u low.
+        let was = stands.commits u (subst (λ (d : DatabaseState). d.next ≤ u) opening low) in
+        (λ c. same_commits p q u opening journal (was.0 c), λ c. was.1 (same_commits q p u (sym opening) (sym journal) c));
+    snapshots = same_fronts;
+    opening = λ id there. stands.opening id (ap (λ (d : DatabaseState). map.contains_key d.table id) (sym opening) ∙ there);
+    deleters = stands.deleters;
+  }
+
+pub any_place_stands : AnyPlaceStands
+any_place_stands layout pages t stored p q opening journal stands = place_stands layout pages t stored p q opening journal stands
 
 -- the opening of a place that goes on
 pub none_still : (p q : Place) (more : List Entry) → GoesOn p q more → NoneOpen p.opening → NoneOpen q.opening
@@ -63,9 +88,9 @@ module _ (began : OpenTransactionsBegan) (commits : CommitsStand) (layout : Disk
         (λ u under had. has_none began p shows stands n was.0 was.1 u under (subst (λ (s : Snapshot). IsTrue (had_ended s u)) was.3 had)));
   }
 
-pub step_within_stands : OpenTransactionsBegan → CommitsStand → StepWithinStands
-step_within_stands began commits layout old new t now stored p q more shows stands goes within first stay follow =
-    within_stands began commits layout old new t now stored p q more shows stands goes within first stay follow
+pub step_within_stands : StepWithinStands
+step_within_stands layout old new t now stored p q more shows stands goes within first stay follow =
+    within_stands open_transactions_began commits_stand layout old new t now stored p q more shows stands goes within first stay follow
 
 -- ---- which steps keep what is open
 

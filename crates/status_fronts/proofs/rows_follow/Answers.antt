@@ -1,5 +1,5 @@
-use Rattle.store_fronts.proofs.Following.{drop_follows, mark_follows, put_follows, same_heaps_follow}
-use Rattle.store_fronts.proofs.rows_follow.Goals as goal
+use Rattle.status_fronts.proofs.Following.{drop_follows, mark_follows, put_follows, same_heaps_follow}
+use Rattle.status_fronts.proofs.rows_follow.Goals as goal
 
 pub returns-clause-alike : goal.returns-clause-alike
 returns-clause-alike c = same_heaps_follow

@@ -26,9 +26,9 @@ use Rattle.transactions.proofs.Shown.{whole}
 use Rattle.line_texts.specs.DeadRows.{HasEnded, IsOpen}
 use Rattle.line_texts.specs.Place.{Place, database_at}
 use Rattle.journal_fronts.specs.Beginnings.{Began, OpenTransactionsBegan}
-use Rattle.store_fronts.specs.FrontsStand.{FrontsStand}
-use Rattle.store_fronts.specs.RowsFollow.{IsOfOpen}
-use Rattle.store_fronts.specs.StepLaws.{GoesOn}
+use Rattle.status_fronts.specs.FrontsStand.{FrontsStand}
+use Rattle.status_fronts.specs.RowsFollow.{IsOfOpen}
+use Rattle.status_fronts.specs.StepLaws.{GoesOn}
 
 -- ---- the sessions' transactions
 

@@ -30,13 +30,16 @@ use Rattle.line_texts.specs.Place.{Place, database_at}
 use Rattle.journal_fronts.specs.Beginnings.{OpenTransactionsBegan}
 use Rattle.journal_fronts.specs.Commits.{CommitsAt, CommitsStand}
 use Rattle.journal_fronts.specs.Numbers.{NumbersRise}
-use Rattle.store_fronts.specs.FrontsStand.{FrontsStand}
-use Rattle.store_fronts.specs.RowsFollow.{IsOfOpen, RowsFollow}
-use Rattle.store_fronts.specs.StepLaws.{BeginStands, GoesOn, IsRequestOf}
-use Rattle.store_fronts.proofs.Following.{HasBoth, all_follow, both_follow}
-use Rattle.store_fronts.proofs.Snapshots.{StandsIn, has_none, is_of_open, its_front, new_has_ended, new_has_none, stands_newly, stands_on, which}
-use Rattle.store_fronts.proofs.Statuses.{commits_none}
-use Rattle.store_fronts.proofs.Within.{earlier_still, none_still}
+use Rattle.journal_fronts.proofs.Commits.{commits_stand}
+use Rattle.journal_fronts.proofs.Fronts.{open_transactions_began}
+use Rattle.journal_fronts.proofs.Numbers.{numbers_rise}
+use Rattle.status_fronts.specs.FrontsStand.{FrontsStand}
+use Rattle.status_fronts.specs.RowsFollow.{IsOfOpen, RowsFollow}
+use Rattle.status_fronts.specs.StepLaws.{BeginStands, GoesOn, IsRequestOf}
+use Rattle.status_fronts.proofs.Following.{HasBoth, all_follow, both_follow}
+use Rattle.status_fronts.proofs.Snapshots.{StandsIn, has_none, is_of_open, its_front, new_has_ended, new_has_none, stands_newly, stands_on, which}
+use Rattle.status_fronts.proofs.Statuses.{commits_none}
+use Rattle.status_fronts.proofs.Within.{earlier_still, none_still}
 
 -- ---- its status
 
@@ -145,5 +148,6 @@ module _ (began : OpenTransactionsBegan) (commits : CommitsStand) (numbers : Num
     deleters = all_follow layout new (with_begun t n) both_still;
   }
 
-pub begin_stands : OpenTransactionsBegan → CommitsStand → NumbersRise → BeginStands
-begin_stands began commits numbers layout old new t stored p q n e shows has stands idle begins goes follow = begun_stands began commits numbers layout old new t stored p q n e shows stands idle begins goes follow
+pub begin_stands : BeginStands
+begin_stands layout old new t stored p q n e shows has stands idle begins goes follow =
+    begun_stands open_transactions_began commits_stand numbers_rise layout old new t stored p q n e shows stands idle begins goes follow

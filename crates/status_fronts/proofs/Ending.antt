@@ -29,13 +29,15 @@ use Rattle.line_texts.specs.DeadRows.{IsCommitted}
 use Rattle.line_texts.specs.Place.{Place, database_at}
 use Rattle.journal_fronts.specs.Beginnings.{OpenTransactionsBegan}
 use Rattle.journal_fronts.specs.Commits.{CommitsAt, CommitsStand}
-use Rattle.store_fronts.specs.FrontsStand.{FrontsStand}
-use Rattle.store_fronts.specs.RowsFollow.{RowsFollow}
-use Rattle.store_fronts.specs.StepLaws.{EndStands, GoesOn, IsEnding}
-use Rattle.store_fronts.proofs.Following.{all_follow, both_follow}
-use Rattle.store_fronts.proofs.Snapshots.{has_none, its_front, stands_on, which}
-use Rattle.store_fronts.proofs.Statuses.{commits_none, commits_with}
-use Rattle.store_fronts.proofs.Within.{earlier_still, none_still}
+use Rattle.journal_fronts.proofs.Commits.{commits_stand}
+use Rattle.journal_fronts.proofs.Fronts.{open_transactions_began}
+use Rattle.status_fronts.specs.FrontsStand.{FrontsStand}
+use Rattle.status_fronts.specs.RowsFollow.{RowsFollow}
+use Rattle.status_fronts.specs.StepLaws.{EndStands, GoesOn, IsEnding}
+use Rattle.status_fronts.proofs.Following.{all_follow, both_follow}
+use Rattle.status_fronts.proofs.Snapshots.{has_none, its_front, stands_on, which}
+use Rattle.status_fronts.proofs.Statuses.{commits_none, commits_with}
+use Rattle.status_fronts.proofs.Within.{earlier_still, none_still}
 
 -- ---- which end it is
 
@@ -147,5 +149,6 @@ module _ (began : OpenTransactionsBegan) (commits : CommitsStand) (layout : Disk
         both_follow layout old new t x.snapshot follow (λ table spot row below at some had. stands.deleters table spot row below at some m x there had) (λ u under had. has_none began p shows stands m x there u under had));
   }
 
-pub end_stands : OpenTransactionsBegan → CommitsStand → EndStands
-end_stands began commits layout old new t stored p q n o e end shows has stands was session ending goes follow = ended_stands began commits layout old new t stored p q n o e end shows has stands was session ending goes follow
+pub end_stands : EndStands
+end_stands layout old new t stored p q n o e end shows has stands was session ending goes follow =
+    ended_stands open_transactions_began commits_stand layout old new t stored p q n o e end shows has stands was session ending goes follow

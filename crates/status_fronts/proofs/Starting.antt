@@ -1,5 +1,5 @@
 -- what a start begins with
-use Rattle.std.proofs.Common.{◌≡◌, ◌≢◌, ℕ, zero, suc, ◌<◌, ◌≤◌, true, false, not, List, [], ◌∷◌, ◌++◌, replicate, Option, None, Some, refl, sym, ap, subst, ◌∙◌, arith}
+use Rattle.std.proofs.Common.{◌≡◌, ℕ, zero, suc, ◌<◌, ◌≤◌, true, false, not, List, [], ◌∷◌, ◌++◌, replicate, Option, None, Some, refl, sym, ap, subst, ◌∙◌, arith}
 use Rattle.std.specs.Prelude.{IsTrue}
 use Rattle.std.specs.FinMap as map
 use Rattle.std.proofs.lemmas.Bool.{and_parts, false≢true}
@@ -7,6 +7,8 @@ use Rattle.block_model.specs.declared.request.Entry.{Entry}
 use Rattle.block_model.specs.declared.row.RowId.{RowId}
 use Rattle.block_model.specs.DatabaseState.{DatabaseState}
 use Rattle.block_model.specs.NumberMaps.{none_Some}
+use Rattle.store_layout.specs.DiskLayout.{DiskLayout}
+use Rattle.page_store.specs.PageMap.{PageMap}
 use Rattle.statements.specs.declared.limits.TheConstants.{MAX_SESSIONS}
 use Rattle.snapshot_core.specs.declared.statuses.Status.{Status}
 use Rattle.snapshot_core.specs.Visibility.{is_committed}
@@ -22,13 +24,10 @@ use Rattle.transactions.specs.TransactionsState.{TransactionsState}
 use Rattle.transactions.proofs.Copies.{sessions_shown}
 use Rattle.transactions.proofs.Given.{given_unused, length_given, status_given}
 use Rattle.transactions.proofs.Shown.{one_list_shown, versions_on_pages, whole}
-use Rattle.table_coverage.specs.Table.{TableState}
 use Rattle.line_texts.specs.Place.{Place}
-use Rattle.store_parts.specs.OpeningLaws.{place_opened}
-use Rattle.store_parts.specs.StoreStates.{ShownStore}
-use Rattle.store_fronts.specs.FrontsStand.{FrontsStand}
-use Rattle.store_fronts.specs.StepLaws.{StartStands}
-use Rattle.store_fronts.proofs.Rows.{row_is_version}
+use Rattle.status_fronts.specs.FrontsStand.{FrontsStand}
+use Rattle.status_fronts.specs.StepLaws.{StartStands}
+use Rattle.status_fronts.proofs.Rows.{row_is_version}
 
 nobody_at : (n m : ℕ) → transaction_of (replicate n None) m ≡ None
 nobody_at zero m = refl
@@ -40,15 +39,12 @@ none_there : (l r : List Entry) (e : Entry) → l ++ e ∷ r ≡ [] → ⊥
 none_there [] r e is = cc
 none_there (x ∷ l) r e is = cc
 
-module _ (s : ShownStore) (opening : DatabaseState) (tables : ℕ → TableState) (shows : ShowsDatabase s.layout s.pages s.transactions opening) (opened : IsOpened s.transactions) where
-  abbrev t : TransactionsState
-  t = s.transactions
-
-  abbrev p : Place
-  p = place_opened s opening tables
+module _ (layout : DiskLayout) (pages : PageMap) (t : TransactionsState) (p : Place) (shows : ShowsDatabase layout pages t p.opening) (opened : IsOpened t) (empty : p.journal ≡ []) where
+  abbrev opening : DatabaseState
+  opening = p.opening
 
   abbrev have : HaveTransactions t opening
-  have = sessions_shown s.layout s.pages t opening shows
+  have = sessions_shown layout pages t opening shows
 
   nobody : (n : ℕ) → transaction_of t.opens n ≡ None
   nobody n = ap (λ (os : List (Option Open)). transaction_of os n) opened.opens ∙ nobody_at MAX_SESSIONS n
@@ -60,7 +56,7 @@ module _ (s : ShownStore) (opening : DatabaseState) (tables : ℕ → TableState
   row_committed : (id : RowId) → map.contains_key opening.table id ≡ true → (id.t < opening.next) × IsTrue (is_committed (given_status t.tx.first shows.stored id.t))
   row_committed id there =
       let v = row_is_version shows id there in
-      let same = ap (λ (i : RowId). i.t) (stored_id (versions_on_pages s.layout s.pages) id v.0 v.1) in
+      let same = ap (λ (i : RowId). i.t) (stored_id (versions_on_pages layout pages) id v.0 v.1) in
       let low = ((whole shows).known id v.0 v.1).put in
       let long = length_given t.tx shows.stored in
       let next = have.next in
@@ -72,17 +68,17 @@ module _ (s : ShownStore) (opening : DatabaseState) (tables : ℕ → TableState
   unused : (u : ℕ) → opening.next ≤ u → is_committed (given_status t.tx.first shows.stored u) ≡ false
   unused u low = ap is_committed (given_unused t.tx.first shows.stored u (shows.next.unused u (let next = have.next in omega (arith, low, next))))
 
-  pub opened_stands : FrontsStand s.layout s.pages t shows.stored p
+  pub opened_stands : FrontsStand layout pages t shows.stored p
   opened_stands = record {
     none_open = λ n. have.none n (nobody n);
     earlier = λ id there. (row_committed id there).0;
     first = have.next ∙ sym opened.first;
-    commits = λ u low. (λ c. absurd (false≢true (sym (unused u low) ∙ c)), λ c. absurd (none_there c.before c.behind c.entry c.split));
+    commits = λ u low. (λ c. absurd (false≢true (sym (unused u low) ∙ c)), λ c. absurd (none_there c.before c.behind c.entry (c.split ∙ empty)));
     snapshots = λ n o was. absurd (nobody_has n o was);
     opening = λ id there. (row_committed id there).1;
     deleters = λ table spot row below there some n o was. absurd (nobody_has n o was);
   }
 
 pub start_stands : StartStands
-start_stands s opening tables stored shows has opened =
-    subst (λ (l : List Status). FrontsStand s.layout s.pages s.transactions l (place_opened s opening tables)) (sym (one_list_shown shows stored has)) (opened_stands s opening tables shows opened)
+start_stands layout pages t stored p shows has opened empty =
+    subst (λ (l : List Status). FrontsStand layout pages t l p) (sym (one_list_shown shows stored has)) (opened_stands layout pages t p shows opened empty)

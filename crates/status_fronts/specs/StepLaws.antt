@@ -1,9 +1,8 @@
--- What each step of a store keeps of FrontsStand.
+-- what each step of a store keeps of FrontsStand
 use Rattle.std.specs.Prelude.{◌≡◌, ℕ, Bool, All, List, [], ◌∷◌, ◌++◌, set, None, Some}
 use Rattle.block_model.specs.declared.request.Entry.{Entry}
 use Rattle.block_model.specs.declared.request.Request.{Request}
 use Rattle.block_model.specs.declared.request.Request.TheVariants as requests
-use Rattle.block_model.specs.DatabaseState.{DatabaseState}
 use Rattle.store_layout.specs.DiskLayout.{DiskLayout}
 use Rattle.page_store.specs.PageMap.{PageMap}
 use Rattle.snapshot_core.specs.declared.statuses.Status.{Status}
@@ -15,24 +14,26 @@ use Rattle.tx_table.specs.Statuses.{HasStatuses}
 use Rattle.transactions.specs.Laws.{IsOpened}
 use Rattle.transactions.specs.ShowsDatabase.{ShowsDatabase}
 use Rattle.transactions.specs.TransactionsState.{TransactionsState, with_begun, with_failed, with_open, with_row_counted}
-use Rattle.table_coverage.specs.Table.{TableState}
 use Rattle.line_texts.specs.Place.{Place, database_at}
-use Rattle.store_parts.specs.OpeningLaws.{place_opened}
-use Rattle.store_parts.specs.StoreStates.{ShownStore}
-use Rattle.store_fronts.specs.FrontsStand.{FrontsStand}
-use Rattle.store_fronts.specs.RowsFollow.{RowsFollow}
+use Rattle.status_fronts.specs.FrontsStand.{FrontsStand}
+use Rattle.status_fronts.specs.RowsFollow.{RowsFollow}
 
 -- the place has the same opening, and these requests more in its journal
 pub record GoesOn (p q : Place) (more : List Entry) : Type 0 where
   pub opening : q.opening ≡ p.opening
   pub journal : q.journal ≡ p.journal ++ more
 
--- ---- which statuses
+-- ---- which statuses, and which place
 
 -- whichever list it is that the pages have
 abbrev pub AnyStatusesStand : Type 0
 AnyStatusesStand = (layout : DiskLayout) (pages : PageMap) (t : TransactionsState) (stored other : List Status) (p : Place)
     → HasStatuses layout pages stored → HasStatuses layout pages other → FrontsStand layout pages t stored p → FrontsStand layout pages t other p
+
+-- whichever place it is that has that opening and that journal
+abbrev pub AnyPlaceStands : Type 0
+AnyPlaceStands = (layout : DiskLayout) (pages : PageMap) (t : TransactionsState) (stored : List Status) (p q : Place)
+    → q.opening ≡ p.opening → q.journal ≡ p.journal → FrontsStand layout pages t stored p → FrontsStand layout pages t stored q
 
 -- ---- a step within a transaction
 
@@ -96,6 +97,5 @@ EndStands = (layout : DiskLayout) (old new : PageMap) (t : TransactionsState) (s
 
 -- A store that is opened, where nobody has a transaction, and whose journal is empty.
 abbrev pub StartStands : Type 0
-StartStands = (s : ShownStore) (opening : DatabaseState) (tables : ℕ → TableState) (stored : List Status)
-    → ShowsDatabase s.layout s.pages s.transactions opening → HasStatuses s.layout s.pages stored → IsOpened s.transactions
-    → FrontsStand s.layout s.pages s.transactions stored (place_opened s opening tables)
+StartStands = (layout : DiskLayout) (pages : PageMap) (t : TransactionsState) (stored : List Status) (p : Place)
+    → ShowsDatabase layout pages t p.opening → HasStatuses layout pages stored → IsOpened t → p.journal ≡ [] → FrontsStand layout pages t stored p

@@ -10,12 +10,12 @@ use Rattle.block_model.specs.SerialRun.{serial_run}
 use Rattle.line_texts.specs.DeadRows.{IsCommitted}
 use Rattle.line_texts.specs.Place.{Place, database_at}
 use Rattle.journal_fronts.specs.Commits.{CommitsAt, CommitsStand}
-use Rattle.store_fronts.specs.StepLaws.{GoesOn, IsWithin}
+use Rattle.status_fronts.specs.StepLaws.{GoesOn, IsWithin}
 
 -- ---- where none commits
 
 -- a place with the same opening and journal
-same_commits : (p q : Place) (u : ℕ) → q.opening ≡ p.opening → q.journal ≡ p.journal → IsCommitted p u → IsCommitted q u
+pub same_commits : (p q : Place) (u : ℕ) → q.opening ≡ p.opening → q.journal ≡ p.journal → IsCommitted p u → IsCommitted q u
 same_commits p q u opening journal c = record {
   before = c.before;
   entry = c.entry;

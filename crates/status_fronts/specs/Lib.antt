@@ -1,0 +1,4 @@
+pub mod FrontsStand
+pub mod RowsFollow
+pub mod StepLaws
+pub mod SeenBefore

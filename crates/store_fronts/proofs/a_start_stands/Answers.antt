@@ -1,5 +1,0 @@
-use Rattle.store_fronts.proofs.Starting.{start_stands}
-use Rattle.store_fronts.proofs.a_start_stands.Goals as goal
-
-pub returns : goal.returns
-returns c = start_stands
