@@ -1,5 +1,6 @@
 -- the candidate that a scan reads next
-use Rattle.std.proofs.Common.{◌≡◌, inl, inr, ℕ, ◌+◌, ◌<◌, Bool, true, false, List, length, Option, Some, refl, sym, subst, ◌∙◌, arith}
+use Rattle.std.proofs.Common.{◌≡◌, inl, inr, ℕ, ◌+◌, ◌<◌, Bool, true, false, List, length, Option, None, Some, refl, sym, subst, ◌∙◌, arith}
+use Rattle.std.specs.Prelude.{is_some, not}
 use Rattle.std.proofs.lemmas.Bool.{cases_lt, false≢true}
 use Rattle.std.proofs.lemmas.List.{get_or_past}
 use Rattle.std.proofs.lemmas.Option.{none-some}
@@ -15,6 +16,15 @@ use Rattle.brin_scan.proofs.Ordered.{ascend_more}
 -- a candidate is a block that the table may have
 pub candidate_within : (candidates : List Bool) (b : ℕ) → is_candidate candidates b ≡ true → b < length candidates
 candidate_within candidates b is = elim (cases_lt b (length candidates)) [ inl below ↦ below | inr past ↦ absurd (false≢true (sym (get_or_past candidates b false past) ∙ is)) ]
+
+-- what it tells of the next candidate whether there is none
+pub none_left : (candidates : List Bool) (from : ℕ) (next : Option ℕ) (none : Bool) → is_some next ≡ not none → none ≡ true → IsNext candidates from next → IsNext candidates from None
+none_left candidates from None none told empty next = next
+none_left candidates from (Some b) none told empty next = absurd cc
+
+pub one_left : (candidates : List Bool) (from : ℕ) (next : Option ℕ) (none : Bool) → is_some next ≡ not none → none ≡ false → IsNext candidates from next → (b : ℕ) × IsNext candidates from (Some b)
+one_left candidates from (Some b) none told some next = (b, next)
+one_left candidates from None none told some next = absurd cc
 
 -- a block is next once all ranges are judged
 pub record ReadsNext (hand : FindHand) (b : ℕ) : Type 0 where

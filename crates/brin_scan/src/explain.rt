@@ -84,10 +84,7 @@ impl Explain {
         ensures outcome { ReadOutcome D.told (Tells D.told pages.old → IsDamagedAt pages.old.layout pages.old.pages self.old.judging.indexes self.old.judging.stage) pages.old pages.new result }
     {
         let point = point_at(self.judging.stage());
-        match self.judging.step(pages) {
-            Ok(()) => {}
-            Err(fault) => return Err(fault),
-        }
+        self.judging.step(pages)?;
         if self.judging.is_judged() {
             self.judging.known();
             list(self.judging.candidates(), &mut self.blocks);

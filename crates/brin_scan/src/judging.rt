@@ -156,7 +156,7 @@ impl Judging {
         ensures outcome { ReadOutcome D.told (Tells D.told pages.old → IsDamagedAt pages.old.layout pages.old.pages self.old.indexes self.old.stage) pages.old pages.new result }
     {
         let (extent, stage) = (self.extent, self.stage);
-        match judge(
+        let (extent, stage) = judge(
             pages,
             &self.query,
             extent,
@@ -164,14 +164,10 @@ impl Judging {
             &mut self.readers,
             &mut self.candidates,
             &mut self.copied,
-        ) {
-            Ok((extent, stage)) => {
-                self.extent = extent;
-                self.stage = stage;
-                Ok(())
-            }
-            Err(fault) => Err(fault),
-        }
+        )?;
+        self.extent = extent;
+        self.stage = stage;
+        Ok(())
     }
 
     /// Whether all ranges are judged after the next step; `ahead` becomes the candidates that there are then. Changes nothing else, and takes no
@@ -194,7 +190,7 @@ impl Judging {
     {
         let (extent, stage) = (self.extent, self.stage);
         ahead.copy_from_slice(&self.candidates);
-        let stage = match judge(
+        let (_, stage) = judge(
             pages,
             &self.query,
             extent,
@@ -202,10 +198,7 @@ impl Judging {
             &mut self.readers,
             ahead,
             &mut self.copied,
-        ) {
-            Ok((_, stage)) => stage,
-            Err(fault) => return Err(fault),
-        };
+        )?;
         Ok(is_judged(stage))
     }
 }
@@ -252,21 +245,16 @@ fn judge<D: Disk + Drop>(
     ensures outcome { ReadOutcome D.told (Tells D.told pages.old → IsDamagedAt pages.old.layout pages.old.pages (all_scanned readers.old) stage) pages.old pages.new result }
 {
     match stage {
-        Stage::Extent => match begin(pages, query.table, readers, candidates) {
-            Ok(done) => Ok(done),
-            Err(fault) => Err(fault),
-        },
-        Stage::Map { at, range } => match judge_map(pages, readers, extent, at, range, copied) {
-            Ok(stage) => Ok((extent, stage)),
-            Err(fault) => Err(fault),
-        },
+        Stage::Extent => begin(pages, query.table, readers, candidates),
+        Stage::Map { at, range } => {
+            let stage = judge_map(pages, readers, extent, at, range, copied)?;
+            Ok((extent, stage))
+        }
         Stage::Tuple { at, range, spot } => {
             let held = Held { at, range, spot };
             let conds = query.conds.as_slice();
-            match judge_tuple(pages, readers, extent, held, conds, candidates, copied) {
-                Ok(stage) => Ok((extent, stage)),
-                Err(fault) => Err(fault),
-            }
+            let stage = judge_tuple(pages, readers, extent, held, conds, candidates, copied)?;
+            Ok((extent, stage))
         }
         Stage::Judged => unreachable!(),
     }

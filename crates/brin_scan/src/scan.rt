@@ -77,10 +77,7 @@ impl Scan {
         let Ok(ahead) = no_candidates(alloc, layout.sizes().heap_blocks as usize) else {
             return Err(query);
         };
-        let judging = match Judging::new(alloc, query, layout) {
-            Ok(judging) => judging,
-            Err(query) => return Err(query),
-        };
+        let judging = Judging::new(alloc, query, layout)?;
         Ok(Scan {
             judging,
             rows,
@@ -138,14 +135,8 @@ impl Scan {
         ensures outcome { FindOutcome D.told (Tells D.told pages.old → IsDamagedAt pages.old.layout pages.old.pages self.old.judging.indexes self.old.judging.stage) pages.old pages.new self.old.next result }
     {
         match self.next {
-            Some(block) => match self.read_block(pages, tx, snapshot, own, block) {
-                Ok(did) => Ok(did),
-                Err(fault) => Err(fault),
-            },
-            None => match self.judge_range(pages) {
-                Ok(did) => Ok(did),
-                Err(fault) => Err(fault),
-            },
+            Some(block) => self.read_block(pages, tx, snapshot, own, block),
+            None => self.judge_range(pages),
         }
     }
 
@@ -163,14 +154,8 @@ impl Scan {
         ensures outcome { ReadOutcome D.told (Tells D.told pages.old → IsDamagedAt pages.old.layout pages.old.pages self.old.judging.indexes self.old.judging.stage) pages.old pages.new result }
     {
         match self.next {
-            Some(block) => match self.peek_block(pages, block) {
-                Ok(last) => Ok(last),
-                Err(fault) => Err(fault),
-            },
-            None => match self.peek_range(pages) {
-                Ok(last) => Ok(last),
-                Err(fault) => Err(fault),
-            },
+            Some(block) => self.peek_block(pages, block),
+            None => self.peek_range(pages),
         }
     }
 
@@ -193,11 +178,7 @@ impl Scan {
             Err(error) => return Err(MachineFault::Store(error)),
         }
         self.judging.known();
-        match next_candidate(self.judging.candidates(), block + 1) {
-            Some(_) => return Ok(false),
-            None => {}
-        }
-        Ok(true)
+        Ok(next_candidate(self.judging.candidates(), block + 1).is_none())
     }
 
     /// Whether no range and no candidate is left after the step that reads the block count, or judges a range.
@@ -213,16 +194,11 @@ impl Scan {
         ensures outcome { ReadOutcome D.told (Tells D.told pages.old → IsDamagedAt pages.old.layout pages.old.pages self.old.judging.indexes self.old.judging.stage) pages.old pages.new result }
     {
         self.judging.known();
-        match self.judging.peek(pages, &mut self.ahead) {
-            Ok(true) => {}
-            Ok(false) => return Ok(false),
-            Err(fault) => return Err(fault),
+        let all = self.judging.peek(pages, &mut self.ahead)?;
+        if !all {
+            return Ok(false);
         }
-        match next_candidate(&self.ahead, 0) {
-            Some(_) => return Ok(false),
-            None => {}
-        }
-        Ok(true)
+        Ok(next_candidate(&self.ahead, 0).is_none())
     }
 
     /// The step that reads the next candidate block.
@@ -254,7 +230,7 @@ impl Scan {
         self.judging.known();
         let query = self.judging.query();
         let mut last = self.last;
-        match find_on(
+        find_on(
             pages,
             tx,
             snapshot,
@@ -264,10 +240,7 @@ impl Scan {
             &mut self.rows,
             &mut last,
             &mut self.found,
-        ) {
-            Ok(()) => {}
-            Err(fault) => return Err(fault),
-        }
+        )?;
         self.last = last;
         self.read = block + 1;
         self.next = next_candidate(self.judging.candidates(), block + 1);
@@ -293,10 +266,7 @@ impl Scan {
         ensures outcome { ReadOutcome D.told (Tells D.told pages.old → IsDamagedAt pages.old.layout pages.old.pages self.old.judging.indexes self.old.judging.stage) pages.old pages.new result }
     {
         let point = point_at(self.judging.stage());
-        match self.judging.step(pages) {
-            Ok(()) => {}
-            Err(fault) => return Err(fault),
-        }
+        self.judging.step(pages)?;
         if self.judging.is_judged() {
             self.judging.known();
             self.next = next_candidate(self.judging.candidates(), 0);
@@ -432,10 +402,7 @@ fn find_among<D: Disk + Drop>(
 {
     pages.known();
     'rows: for row in rows {
-        match add_visible(pages, tx, snapshot, own, query, block, row, last, found) {
-            Ok(()) => {}
-            Err(fault) => return Err(fault),
-        }
+        add_visible(pages, tx, snapshot, own, query, block, row, last, found)?;
     }
     Ok(())
 }

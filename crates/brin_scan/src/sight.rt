@@ -62,15 +62,12 @@ pub(crate) fn is_visible<D: Disk + Drop>(
     ensures at { IfErr result (NamesStatuses pages.old.layout) }
     ensures outcome { Outcome D.told (Untold D.told pages.old) pages.old pages.new result }
 {
-    match has_done(pages, tx, snapshot, own, row.id.t, &mut last.put) {
-        Ok(true) => {}
-        Ok(false) => return Ok(false),
-        Err(error) => return Err(error),
+    let put = has_done(pages, tx, snapshot, own, row.id.t, &mut last.put)?;
+    if !put {
+        return Ok(false);
     }
-    match has_done(pages, tx, snapshot, own, row.deleter, &mut last.gone) {
-        Ok(gone) => Ok(!gone),
-        Err(error) => Err(error),
-    }
+    let gone = has_done(pages, tx, snapshot, own, row.deleter, &mut last.gone)?;
+    Ok(!gone)
 }
 
 /// Whether what the transaction `t` did has happened for the one numbered `own`. Reads its status only where that tells: not of `own`, of the
@@ -105,17 +102,13 @@ fn has_done<D: Disk + Drop>(
     if !had_ended(snapshot, t) {
         return Ok(false);
     }
-    match tx.status(pages, t) {
-        Ok(status) => {
-            let committed = is_committed(status);
-            *last = Some(LastStatus {
-                number: t,
-                committed,
-            });
-            Ok(committed)
-        }
-        Err(error) => Err(error),
-    }
+    let status = tx.status(pages, t)?;
+    let committed = is_committed(status);
+    *last = Some(LastStatus {
+        number: t,
+        committed,
+    });
+    Ok(committed)
 }
 
 /// Whether the transaction committed, if it is the one that is remembered.

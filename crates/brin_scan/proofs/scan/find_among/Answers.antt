@@ -1,5 +1,6 @@
 use Rattle.std.proofs.Common.{◌≡◌, ℕ, ◌+◌, List, [], ◌∷◌, ◌++◌, drop, refl, sym, ap, subst, ◌∙◌}
 use Rattle.std.proofs.lemmas.List.{drop_more}
+use Rattle.std.proofs.lemmas.Result.{err_from_is_err_and}
 use Rattle.block_model.specs.declared.place.Spot.{Spot}
 use Rattle.block_model.specs.declared.row.Row.{Row}
 use Rattle.engine_pages.specs.SurvivesLaws.{survives_on, survives_still}
@@ -45,23 +46,25 @@ rows-preserved g c =
     let found' : List (Row × Spot) = c.add_visible.new.found.items in
     let is : drop i rows ≡ row ∷ rest = drop_more rows i row c.rows-test.true ∙ ap (λ (r : Stored). r ∷ rest) (sym c.row-item.is) in
     record {
-      kept = keeps_on told first mid c.add_visible.new.pages c.rows.invariant.kept c.in-Ok.ensures.kept;
-      survives = survives_on told first mid c.add_visible.new.pages c.rows.invariant.kept c.rows.invariant.survives c.in-Ok.ensures.survives;
+      kept = keeps_on told first mid c.add_visible.new.pages c.rows.invariant.kept c.in_ok-add_visible.ensures.kept;
+      survives = survives_on told first mid c.add_visible.new.pages c.rows.invariant.kept c.rows.invariant.survives c.in_ok-add_visible.ensures.survives;
       started = c.requires.ready;
-      ready = c.in-Ok.ensures.outcome.1;
-      ahead = goes_ahead query.table block c.args.found.now.items found found' row rest (subst (λ (l : List Stored). IsAhead block c.args.found.now.items found l) is c.rows.invariant.ahead) c.in-Ok.ensures.added;
+      ready = c.in_ok-add_visible.ensures.outcome.1;
+      ahead = goes_ahead query.table block c.args.found.now.items found found' row rest (subst (λ (l : List Stored). IsAhead block c.args.found.now.items found l) is c.rows.invariant.ahead) c.in_ok-add_visible.ensures.added;
       so_far = λ tells statuses has.
           let sight = sight_of c.args.snapshot.now c.args.own c.args.tx.now.first statuses in
           let all : List (Row × Spot) = c.args.found.now.items ++ visible_matches sight query block rows in
           one_more sight query block row rest found found' all
-          (told_before told first mid c.rows.invariant.kept (λ (l : List Status). found' ≡ found ++ visible_matches (sight_of c.args.snapshot.now c.args.own c.args.tx.now.first l) query block (row ∷ [])) c.in-Ok.ensures.visible tells statuses has)
+          (told_before told first mid c.rows.invariant.kept (λ (l : List Status). found' ≡ found ++ visible_matches (sight_of c.args.snapshot.now c.args.own c.args.tx.now.first l) query block (row ∷ [])) c.in_ok-add_visible.ensures.visible tells statuses has)
           (subst (λ (l : List Stored). found ++ visible_matches sight query block l ≡ all) is (c.rows.invariant.so_far tells statuses has));
       remembers = told_before told first mid c.rows.invariant.kept (λ (statuses : List Status). Remembers (sight_of c.args.snapshot.now c.args.own c.args.tx.now.first statuses) c.add_visible.new.last)
-          c.in-Ok.ensures.remembers;
+          c.in_ok-add_visible.ensures.remembers;
     }
 
-pub returns-in-Err-clause-names : goal.returns-in-Err-clause-names
-returns-in-Err-clause-names g c = subst (λ (l : DiskLayout). FaultNamesStatuses l c.in-Err.fault) c.rows.invariant.kept.leaves.layout c.in-Err.ensures.names
+pub returns-in_err-add_visible-clause-names : goal.returns-in_err-add_visible-clause-names
+returns-in_err-add_visible-clause-names g c =
+    let p = err_from_is_err_and c.from_residual.result c.from_residual.ensures.1 in
+    rw (p.1, p.2) (subst (λ (l : DiskLayout). FaultNamesStatuses l c.in_err-add_visible.field-0.0) c.rows.invariant.kept.leaves.layout c.in_err-add_visible.ensures.names)
 
-pub returns-in-Err-clause-survives : goal.returns-in-Err-clause-survives
-returns-in-Err-clause-survives g c = survives_on g.D.Disk.told c.args.pages.now c.rows.pages c.add_visible.new.pages c.rows.invariant.kept c.rows.invariant.survives c.in-Err.ensures.survives
+pub returns-in_err-add_visible-clause-survives : goal.returns-in_err-add_visible-clause-survives
+returns-in_err-add_visible-clause-survives g c = survives_on g.D.Disk.told c.args.pages.now c.rows.pages c.add_visible.new.pages c.rows.invariant.kept c.rows.invariant.survives c.in_err-add_visible.ensures.survives

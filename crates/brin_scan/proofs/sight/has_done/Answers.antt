@@ -30,17 +30,17 @@ returns-then-not-had_ended-clause-done g c = λ tells statuses has. done_by_none
 pub returns-then-not-had_ended-clause-survives : goal.returns-then-not-had_ended-clause-survives
 returns-then-not-had_ended-clause-survives g c = survives_still g.D.Disk.told c.args.pages.now c.known.ensures.stays
 
-pub returns-in-Ok-clause-done : goal.returns-in-Ok-clause-done
-returns-in-Ok-clause-done g c = λ tells statuses has.
+pub returns-clause-done : goal.returns-clause-done
+returns-clause-done g c = λ tells statuses has.
     done_by_commit (sight_of c.args.snapshot.now c.args.own c.args.tx.now.first statuses) c.args.t c.if-t-own.false c.is_committed-committed.result
-    (stands_read c.args.snapshot.now c.args.own c.args.tx.now.first statuses c.args.t c.in-Ok.status c.is_committed-committed.result (sym c.if-not-had_ended.ensures) c.if-t-eq0.false c.is_committed-committed.ensures (c.in-Ok.ensures.shown tells statuses has))
+    (stands_read c.args.snapshot.now c.args.own c.args.tx.now.first statuses c.args.t c.in_ok-status.status c.is_committed-committed.result (sym c.if-not-had_ended.ensures) c.if-t-eq0.false c.is_committed-committed.ensures (c.in_ok-status.ensures.shown tells statuses has))
 
-pub returns-in-Ok-clause-remembers : goal.returns-in-Ok-clause-remembers
-returns-in-Ok-clause-remembers g c = λ tells statuses has.
-    stands_read c.args.snapshot.now c.args.own c.args.tx.now.first statuses c.args.t c.in-Ok.status c.is_committed-committed.result (sym c.if-not-had_ended.ensures) c.if-t-eq0.false c.is_committed-committed.ensures (c.in-Ok.ensures.shown tells statuses has)
+pub returns-clause-remembers : goal.returns-clause-remembers
+returns-clause-remembers g c = λ tells statuses has.
+    stands_read c.args.snapshot.now c.args.own c.args.tx.now.first statuses c.args.t c.in_ok-status.status c.is_committed-committed.result (sym c.if-not-had_ended.ensures) c.if-t-eq0.false c.is_committed-committed.ensures (c.in_ok-status.ensures.shown tells statuses has)
 
-pub returns-in-Ok-clause-survives : goal.returns-in-Ok-clause-survives
-returns-in-Ok-clause-survives g c = c.in-Ok.ensures.survives
+pub returns-clause-survives : goal.returns-clause-survives
+returns-clause-survives g c = c.in_ok-status.ensures.survives
 
-pub returns-in-Err-clause-survives : goal.returns-in-Err-clause-survives
-returns-in-Err-clause-survives g c = c.in-Err.ensures.survives
+pub returns-in_err-status-clause-survives : goal.returns-in_err-status-clause-survives
+returns-in_err-status-clause-survives g c = c.in_err-status.ensures.survives

@@ -13,11 +13,11 @@ returns-clause-comes g c = λ tells.
     let copied = c.copy_from_slice.ensures.after ∙ c.deref.ensures.value in
     let old : hand_at a.query c.deref_mut.result.now a.stage a.extent copy ≡ c.args.self.now = (λ i. hand_at a.query (readers i) a.stage a.extent (copied i)) ∙ c.self.view_is in
     let of = subst (λ (h : ScanHand). IsScanOf store.layout h) (sym old) c.requires.scan in
-    let new = hand_at a.query c.judge.new.readers c.in-Ok.stage c.in-Ok.field-0-0 c.judge.new.candidates in
+    let new = hand_at a.query c.judge.new.readers c.in_ok-stage.stage c.in_ok-stage.field-0-0 c.judge.new.candidates in
     record {
       new = new;
-      to = subst (λ (h : ScanHand). JudgesTo store.layout store.pages h new) old (c.in-Ok.ensures.judged tells);
-      begun = subst (λ (l : List ScannedIndex). IsBegunAt l c.in-Ok.field-0-0 c.in-Ok.stage) (sym c.judge.ensures.indexes) c.in-Ok.ensures.at;
+      to = subst (λ (h : ScanHand). JudgesTo store.layout store.pages h new) old (c.in_ok-stage.ensures.judged tells);
+      begun = subst (λ (l : List ScannedIndex). IsBegunAt l c.in_ok-stage.field-0-0 c.in_ok-stage.stage) (sym c.judge.ensures.indexes) c.in_ok-stage.ensures.at;
       scan = record { table = of.table; indexes = c.judge.ensures.indexes ∙ of.indexes; room = c.judge.ensures.room ∙ of.room };
       query = ap (λ (h : ScanHand). h.query) c.self.view_is;
       candidates = refl;

@@ -6,8 +6,8 @@ use Rattle.brin_scan.specs.ScanHands.{ScanHand}
 use Rattle.brin_scan.specs.ScanSteps.{JudgesTo}
 use Rattle.brin_scan.proofs.judging.Judging.step.Goals as goal
 
-pub returns-in-Ok-clause-judged : goal.returns-in-Ok-clause-judged
-returns-in-Ok-clause-judged g c = λ tells.
+pub returns-clause-judged : goal.returns-clause-judged
+returns-clause-judged g c = λ tells.
     let store = c.args.pages.now in
     let a = c.self.inside in
     let readers = c.deref_mut.ensures.value in
@@ -19,8 +19,8 @@ returns-in-Ok-clause-judged g c = λ tells.
     omega (arith, length-map made scanned, length-map c.deref_mut.result.now scanned, ap length c.judge.ensures.indexes, c.deref_mut.ensures.len) in
     let readers_now = sym (with_items_is a.readers.items made as_many) in
     let candidates_now = sym (with_items_is a.candidates.items marked (c.judge.ensures.room ∙ c.deref_mut-2.ensures.len)) in
-    let new : hand_at a.query made c.in-Ok.stage c.in-Ok.extent marked
-    ≡ hand_at a.query (boxed_slice_items (boxed_slice_with_items a.readers made)) c.in-Ok.stage c.in-Ok.extent (boxed_slice_items (boxed_slice_with_items a.candidates marked)) =
-    (λ i. hand_at a.query (readers_now i) c.in-Ok.stage c.in-Ok.extent (candidates_now i)) in
+    let new : hand_at a.query made c.in_ok-extent.stage c.in_ok-extent.extent marked
+    ≡ hand_at a.query (boxed_slice_items (boxed_slice_with_items a.readers made)) c.in_ok-extent.stage c.in_ok-extent.extent (boxed_slice_items (boxed_slice_with_items a.candidates marked)) =
+    (λ i. hand_at a.query (readers_now i) c.in_ok-extent.stage c.in_ok-extent.extent (candidates_now i)) in
     subst (λ (h : ScanHand). JudgesTo store.layout store.pages c.args.self.now h) new
-    (subst (λ (h : ScanHand). JudgesTo store.layout store.pages h (hand_at a.query made c.in-Ok.stage c.in-Ok.extent marked)) old (c.in-Ok.ensures.judged tells))
+    (subst (λ (h : ScanHand). JudgesTo store.layout store.pages h (hand_at a.query made c.in_ok-extent.stage c.in_ok-extent.extent marked)) old (c.in_ok-extent.ensures.judged tells))

@@ -22,7 +22,7 @@ returns-then-is_judged-clause-stepped g c = λ tells sight.
     let point = c.point_at-point.ensures ∙ ap point_at c.stage.ensures in
     subst (λ (h : FindHand). FindSteps store.layout store.pages sight h new c.did_at.result) c.self.view_is
     (subst (λ (d : Did). FindSteps store.layout store.pages sight old new d) (sym c.did_at.ensures)
-    (comes_to store.layout store.pages sight old judging c.step.ensures.scan.indexes c.step.ensures.query (c.in-Ok.ensures.judged tells) c.point_at-point.result point
+    (comes_to store.layout store.pages sight old judging c.step.ensures.scan.indexes c.step.ensures.query (c.in_ok-step.ensures.judged tells) c.point_at-point.result point
     (c.is_judged.ensures.yes c.if-is_judged.true) next (subst (λ (n : ℕ). IsNext judging.candidates n next) (sym none) first)))
 
 pub returns-else-is_judged-clause-stepped : goal.returns-else-is_judged-clause-stepped
@@ -34,5 +34,5 @@ returns-else-is_judged-clause-stepped g c = λ tells sight.
     let new : FindHand = record { judging = judging; read = self.read; next = self.next; found = self.found.items; last = self.last; room = self.rows.room } in
     let point = c.point_at-point.ensures ∙ ap point_at c.stage.ensures in
     subst (λ (h : FindHand). FindSteps store.layout store.pages sight h new (did.Moved c.point_at-point.result)) c.self.view_is
-    (goes_on store.layout store.pages sight old judging c.step.ensures.scan.indexes c.step.ensures.query (c.in-Ok.ensures.judged tells) c.point_at-point.result point
-    c.in-Ok.ensures.at (c.is_judged.ensures.no c.if-is_judged.false))
+    (goes_on store.layout store.pages sight old judging c.step.ensures.scan.indexes c.step.ensures.query (c.in_ok-step.ensures.judged tells) c.point_at-point.result point
+    c.in_ok-step.ensures.at (c.is_judged.ensures.no c.if-is_judged.false))

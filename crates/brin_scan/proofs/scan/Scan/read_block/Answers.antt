@@ -20,7 +20,7 @@ invariant_of-self-2 g c =
     let finding : IsFinding hand = subst (λ (n : ℕ). IsFinding (record was { room = n })) (sym c.find_on.ensures.room) c.self.invariant.0 in
     let is : self.next ≡ Some b = ap (λ (h : FindHand). h.next) c.self.view_is ∙ c.requires.next in
     let first : IsNext self.judging.candidates (b + 1) next = subst (λ (l : List Bool). IsNext l (b + 1) next) c.candidates.ensures c.next_candidate-self-inside.ensures in
-    (read_on hand b next c.find_on.new.found.items c.find_on.new.last (reads_next hand b is finding) finding c.in-Ok.ensures.order first, c.self.invariant.1)
+    (read_on hand b next c.find_on.new.found.items c.find_on.new.last (reads_next hand b is finding) finding c.in_ok-find_on.ensures.order first, c.self.invariant.1)
 
 pub returns-clause-stepped : goal.returns-clause-stepped
 returns-clause-stepped g c = λ tells statuses had.
@@ -37,7 +37,7 @@ returns-clause-stepped g c = λ tells statuses had.
     let first : IsNext self.judging.candidates (b + 1) next = subst (λ (l : List Bool). IsNext l (b + 1) next) c.candidates.ensures c.next_candidate-self-inside.ensures in
     let of = subst (λ (h : FindHand). IsFindOf store.layout h) (sym c.self.view_is) c.requires.scan in
     let finds = subst (λ (q : Query). (blocks : List (List Slot)) → HasBlocks store.layout store.pages q.table blocks → found ≡ self.found.items ++ visible_matches sight q b (stored_rows (slots_of blocks b))) c.query-query.ensures
-    (λ blocks has. c.in-Ok.ensures.found tells blocks has statuses had) in
+    (λ blocks has. c.in_ok-find_on.ensures.found tells blocks has statuses had) in
     subst (λ (h : FindHand). FindSteps store.layout store.pages sight h new c.did_at.result) c.self.view_is
     (subst (λ (d : Did). FindSteps store.layout store.pages sight old new d) (sym c.did_at.ensures)
     (reads_on store.layout store.pages sight old of.judging.indexes b found next reads.first first finds reads.all is))
