@@ -1,8 +1,9 @@
 //! The map of an index grows onto a page that has tuples.
 
+use crate::reading::{WrongAnswer, first_wrong};
 use crate::store::SMALL;
 use block_model::{NoMemory, Sizes};
-use machine_trials::{Trial, WrongAnswer, first_wrong};
+use machine_trials::Trial;
 use std::alloc::Global;
 use std::test::Fail;
 

@@ -8,7 +8,11 @@ mod growth;
 #[cfg(test)]
 mod moves;
 #[cfg(test)]
+mod names;
+#[cfg(test)]
 mod paths;
+#[cfg(test)]
+mod reading;
 #[cfg(test)]
 mod rows;
 #[cfg(test)]

@@ -1,8 +1,9 @@
 //! The steps by which each machine comes to its end.
 
+use crate::reading::first_wrong;
 use crate::store::{SMALL, other_path};
 use block_model::Point;
-use machine_trials::{Trial, first_wrong};
+use machine_trials::Trial;
 use std::test::Fail;
 
 const TWO_INDEXES: [&str; 3] = [

@@ -1,7 +1,8 @@
 //! The stores of the tests.
 
+use crate::reading::{WrongAnswer, first_wrong, points};
 use block_model::{Point, Sizes};
-use machine_trials::{Trial, WrongAnswer, first_wrong, points};
+use machine_trials::Trial;
 use std::alloc::Global;
 
 /// Eight blocks of a table, and four of an index: its metapage, a page of its map and two of tuples.

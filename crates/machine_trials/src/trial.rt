@@ -8,7 +8,6 @@ ghost use Rattle.machine_trials.specs.Works.{IsWorkOf, max_tables};
 
 use crate::beginnings::work_for;
 use crate::deletes::turn_delete;
-use crate::names::SESSIONS;
 use crate::quiet_disk::QuietDisk;
 use crate::transactions::{Ending, Open, begun, ending_of, ends, fail, id_for, snapshots_of};
 use crate::turns::{Turn, turn_explain, turn_insert, turn_select, turn_summarise};
@@ -28,6 +27,9 @@ use store_format::format;
 use store_layout::Layout;
 use summary_queue::Queue;
 use tx_table::TxTable;
+
+/// How many sessions a store has.
+pub const SESSIONS: usize = 4;
 
 /// How many locks may be held at once: three a session.
 const LOCKS: u32 = 12;
@@ -80,7 +82,7 @@ fn no_works(alloc: Global) -> Result<Vec<Work>, NoMemory>
     ensures { IfOk result (λ works. (layout : DiskLayout) → All (IsWorkOf layout) works.items) }
 {
     let mut works = Vec::new(alloc);
-    'sessions: for _ in SESSIONS {
+    'sessions: for _ in 0..SESSIONS {
         works.push(Work::Nothing)?;
     }
     Ok(works)
@@ -104,7 +106,7 @@ fn no_rights(alloc: Global) -> Option<Rights>
 /// No session has begun a transaction.
 fn no_transactions(alloc: Global) -> Option<Vec<Option<Open>>> {
     let mut open = Vec::new(alloc);
-    for _ in SESSIONS {
+    for _ in 0..SESSIONS {
         open.push(None).ok()?;
     }
     Some(open)

@@ -3,11 +3,9 @@
 ghost use Rattle.query_words.specs.LineFits.{FitsLine, FitsOrder};
 
 use crate::names::{name_of, relation_name, session_of};
-use crate::transactions::Ending;
-use crate::trial::Trial;
-use crate::turns::Turn;
 use block_model::{Name, Point, Refusal, Reply, What};
 use line_words::Verb;
+use machine_trials::{Ending, Trial, Turn};
 use query_words::{Line, Order, read_line_in};
 use reply_texts::{render, render_moved, render_started};
 use statements::Statement;
