@@ -3,18 +3,14 @@
 //! on standard error.
 //!
 //! Its tests are worked scripts, each run through `brin_main` in memory: what is written and the status are those of the row,
-//! whether bytes come and go one by one or in large pieces; and every interleaving of the steps of two statements. Texts are worked
-//! out by hand from what a line means, and none is the program's own.
+//! whether bytes come and go one by one or in large pieces. Texts are worked out by hand from what a line means, and none is the
+//! program's own.
 #![tactic(auto)]
 
 #[cfg(test)]
 mod limit_rows;
 #[cfg(test)]
 mod line_rows;
-#[cfg(test)]
-mod orders;
-#[cfg(test)]
-mod pairs;
 #[cfg(test)]
 mod row_runs;
 #[cfg(test)]

@@ -1,5 +1,5 @@
 use Rattle.std.proofs.Common.{◌≤◌}
-use Rattle.brin.proofs.orders.count_right.Given as goal
+use Rattle.interleavings.proofs.orders.count_right.Given as goal
 
 -- no more than there were orders
 abbrev pub invariant-orders : goal.invariant-orders
