@@ -30,11 +30,9 @@ every_verb =
     verbs.Begin ∷ verbs.Commit ∷ verbs.Rollback ∷ verbs.Insert ∷ verbs.Select ∷ verbs.Delete ∷ verbs.Explain ∷ verbs.Summarize
     ∷ verbs.Desummarize ∷ verbs.Vacuum ∷ verbs.Work ∷ verbs.Start ∷ verbs.Step ∷ verbs.Finish ∷ []
 
--- the verbs that the engine answers today
+-- the verbs that the engine answers: all
 abbrev pub answered : List Verb
-answered =
-    verbs.Begin ∷ verbs.Commit ∷ verbs.Rollback ∷ verbs.Insert ∷ verbs.Select ∷ verbs.Delete ∷ verbs.Explain ∷ verbs.Summarize
-    ∷ verbs.Desummarize ∷ verbs.Start ∷ verbs.Step ∷ verbs.Finish ∷ []
+answered = every_verb
 
 -- the verb is one of the language's
 abbrev pub has_verb : List Verb → Verb → Bool

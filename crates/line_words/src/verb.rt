@@ -26,8 +26,8 @@ pub enum Verb {
     Finish,
 }
 
-/// The language of the engine: the verbs that it answers today. Another verb is refused as a word that no line has.
-pub const ANSWERED: [Verb; 12] = [
+/// The language of the engine: all verbs.
+pub const ANSWERED: [Verb; 14] = [
     Verb::Begin,
     Verb::Commit,
     Verb::Rollback,
@@ -37,6 +37,8 @@ pub const ANSWERED: [Verb; 12] = [
     Verb::Explain,
     Verb::Summarize,
     Verb::Desummarize,
+    Verb::Vacuum,
+    Verb::Work,
     Verb::Start,
     Verb::Step,
     Verb::Finish,

@@ -1,6 +1,6 @@
 //! Lines of sessions, and what they are answered.
 
-ghost use Rattle.query_words.specs.LineFits.{FitsLine, FitsOrder};
+ghost use Rattle.query_words.specs.LineFits.{IsLineFor, IsOrderFor};
 
 use crate::names::{name_of, relation_name, session_of};
 use block_model::{Name, Point, Refusal, Reply, What};
@@ -67,7 +67,7 @@ fn answer(alloc: Global, trial: &mut Trial, line: &[u8]) -> Option<Vec<u8>> {
 
 /// Does what the line says, and appends the answer.
 fn obey(trial: &mut Trial, line: Line, out: &mut Vec<u8>) -> Option<()>
-    requires { FitsLine trial.old.schema line }
+    requires { IsLineFor trial.old.schema line }
 {
     match line {
         Line::Nothing => None,
@@ -77,7 +77,7 @@ fn obey(trial: &mut Trial, line: Line, out: &mut Vec<u8>) -> Option<()>
 
 /// Does what the session says, and appends the answer.
 fn say(trial: &mut Trial, name: &Name, order: Order, out: &mut Vec<u8>) -> Option<()>
-    requires { FitsOrder trial.old.schema order }
+    requires { IsOrderFor trial.old.schema order }
 {
     let session = session_of(name)?;
     match order {
@@ -185,7 +185,7 @@ pub fn points(alloc: Global, trial: &mut Trial, line: &str) -> Option<Vec<Point>
 
 /// The session begins the line's statement, and makes no step of it; answers the session's number.
 fn begin(trial: &mut Trial, line: Line) -> Option<usize>
-    requires { FitsLine trial.old.schema line }
+    requires { IsLineFor trial.old.schema line }
 {
     match line {
         Line::Nothing => None,
@@ -195,7 +195,7 @@ fn begin(trial: &mut Trial, line: Line) -> Option<usize>
 
 /// The session begins the statement of that name; answers its number.
 fn begin_order(trial: &mut Trial, name: &Name, order: Order) -> Option<usize>
-    requires { FitsOrder trial.old.schema order }
+    requires { IsOrderFor trial.old.schema order }
 {
     let session = session_of(name)?;
     match order {

@@ -3,7 +3,7 @@
 ghost use Rattle.std.specs.Prelude.{◌≡◌, ◌<◌, length, IfSome};
 ghost use Rattle.page_layout.specs.RowBytes.{HaveKinds};
 ghost use Rattle.heap_rows.specs.Heaps.{kinds_at};
-ghost use Rattle.query_words.specs.LineFits.{FitsStatement};
+ghost use Rattle.statements.specs.StatementFits.{IsStatementFor};
 ghost use Rattle.machine_trials.specs.Works.{IsWorkOf};
 
 use crate::turns::has_few_tables;
@@ -25,7 +25,7 @@ pub(crate) fn work_for(
     id: Option<RowId>,
     statement: Statement,
 ) -> Option<Work>
-    requires { FitsStatement layout.now.schema statement }
+    requires { IsStatementFor layout.now.schema statement }
     ensures { IfSome result (IsWorkOf layout.now) }
 {
     match statement {

@@ -2,7 +2,7 @@
 
 ghost use Rattle.std.specs.Prelude.{◌≡◌, ◌<◌, ◌≤◌, All, length, IfOk, IfSome};
 ghost use Rattle.store_layout.specs.DiskLayout.{DiskLayout};
-ghost use Rattle.query_words.specs.LineFits.{FitsStatement};
+ghost use Rattle.statements.specs.StatementFits.{IsStatementFor};
 ghost use Rattle.tx_table.specs.TxState.{IsOver};
 ghost use Rattle.machine_trials.specs.Works.{IsWorkOf, max_tables};
 
@@ -149,7 +149,7 @@ impl Trial {
 
     /// The session begins a statement; `None` where none is begun.
     pub fn start(&mut self, session: usize, statement: Statement) -> Option<()>
-        requires { FitsStatement self.old.schema statement }
+        requires { IsStatementFor self.old.schema statement }
         ensures { self.new ≡ self.old }
     {
         if session >= self.works.len() {

@@ -26,7 +26,7 @@ use Rattle.line_words.specs.Words.{PlacedWord}
 use Rattle.line_words.specs.Operators.{op_text, comparisons, op_of}
 use Rattle.line_words.specs.Written.{first_written}
 use Rattle.line_words.specs.Blocks.{block_of}
-use Rattle.line_words.specs.Verbs.{answered, has_verb, statement_verb}
+use Rattle.line_words.specs.Verbs.{has_verb, statement_verb}
 use Rattle.query_words.specs.declared.line.Line.{Line}
 use Rattle.query_words.specs.declared.line.Line.TheVariants as lines
 use Rattle.query_words.specs.declared.line.Order.{Order}
@@ -39,8 +39,8 @@ use Rattle.query_words.specs.Syntax.{stop_of}
 use Rattle.query_words.specs.Parsed.{said_of}
 use Rattle.query_words.specs.Statements.{◌>>=◌, or_fault, table_from, table_said, column_from, column_said, op_in, op_said, value_said, cond_on, test_said, cond_said, conds_said, values_said, query_said, insert_said, index_from, index_said, vacuum_said, statement_said, order_said}
 use Rattle.query_words.specs.Lines.{line_said, line_judged}
-use Rattle.statements.specs.StatementFits.{HasKeyFor, IsCondFor, AreValuesFor, IsIndexOf, IsQueryFor, IsInsertFor}
-use Rattle.query_words.specs.LineFits.{IsTableOf, FitsStatement, FitsOrder, FitsLine, IsLineFor, answered_fits, is_order_in, is_line_in}
+use Rattle.statements.specs.StatementFits.{HasKeyFor, IsCondFor, AreValuesFor, IsIndexOf, IsQueryFor, IsInsertFor, IsTableOf, IsStatementFor}
+use Rattle.query_words.specs.LineFits.{IsOrderFor, IsLineFor, is_order_in, is_line_in}
 use Rattle.query_words.proofs.LineLawLemmas.{unstopped}
 
 -- the value of a kind is one of it
@@ -225,7 +225,7 @@ query_fits knows schema table conds q h =
     } in
     subst (IsQueryFor schema) same fits
 
-insert_fits : KnowsValues → (schema : Schema) (len : ℕ) (table : PlacedWord) (words : List PlacedWord) (s : Statement) → insert_said schema len table words ≡ Ok s → FitsStatement schema s
+insert_fits : KnowsValues → (schema : Schema) (len : ℕ) (table : PlacedWord) (words : List PlacedWord) (s : Statement) → insert_said schema len table words ≡ Ok s → IsStatementFor schema s
 insert_fits knows schema len table words s h =
     let a = came (table_said schema table) (λ t. values_said len [] t.1 words >>= λ vs. Ok (statements.Insert t.0 vs)) s h in
     let found = table_found 0 schema.tables table.text a.from (found_there (faults.NoTable table.at) (table_from 0 schema.tables table.text) a.from a.first) in
@@ -237,14 +237,14 @@ insert_fits knows schema len table words s h =
       table = ap (slice_get schema.tables) (sym (at_zero a.from.0 found.number found.counted)) ∙ found.table;
       values = subst (λ (columns : List Column). AreValuesFor columns b.from) (sym found.columns) (subst (AreValuesFor a.from.1) (sym m.are) m.fit);
     } in
-    subst (FitsStatement schema) same fits
+    subst (IsStatementFor schema) same fits
 
 select_fits : KnowsValues → (schema : Schema) (table : PlacedWord) (conds : List (SaidCond PlacedWord)) (make : Query → Statement) (s : Statement)
-    → ((q : Query) → IsQueryFor schema q → FitsStatement schema (make q)) → (query_said schema table conds >>= λ q. Ok (make q)) ≡ Ok s → FitsStatement schema s
+    → ((q : Query) → IsQueryFor schema q → IsStatementFor schema (make q)) → (query_said schema table conds >>= λ q. Ok (make q)) ≡ Ok s → IsStatementFor schema s
 select_fits knows schema table conds make s fits h =
     let a = came (query_said schema table conds) (λ q. Ok (make q)) s h in
     let same : make a.from ≡ s = let e = a.then in cc in
-    subst (FitsStatement schema) same (fits a.from (query_fits knows schema table conds a.from a.first))
+    subst (IsStatementFor schema) same (fits a.from (query_fits knows schema table conds a.from a.first))
 
 -- the index of a name, by its number
 record IndexFound (indexes : List Index) (n i : ℕ) : Type 0 where
@@ -264,29 +264,29 @@ index_found : (n : ℕ) (indexes : List Index) (name : List ℕ) (i : ℕ) → i
 index_found n [] name i h = cc
 index_found n (index ∷ indexes) name i h = index_step (bytes_eq index.name name) n index indexes (index_from (n + 1) indexes name) i (index_found (n + 1) indexes name i) h
 
-index_fits : (schema : Schema) (word : PlacedWord) (make : ℕ → Statement) (s : Statement) → ((i : ℕ) → IsIndexOf schema i → FitsStatement schema (make i))
-    → (index_said schema word >>= λ i. Ok (make i)) ≡ Ok s → FitsStatement schema s
+index_fits : (schema : Schema) (word : PlacedWord) (make : ℕ → Statement) (s : Statement) → ((i : ℕ) → IsIndexOf schema i → IsStatementFor schema (make i))
+    → (index_said schema word >>= λ i. Ok (make i)) ≡ Ok s → IsStatementFor schema s
 index_fits schema word make s fits h =
     let a = came (index_said schema word) (λ i. Ok (make i)) s h in
     let found = index_found 0 schema.indexes word.text a.from (found_there (faults.NoIndex word.at) (index_from 0 schema.indexes word.text) a.from a.first) in
     let same : make a.from ≡ s = let e = a.then in cc in
-    subst (FitsStatement schema) same (fits a.from (found.of, ap (slice_get schema.indexes) (sym (at_zero a.from found.number found.counted)) ∙ found.index))
+    subst (IsStatementFor schema) same (fits a.from (found.of, ap (slice_get schema.indexes) (sym (at_zero a.from found.number found.counted)) ∙ found.index))
 
-vacuum_fits : (schema : Schema) (word : PlacedWord) (s : Statement) → vacuum_said schema word ≡ Ok s → FitsStatement schema s
+vacuum_fits : (schema : Schema) (word : PlacedWord) (s : Statement) → vacuum_said schema word ≡ Ok s → IsStatementFor schema s
 vacuum_fits schema word s h =
     let a = came (table_said schema word) (λ t. Ok (statements.Vacuum t.0)) s h in
     let found = table_found 0 schema.tables word.text a.from (found_there (faults.NoTable word.at) (table_from 0 schema.tables word.text) a.from a.first) in
     let same : statements.Vacuum a.from.0 ≡ s = let e = a.then in cc in
     let fits : IsTableOf schema a.from.0 = (found.of, ap (slice_get schema.tables) (sym (at_zero a.from.0 found.number found.counted)) ∙ found.table) in
-    subst (FitsStatement schema) same fits
+    subst (IsStatementFor schema) same fits
 
 -- a statement that is said fits, and has the verb that was said
 pub record SaidFits (schema : Schema) (said : SaidStatement PlacedWord) (s : Statement) : Type 0 where
-  pub fits : FitsStatement schema s
+  pub fits : IsStatementFor schema s
   pub verb : statement_verb s ≡ verb_said said
 
-bare_fits : (schema : Schema) (said : SaidStatement PlacedWord) (made s : Statement) → FitsStatement schema made → statement_verb made ≡ verb_said said → made ≡ s → SaidFits schema said s
-bare_fits schema said made s fits verb same = record { fits = subst (FitsStatement schema) same fits; verb = ap statement_verb (sym same) ∙ verb }
+bare_fits : (schema : Schema) (said : SaidStatement PlacedWord) (made s : Statement) → IsStatementFor schema made → statement_verb made ≡ verb_said said → made ≡ s → SaidFits schema said s
+bare_fits schema said made s fits verb same = record { fits = subst (IsStatementFor schema) same fits; verb = ap statement_verb (sym same) ∙ verb }
 
 -- its verb, whatever it was made of
 made_verb : {A : Type 0} (said : Result A LineFault) (make : A → Statement) (v : Verb) (s : Statement) → ((x : A) → statement_verb (make x) ≡ v) → (said >>= λ x. Ok (make x)) ≡ Ok s
@@ -337,7 +337,7 @@ statement_fits knows schema len (Vacuum table) s h = record {
 
 -- a line that is read fits the schema, and its verbs are the language's
 pub record LineFitsBoth (language : List Verb) (schema : Schema) (line : Line) : Type 0 where
-  pub fits : FitsLine schema line
+  pub fits : IsLineFor schema line
   pub spoken : is_line_in language line ≡ true
 
 both : (a b : Bool) → a ≡ true → b ≡ true → (a && b) ≡ true
@@ -364,7 +364,7 @@ has_same language schema said s f has = ap (has_verb language) (f.verb ∙ sym (
 
 -- the order of a line
 record OrderFits (language : List Verb) (schema : Schema) (order : Order) : Type 0 where
-  fits : FitsOrder schema order
+  fits : IsOrderFor schema order
   spoken : is_order_in language order ≡ true
 
 order_same : (language : List Verb) (schema : Schema) (made order : Order) → made ≡ order → OrderFits language schema made → OrderFits language schema order
@@ -407,8 +407,3 @@ pub words_fit : (language : List Verb) → KnowsValues → (schema : Schema) (le
 words_fit language knows schema len words read h =
     let u = unstopped language knows.denoted len words h.0 in
     line_fits language knows schema len u.said read u.is_said (sym (ap (line_judged schema len None) u.parsed) ∙ h.1)
-
--- what the engine's language says fits the engine
-pub answer_fits : (schema : Schema) (answer : Result Line LineFault) → IfOk answer (FitsLine schema) → IfOk answer (λ read. is_line_in answered read ≡ true) → IfOk answer (IsLineFor schema)
-answer_fits schema (Ok read) fits within = answered_fits schema read fits within
-answer_fits schema (Err fault) fits within = tt

@@ -31,10 +31,10 @@ use Rattle.query_words.specs.declared.line.LineFault.TheVariants as faults
 use Rattle.query_words.specs.Grammar.{SaidCond, SaidStatement, Begin, Commit, Rollback, Insert, Select, Delete, Explain, Summarize, Desummarize, Vacuum, Work, SaidOrder, Whole, Start, Step, Finish, SaidLine, Nothing, Say, verb_said, words_behind, words_of_more, words_of_conds, words_of_order}
 use Rattle.block_model.specs.declared.limits.TheConstants.{MAX_CONDITIONS}
 use Rattle.query_words.specs.Grammar.{AreValueWords, IsSaidQuery, HasSaidParts, IsSaidStatement, IsSaidOrder, cond_texts, statement_texts, order_texts, said_texts}
-use Rattle.query_words.specs.LineFits.{IsTableOf, FitsStatement, FitsOrder, FitsLine, is_order_in, is_line_in}
+use Rattle.query_words.specs.LineFits.{IsOrderFor, IsLineFor, is_order_in, is_line_in}
+use Rattle.statements.specs.StatementFits.{IsTableOf, IsStatementFor, IsCondFor, AreValuesFor, IsIndexOf, IsQueryFor, IsInsertFor}
 use Rattle.query_words.specs.Statements.{◌>>=◌, or_fault, table_from, index_from, conds_said, values_said, query_said, statement_said, order_said}
 use Rattle.query_words.specs.Lines.{line_said, line_in}
-use Rattle.statements.specs.StatementFits.{IsCondFor, AreValuesFor, IsIndexOf, IsQueryFor, IsInsertFor}
 use Rattle.query_words.specs.LineTexts.{table_name, index_name, cond_of, conds_of, statement_of, order_of, joined}
 use Rattle.query_words.specs.LineLaws.{IsOfItsType, HasItsType, IsNamedLine, HasNames, ReadsBack}
 use Rattle.query_words.proofs.LineLawLemmas.{grammar_read}
@@ -269,7 +269,7 @@ vacuum_back schema sizes n keeps names of =
       back = λ len placed e. vacuum_said_back schema len n of.0.columns (table_name schema n) placed (ap (table_from 0 schema.tables) name ∙ d.found) e;
     }
 
-statement_back : KnowsTexts → (schema : Schema) (sizes : Sizes) (s : Statement) → KeepsLimits schema sizes → HasNames schema → FitsStatement schema s → IsOfItsType s → StatementBack schema s
+statement_back : KnowsTexts → (schema : Schema) (sizes : Sizes) (s : Statement) → KeepsLimits schema sizes → HasNames schema → IsStatementFor schema s → IsOfItsType s → StatementBack schema s
 statement_back knows schema sizes statements.Begin keeps names fits typed =
     record { verb = refl; parts = tt; printed = tt; count = omega arith; back = λ len placed e. begin_back schema len placed e }
 statement_back knows schema sizes statements.Commit keeps names fits typed =
@@ -344,7 +344,7 @@ finish_order_back schema len other e = cc
 said_of_statement : (language : List Verb) (schema : Schema) (s : Statement) → StatementBack schema s → has_verb language (statement_verb s) ≡ true → IsSaidStatement language (statement_of schema s)
 said_of_statement language schema s b has = (ap (has_verb language) b.verb ∙ has, b.parts)
 
-order_back : (language : List Verb) → KnowsTexts → (schema : Schema) (sizes : Sizes) (session : List ℕ) (o : Order) → KeepsLimits schema sizes → HasNames schema → FitsOrder schema o
+order_back : (language : List Verb) → KnowsTexts → (schema : Schema) (sizes : Sizes) (session : List ℕ) (o : Order) → KeepsLimits schema sizes → HasNames schema → IsOrderFor schema o
     → is_order_in language o ≡ true → HasItsType (lines.Say session o) → OrderBack language schema o
 order_back language knows schema sizes session (orders.Whole s) keeps names fits within typed =
     let b = statement_back knows schema sizes s keeps names fits typed in
@@ -391,7 +391,7 @@ unfolding line_in
 nothing_back language schema = record { short = omega arith; same = refl }
 
 -- a line that fits and is of the language is read back
-pub read_back : (language : List Verb) → KnowsTexts → (schema : Schema) (sizes : Sizes) (line : Line) → KeepsLimits schema sizes → HasNames schema → FitsLine schema line
+pub read_back : (language : List Verb) → KnowsTexts → (schema : Schema) (sizes : Sizes) (line : Line) → KeepsLimits schema sizes → HasNames schema → IsLineFor schema line
     → is_line_in language line ≡ true → IsNamedLine line → HasItsType line → ReadsBack language schema line
 read_back language knows schema sizes lines.Nothing keeps names fits within named typed = nothing_back language schema
 read_back language knows schema sizes (lines.Say session o) keeps names fits within named typed =

@@ -3,7 +3,7 @@
 ghost use Rattle.std.specs.Prelude.{◌≡◌, length, true, None, IfOk, if◌then◌else◌};
 ghost use Rattle.line_words.specs.LineParts.{words_left};
 ghost use Rattle.line_words.specs.Verbs.{answered};
-ghost use Rattle.query_words.specs.LineFits.{FitsLine, IsLineFor, is_line_in};
+ghost use Rattle.query_words.specs.LineFits.{IsLineFor, is_line_in};
 ghost use Rattle.query_words.specs.Lines.{ReadsAs, ReadsOnce, line_in, line_of, line_judged};
 ghost use Rattle.query_words.specs.Parsed.{said_of};
 ghost use Rattle.query_words.specs.SmallSchemas.{IsSmallSchema};
@@ -91,7 +91,7 @@ pub fn read_line_in(
     layout: &Layout,
 ) -> Result<Line, LineFault>
     ensures reads { ReadsAs result (line_in language.now layout.now.schema line.now) }
-    ensures fits { IfOk result (FitsLine layout.now.schema) }
+    ensures fits { IfOk result (IsLineFor layout.now.schema) }
     ensures language { IfOk result (λ read. is_line_in language.now read ≡ true) }
 {
     value_of_is_denoted();

@@ -2,7 +2,7 @@
 
 ghost use Rattle.std.specs.Prelude.{◌≡◌, true, All};
 ghost use Rattle.query_words.specs.Grammar.{IsNameWord};
-ghost use Rattle.query_words.specs.LineFits.{FitsLine, is_line_in};
+ghost use Rattle.query_words.specs.LineFits.{IsLineFor, is_line_in};
 ghost use Rattle.query_words.specs.LineLaws.{GrammarIsRead, ReadIsGrammar, FaultIsStop, HasNames, IsNamedTable, IsNamedLine, HasItsType, IsOfItsType, ReadsBack};
 
 use crate::line::{Line, Order};
@@ -36,7 +36,7 @@ pub fn fault_is_stop()
 /// What is printed of a line that fits the layout reads as the same line, in each language that has its verbs, and fits the
 /// limit of lines. Every line that was read is such a line.
 pub fn printed_line_reads_back(language: &[Verb], line: &Line, layout: &Layout)
-    requires fits { FitsLine layout.now.schema line.now }
+    requires fits { IsLineFor layout.now.schema line.now }
     requires language { is_line_in language.now line.now ≡ true }
     ensures { ReadsBack language.now layout.now.schema line.now }
 {

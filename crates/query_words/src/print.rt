@@ -5,7 +5,7 @@ ghost use Rattle.std.specs.Prelude.{◌≡◌, [], ◌∷◌, ◌++◌, map, cod
 ghost use Rattle.value_text.specs.CanonicalTexts.{canonical_text};
 ghost use Rattle.value_text.specs.Appended.{IsLonger};
 ghost use Rattle.query_words.specs.Grammar.{words_of_cond, words_of_conds, words_of_more, words_of_statement, words_of_order};
-ghost use Rattle.query_words.specs.LineFits.{FitsLine};
+ghost use Rattle.query_words.specs.LineFits.{IsLineFor};
 ghost use Rattle.query_words.specs.LineTexts.{line_text, spaced, table_name, index_name, columns_at, column_name, cond_of, conds_of, statement_of, order_of, test_of};
 
 use crate::line::{Line, Order};
@@ -20,7 +20,7 @@ use value_text::{append, write_value, write_values};
 /// the layout, and its values and operators of their columns' kinds. What is printed reads as the same line. After a refusal
 /// nothing is changed.
 pub fn print_line(line: &Line, layout: &Layout, out: &mut Vec<u8>) -> Result<(), NoMemory>
-    requires { FitsLine layout.now.schema line.now }
+    requires { IsLineFor layout.now.schema line.now }
     ensures ok { OnOk result (out.new.items ≡ out.old.items ++ line_text layout.now.schema line.now) }
     ensures err { OnErr result (out.new.items ≡ out.old.items) }
 {

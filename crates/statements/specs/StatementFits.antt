@@ -51,7 +51,11 @@ pub record IsInsertFor (schema : Schema) (number : ℕ) (row : List Value) : Typ
 abbrev pub IsIndexOf : Schema → ℕ → Type 0
 IsIndexOf schema n = (index : Index) × (slice_get schema.indexes n ≡ Some index)
 
--- a statement that fits. No vacuum and no work does yet: there is nothing to make their steps.
+-- a table of that number is declared
+abbrev pub IsTableOf : Schema → ℕ → Type 0
+IsTableOf schema n = (table : Table) × (slice_get schema.tables n ≡ Some table)
+
+-- a statement that fits
 abbrev pub IsStatementFor : Schema → Statement → Type 0
 IsStatementFor schema statements.Begin = Unit {0}
 IsStatementFor schema statements.Commit = Unit {0}
@@ -62,5 +66,5 @@ IsStatementFor schema (statements.Delete query) = IsQueryFor schema query
 IsStatementFor schema (statements.Explain query) = IsQueryFor schema query
 IsStatementFor schema (statements.Summarize index block) = IsIndexOf schema index
 IsStatementFor schema (statements.Desummarize index block) = IsIndexOf schema index
-IsStatementFor schema (statements.Vacuum table) = ⊥
-IsStatementFor schema statements.Work = ⊥
+IsStatementFor schema (statements.Vacuum table) = IsTableOf schema table
+IsStatementFor schema statements.Work = Unit {0}

@@ -8,7 +8,7 @@ use Rattle.line_words.specs.Verbs.{answered}
 use Rattle.line_words.specs.Words.{PlacedWord, words_of}
 use Rattle.query_words.specs.declared.line.Line.{Line}
 use Rattle.query_words.specs.Grammar.{SaidLine}
-use Rattle.query_words.specs.LineFits.{IsLineFor, answered_fits}
+use Rattle.query_words.specs.LineFits.{IsLineFor}
 use Rattle.query_words.specs.Lines.{line_in, line_judged, line_of, line_within}
 use Rattle.query_words.specs.Parsed.{said_of}
 use Rattle.query_words.specs.Syntax.{stop_of}
@@ -35,8 +35,7 @@ read_fits knows schema line read h = by (nat_lt MAX_LINE (length line)) h
     by : (b : Bool) → line_within b answered schema line ≡ Ok read → IsLineFor schema read
     by true e = absurd (cc)
     by false e =
-        let f = words_fit answered knows schema (length line) (words_of line) read (judged schema (length line) (stop_of answered (length line) (words_of line)) (said_of answered (words_of line)) read e) in
-        answered_fits schema read f.fits f.spoken
+        (words_fit answered knows schema (length line) (words_of line) read (judged schema (length line) (stop_of answered (length line) (words_of line)) (said_of answered (words_of line)) read e)).fits
 
 -- the table in which a statement works
 abbrev pub IsHome : DiskLayout → Statement → ℕ → Type 0

@@ -2,7 +2,7 @@ use Rattle.std.proofs.Common.{◌≡◌, Bool, true, cond, None, length, IfOk, s
 use Rattle.std.proofs.lemmas.Result.{IfOk-weaker}
 use Rattle.block_model.specs.declared.schema.Schema.{Schema}
 use Rattle.line_words.specs.Words.{words_of}
-use Rattle.query_words.specs.LineFits.{FitsLine, is_line_in}
+use Rattle.query_words.specs.LineFits.{IsLineFor, is_line_in}
 use Rattle.query_words.specs.Lines.{ReadsOnce, line_judged}
 use Rattle.query_words.specs.Parsed.{said_of}
 use Rattle.query_words.specs.SmallSchemas.{IsSmallSchema}
@@ -33,8 +33,8 @@ returns-in-None-clause-reads c =
 pub returns-in-None-clause-fits : goal.returns-in-None-clause-fits
 returns-in-None-clause-fits c =
     let knows : KnowsValues = record { denoted = c.value_of_is_denoted.ensures; of_kind = c.denoted_is_of_kind.ensures } in
-    subst (λ (s : Schema). IfOk c.read_words-read.result (FitsLine s)) c.schema.ensures
-    (IfOk-weaker c.read_words-read.result (LineFitsBoth c.args.language.now c.schema.result.now) (FitsLine c.schema.result.now) (λ line both. both.fits)
+    subst (λ (s : Schema). IfOk c.read_words-read.result (IsLineFor s)) c.schema.ensures
+    (IfOk-weaker c.read_words-read.result (LineFitsBoth c.args.language.now c.schema.result.now) (IsLineFor c.schema.result.now) (λ line both. both.fits)
     (once_fits c.args.language.now knows c.schema.result.now (length c.args.line.now) (words_of c.args.line.now) c.read_words-read.result c.read_words-read.ensures))
 
 pub returns-in-None-clause-language : goal.returns-in-None-clause-language
