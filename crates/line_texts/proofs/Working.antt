@@ -46,7 +46,7 @@ empty_gives_none p n _ _ rest empty (MeetsConflict id c q turn named all replied
 empty_gives_none p n _ _ rest empty (IsRefused why tag told q turn named so leads) = absurd (nowhere p n turn.table rest empty turn.on)
 empty_gives_none p n _ _ rest empty (AtOnce c reply q once all replied stay leads) = elim once [ ]
 empty_gives_none p n _ _ rest empty (NothingAsked q work still none stay leads) = refl
-empty_gives_none p n _ _ rest empty (LacksMemoryAtOnce q looking still stay leads) = absurd looking
+empty_gives_none p n _ _ rest empty (LacksMemoryAtOnce q lacks still stay leads) = absurd (none-some _ (sym (ap (λ (l : List Asked). slice_get l 0) empty) ∙ lacks.1))
 empty_gives_none p n _ _ rest empty (NoNumber q begin next stay leads) = absurd (subst IsWork begin tt)
 empty_gives_none p n _ _ rest empty (IsWaiting table told on own blocked waits) = absurd (nowhere p n table rest empty on)
 
@@ -58,7 +58,7 @@ none_is_empty p n _ _ is (MeetsConflict id c q turn named all replied leads) = a
 none_is_empty p n _ _ is (IsRefused why tag told q turn named so leads) = absurd (false≢true is)
 none_is_empty p n _ _ is (AtOnce c reply q once all replied stay leads) = elim once [ ]
 none_is_empty p n _ _ is (NothingAsked q work still none stay leads) = none
-none_is_empty p n _ _ is (LacksMemoryAtOnce q looking still stay leads) = absurd looking
+none_is_empty p n _ _ is (LacksMemoryAtOnce q lacks still stay leads) = absurd (false≢true is)
 none_is_empty p n _ _ is (NoNumber q begin next stay leads) = absurd (subst IsWork begin tt)
 none_is_empty p n _ _ is (IsWaiting table told on own blocked waits) = absurd (false≢true is)
 

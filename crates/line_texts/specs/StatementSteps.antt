@@ -21,7 +21,7 @@ use Rattle.statements.specs.declared.statement.Statement.TheVariants as statemen
 use Rattle.statements.specs.HeapRoom.{full_table}
 use Rattle.statements.specs.StatementRequests.{reply_to_statement}
 use Rattle.store_layout.specs.DiskLayout.{DiskLayout}
-use Rattle.table_coverage.specs.Accounts.{Account}
+use Rattle.table_coverage.specs.Accounts.{Account, Asked}
 use Rattle.table_coverage.specs.Refusals as causes
 use Rattle.table_coverage.specs.Refusals.{Heap, IndexNumber, LacksMemory, IsFull, HasConflict}
 use Rattle.table_coverage.specs.Table.{OneRange, Task, Resting, Considers, Scans}
@@ -30,7 +30,7 @@ use Rattle.table_coverage.specs.TableSteps.{IsBlocked}
 use Rattle.line_texts.specs.Place.{Hand, Place, database_at}
 use Rattle.line_texts.specs.Requests.{Course, next_request, refused_request, MakesOne, MakesAll, MakesMark}
 use Rattle.line_texts.specs.Names.{table_name, index_name, name_of}
-use Rattle.line_texts.specs.Beginnings.{IsAtRest, IsIn, takes_lock}
+use Rattle.line_texts.specs.Beginnings.{IsAskedFirst, IsAtRest, IsIn, takes_lock}
 use Rattle.line_texts.specs.Turns.{Turn, point_of, refusal_of, task_within, TablesStay, Leads}
 
 -- the statement goes on behind a step of this name; it ends with this reply; or it waits, and is told for whom
@@ -88,10 +88,18 @@ IsLooking (statements.Select q) = Unit {0}
 IsLooking (statements.Delete q) = Unit {0}
 IsLooking statement = ⊥
 
--- a statement whose steps take memory; explain and maintenance take theirs when they are submitted
+-- a statement of a transaction whose steps take memory
 abbrev pub TakesMemory : Statement → Type 0
 TakesMemory (statements.Insert table values) = Unit {0}
 TakesMemory statement = IsLooking statement
+
+-- A statement that may lack memory before it has a step: a select or a delete; and work, which has found the first summary that is asked for, in a
+-- table whose summarise lock no other session holds.
+abbrev pub MayLackMemory : Place → ℕ → Statement → Type 0
+MayLackMemory p n (statements.Select q) = Unit {0}
+MayLackMemory p n (statements.Delete q) = Unit {0}
+MayLackMemory p n statements.Work = (asked : Asked) × IsAskedFirst p asked × ((m : ℕ) → (p.tables asked.table).summarise_lock ≡ Some m → m ≡ n)
+MayLackMemory p n statement = ⊥
 
 -- why a step refuses its statement, with the tag of its request then, and what is told
 pub data RefusesSo (p : Place) (table : ℕ) (statement : Statement) : causes.Refusal → Tag → Refusal → Type 0 where
@@ -130,7 +138,7 @@ pub data StepsTo (p : Place) (n : ℕ) (hand : Hand) : Outcome → Place → Typ
       → StepsTo p n hand (Ended reply) q
   NothingAsked : (q : Place) → hand.statement ≡ statements.Work → IsAtRest p n → p.queue ≡ [] → TablesStay p q → Leads p n None p.journal q
       → StepsTo p n hand (Ended replies.Idle) q
-  LacksMemoryAtOnce : (q : Place) → IsLooking hand.statement → IsAtRest p n → TablesStay p q
+  LacksMemoryAtOnce : (q : Place) → MayLackMemory p n hand.statement → IsAtRest p n → TablesStay p q
       → Leads p n None (p.journal ++ refused_request n tags.NoMemory hand.statement) q → StepsTo p n hand (Ended (replies.Refused refusals.Memory)) q
   NoNumber : (q : Place) → hand.statement ≡ statements.Begin → (database_at p).next ≡ numbers_of p.layout → TablesStay p q → Leads p n None p.journal q
       → StepsTo p n hand (Ended (replies.Refused (refusals.Full (codes "status") (numbers_of p.layout)))) q

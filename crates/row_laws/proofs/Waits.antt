@@ -21,7 +21,7 @@ use Rattle.line_texts.specs.LineTexts.{NoStep, StepsOnce, dropped_at, outcome_te
 use Rattle.line_texts.specs.Names.{index_name, name_of, table_name}
 use Rattle.line_texts.specs.Place.{Hand, Place, new_hand}
 use Rattle.line_texts.specs.StatementSteps as line
-use Rattle.line_texts.specs.StatementSteps.{AtOnce, Ended, HeapIsFull, IndexIsFull, ForMemory, IsAtOnce, IsLooking, IsRefused, IsWaiting, LacksMemoryAtOnce, MeetsConflict, NoNumber, NothingAsked, Outcome, RefusesSo, Replies, Steps, StepsTo, Waits, WaitsFor, what_of}
+use Rattle.line_texts.specs.StatementSteps.{AtOnce, Ended, HeapIsFull, IndexIsFull, ForMemory, IsAtOnce, IsRefused, IsWaiting, LacksMemoryAtOnce, MayLackMemory, MeetsConflict, NoNumber, NothingAsked, Outcome, RefusesSo, Replies, Steps, StepsTo, Waits, WaitsFor, what_of}
 use Rattle.line_texts.specs.Turns.{Turn}
 use Rattle.query_words.specs.declared.line.Order.TheVariants as orders
 use Rattle.reply_texts.specs.Texts.{reply_text}
@@ -59,7 +59,7 @@ module _ (p : Place) (n m table : ℕ) (hand : Hand) (waited : WaitedFor) where
   record IsOfATable : Type 0 where
     at_once : IsAtOnce p hand.statement → ⊥
     nothing : hand.statement ≡ statements.Work → IsAtRest p n → p.queue ≡ [] → ⊥
-    looking : IsLooking hand.statement → ⊥
+    lacks : IsAtRest p n → MayLackMemory p n hand.statement → ⊥
     begin : hand.statement ≡ statements.Begin → ⊥
 
   module _ (only : IsOnlyIn p n hand.statement table) (stuck : Stuck table) (of : IsOfATable) where
@@ -89,7 +89,7 @@ module _ (p : Place) (n m table : ℕ) (hand : Hand) (waited : WaitedFor) where
     only_waits _ _ (IsRefused why tag told q turn named so leads) = absurd (none-some _ (sym (no_turn q turn).1 ∙ named))
     only_waits _ _ (AtOnce c reply q once all replied stay leads) = absurd (of.at_once once)
     only_waits _ _ (NothingAsked q work rest empty stay leads) = absurd (of.nothing work rest empty)
-    only_waits _ _ (LacksMemoryAtOnce q looking rest stay leads) = absurd (of.looking looking)
+    only_waits _ _ (LacksMemoryAtOnce q lacks rest stay leads) = absurd (of.lacks rest lacks)
     only_waits _ _ (NoNumber q begin next stay leads) = absurd (of.begin begin)
     only_waits _ _ (IsWaiting i told on own blocked waits) = (ap Waits (told_here i told (only i on) blocked waits), refl)
 
@@ -163,10 +163,14 @@ not_at_once p _ takes (line.Begin next) = false≢true takes
 not_at_once p _ takes line.Commit = false≢true takes
 not_at_once p _ takes line.Rollback = false≢true takes
 
-not_looking : (st : Statement) → IsTrue (takes_lock st) → IsLooking st → ⊥
-not_looking (statements.Select q) takes looking = false≢true takes
-not_looking (statements.Delete q) takes looking = false≢true takes
-not_looking st takes looking = looking
+-- work that finds the lock held lacks no memory: it takes none before it has the lock
+never_lacks : (p : Place) (n m table : ℕ) (st : Statement) → IsHeldFrom p n m table st → IsOnlyIn p n st table → IsAtRest p n → MayLackMemory p n st → ⊥
+never_lacks p n m table (statements.Select q) from only rest lacks = false≢true from.takes
+never_lacks p n m table (statements.Delete q) from only rest lacks = false≢true from.takes
+never_lacks p n m table statements.Work from only rest lacks =
+    let here : lacks.0.table ≡ table = only lacks.0.table (inr (rest, (lacks.0, lacks.1, refl))) in
+    from.other (lacks.2 m (ap (λ (i : ℕ). (p.tables i).summarise_lock) here ∙ from.held))
+never_lacks p n m table st from only rest lacks = lacks
 
 something_asked : (p : Place) (n table : ℕ) (st : Statement) → IsIn p n st table → (p.tables table).task n ≡ Resting → st ≡ statements.Work → p.queue ≡ [] → ⊥
 something_asked p n table st on rests work empty = by (subst (λ s. IsIn p n s table) work on)
@@ -195,7 +199,7 @@ a_lock_is_waited_for p n m table name st in_hand from only =
     (record {
       at_once = not_at_once p st from.takes;
       nothing = λ work rest empty. something_asked p n table st from.on from.rests work empty;
-      looking = not_looking st from.takes;
+      lacks = λ rest lacks. never_lacks p n m table st from only rest lacks;
       begin = λ is. false≢true (subst (λ s. IsTrue (takes_lock s)) is from.takes);
     })
     in_hand from.fits name from.on)
@@ -278,7 +282,7 @@ an_insert_waits p n m table at b k name values answers r x old new in_hand room 
       own = inl busy;
       no_step = λ v does own. (blocked_no_point n w v waiting.0 busy does, insert_goes_on w n m b k at r x old new locked other v does is);
     })
-    (record { at_once = λ once. elim once [ ]; nothing = λ work rest empty. absurd (cc); looking = λ looking. looking; begin = λ begin. absurd (cc) })
+    (record { at_once = λ once. elim once [ ]; nothing = λ work rest empty. absurd (cc); lacks = λ rest lacks. lacks; begin = λ begin. absurd (cc) })
     in_hand room name refl)
 
 no_phase_full : (w : IndexView) (n range number : ℕ) (x : Spot) → IsPhaseFull w n range (NotBuilding (Held x)) number → ⊥
@@ -338,5 +342,5 @@ a_desummarize_waits p n m index block at range only name x in_hand room is locke
       own = inl busy;
       no_step = λ v does own. (blocked_no_point n w v waiting.0 busy does, clear_goes_on w n m only at range x locked other v does is);
     })
-    (record { at_once = λ once. elim once [ ]; nothing = λ work rest empty. absurd (cc); looking = λ looking. looking; begin = λ begin. absurd (cc) })
+    (record { at_once = λ once. elim once [ ]; nothing = λ work rest empty. absurd (cc); lacks = λ rest lacks. lacks; begin = λ begin. absurd (cc) })
     in_hand room name refl)

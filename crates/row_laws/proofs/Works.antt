@@ -79,7 +79,7 @@ module _ (p : Place) (n : ℕ) (idle : p.hands n ≡ None) (fits : length p.jour
   ends_so _ _ (IsRefused why tag told v turn named so leads) = absurd (nowhere turn.table turn.on)
   ends_so _ _ (AtOnce c reply v once all replied stay leads) = elim once [ ]
   ends_so _ _ (NothingAsked v work rest none stay leads) = (refl, stay.accounts)
-  ends_so _ _ (LacksMemoryAtOnce v looking rest stay leads) = absurd looking
+  ends_so _ _ (LacksMemoryAtOnce v lacks rest stay leads) = absurd (none-some _ (sym (ap (λ (l : List Asked). slice_get l 0) empty) ∙ lacks.1))
   ends_so _ _ (NoNumber v begin next stay leads) = absurd (cc)
   ends_so _ _ (IsWaiting table told on own blocked waits) = absurd (nowhere table on)
 
