@@ -1,5 +1,5 @@
 -- what an insert asks for, and where that comes: into the queue of the summaries, or among what it asks for in vain
-use Rattle.std.specs.Prelude.{◌≡◌, ℕ, ◌+◌, ◌/◌, ◌≤◌, ◌<◌, ◌++◌, ◌∷◌, [], Bool, true, false, List, length, slice_get, Option, None, Some}
+use Rattle.std.specs.Prelude.{◌≡◌, ℕ, ◌+◌, ◌*◌, ◌/◌, ◌≤◌, ◌<◌, ◌++◌, ◌∷◌, [], Bool, true, false, List, length, slice_get, Option, None, Some}
 use Rattle.block_model.specs.declared.place.Spot.{Spot}
 use Rattle.block_model.specs.declared.reply.Point.TheVariants as points
 use Rattle.store_layout.specs.DiskLayout.{DiskLayout}
@@ -45,10 +45,12 @@ abbrev pub AsksNothingMore : (asking : Bool) → (queue queued dropped after : L
 AsksNothingMore true queue queued dropped after = Unit {0}
 AsksNothingMore false queue queued dropped after = (queued ≡ queue) × (after ≡ dropped)
 
--- a request of the engine, by the number of its index among all, is this one of the protocol, by its place among its table's
+-- A request of the engine, by the number of its index among all, is this one of the protocol, by its place among its table's. Its range begins at a block
+-- that a heap may have.
 pub record IsRequestOf (layout : DiskLayout) (request : ℕ × ℕ) (asked : Asked) : Type 0 where
   pub there : slice_get (indexes_of layout asked.table) asked.at ≡ Some request.0
   pub range : asked.range ≡ request.1
+  pub begins : request.1 * (index_at layout request.0).pages_per_range < layout.sizes.heap_blocks
 
 -- and so one by one
 pub data AreRequestsOf (layout : DiskLayout) : List (ℕ × ℕ) → List Asked → Type 0 where

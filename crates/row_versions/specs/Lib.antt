@@ -5,3 +5,4 @@ pub mod StoredVersions
 pub mod Places
 pub mod Marks
 pub mod SessionChanges
+pub mod OldestOpen

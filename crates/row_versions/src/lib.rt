@@ -5,12 +5,14 @@
 #![tactic(auto)]
 
 mod judging;
+mod oldest;
 mod sessions;
 mod standing;
 mod table;
 mod versions;
 
 pub use judging::{is_seen, sees_at, status_of};
+pub use oldest::oldest_of;
 pub use sessions::{
     Open, count_row, ended, fail_open, no_transactions, numbers_of, open_of, set_open, take_open,
     transaction_of,

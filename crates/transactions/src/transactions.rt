@@ -1,6 +1,7 @@
 //! The open transactions of the sessions.
 
 ghost use Rattle.std.specs.Prelude.{◌≡◌, ◌+◌, ◌^◌, ◌<◌, ◌≤◌, ◌∷◌, ℕ, [], not, true, None, Some, IsSome, IsSomeAnd, IfOk, IfErr, IfSome, OnOk, OnErr, replicate, set, take, vec_capacity, false, if◌then◌else◌};
+ghost use Rattle.std.specs.Option.{option_copied};
 ghost use Rattle.block_model.specs.declared.request.Request.TheVariants as requests;
 ghost use Rattle.block_model.specs.RequestEffect.{Begun, Committed, RolledBack};
 ghost use Rattle.statements.specs.declared.limits.TheConstants.{MAX_SESSIONS};
@@ -8,6 +9,7 @@ ghost use Rattle.statements.specs.StatementRequests.{request_entry};
 ghost use Rattle.logged_pages.specs.Survives.{Survives};
 ghost use Rattle.page_store.specs.Keeps.{Keeps, Tells, Untold};
 ghost use Rattle.page_store.specs.Outcome.{Outcome};
+ghost use Rattle.row_versions.specs.OldestOpen.{oldest_of};
 ghost use Rattle.row_versions.specs.StoredVersions.{transaction_of};
 ghost use Rattle.snapshot_core.specs.declared.statuses.Status.TheVariants.{Begun as BegunStatus, Committed as CommittedStatus, RolledBack as RolledBackStatus};
 ghost use Rattle.tx_table.specs.BeginAnswers.{BeginOutcome, NamesStatusPage};
@@ -27,8 +29,8 @@ use disk_trait::Disk;
 use engine_pages::PageStore;
 use page_store::{MachineFault, StoreError};
 use row_versions::{
-    Open, Standing, count_row, fail_open, no_transactions, numbers_of, open_of, set_open,
-    take_open, transaction_of,
+    Open, Standing, count_row, fail_open, no_transactions, numbers_of, oldest_of, open_of,
+    set_open, take_open, transaction_of,
 };
 use snapshot_core::Snapshot;
 use std::alloc::Global;
@@ -121,6 +123,13 @@ impl Transactions {
         ensures { transaction_of self.now.opens session ≡ Some result.now }
     {
         open_of(self.sessions.as_slice(), session)
+    }
+
+    /// The open transaction that began first, if one is open. What had ended when it began had ended when each other one did.
+    pub fn oldest(&self) -> Option<&Open>
+        ensures { option_copied result ≡ oldest_of self.now.opens }
+    {
+        oldest_of(self.sessions.as_slice())
     }
 
     /// The id of the row that the session's transaction puts next: none where it has put as many as its numbers reach.
