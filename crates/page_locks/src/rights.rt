@@ -50,6 +50,14 @@ impl Rights {
         }
     }
 
+    /// The actor that has the right of the table, if one has it.
+    pub fn holder(&self, table: u8) -> Option<u32>
+        requires { table < length self.now }
+        ensures { result ≡ right_of self.now table }
+    {
+        self.holders[usize::from(table)]
+    }
+
     /// The actor gives the right of the table. Where it doesn't hold it nothing is changed.
     pub fn give(&mut self, table: u8, actor: u32)
         requires { table < length self.old }

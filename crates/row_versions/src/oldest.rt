@@ -19,7 +19,7 @@ pub fn oldest_of(sessions: &[Option<Open>]) -> Option<&Open>
 
 /// The older one of two.
 fn older<'a>(one: Option<&'a Open>, other: Option<&'a Open>) -> Option<&'a Open>
-    ensures { option_copied result ≡ older (option_copied one) (option_copied other) }
+    ensures { option_copied result ≡ older (option_copied one.entry) (option_copied other.entry) }
 {
     let Some(first) = one else {
         return other;
