@@ -16,6 +16,8 @@ use Rattle.range_summarise.specs.declared.stage.Stage.{Stage}
 use Rattle.range_summarise.specs.declared.stage.Stage.TheVariants as stages
 use Rattle.range_summarise.specs.StageLocks.{held_at}
 use Rattle.store_parts.specs.declared.hand.Hand.TheVariants as hands
+use Rattle.store_parts.specs.Hands.{summary_now}
+use Rattle.store_parts.specs.HandFits.{held_in_summary}
 use Rattle.store_parts.specs.ShareLaws.{FewLocksEach}
 
 insert_few : (stage : Option InsertStage) → held_by_insert stage ≤ 3
@@ -42,6 +44,10 @@ summarise_few a standings.Begins = omega arith
 summarise_few a standings.AtRange = range_few a.hand.growth.stage a.hand.stage
 summarise_few a standings.Done = omega arith
 
+summary_few : (now : Option SummariseState) → held_in_summary now ≤ 3
+summary_few None = omega arith
+summary_few (Some a) = summarise_few a a.standing
+
 desummarise_few : (stage : DesummariseStage) → held_by_desummarise stage ≤ 3
 desummarise_few (desummarises.Drop x) = omega arith
 desummarise_few stage = omega arith
@@ -51,4 +57,6 @@ few_locks_each None = omega arith
 few_locks_each (Some (hands.Inserts insert)) = insert_few (stage_of insert)
 few_locks_each (Some (hands.Summarises a)) = summarise_few a a.standing
 few_locks_each (Some (hands.Desummarises a)) = desummarise_few a.stage
+few_locks_each (Some (hands.Completes c)) = summary_few (summary_now c)
+few_locks_each (Some (hands.Works r)) = summarise_few r.summarise r.summarise.standing
 few_locks_each (Some hand) = omega arith

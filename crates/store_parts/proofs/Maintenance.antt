@@ -201,11 +201,11 @@ module _ (old new : ShownStore) (stored : List Status) (n table at range : ℕ) 
       (subst (λ (x : TableState). IsGiven x given) (sym shows.shown) (record { turns = turns_there; steps = steps_in; lock = passes }))
 
 pub maintenance_refusal_is_shown : MaintenanceRefusalIsShown
-maintenance_refusal_is_shown old new stored p n table at range statement w job phase shows leaves pages gives free counts elsewhere here other on is refused =
+maintenance_refusal_is_shown old new stored p n table at range statement w job phase shows leaves pages gives free counts elsewhere here on is refused =
     let so = given_then old new stored n table at range w job phase shows pages gives is in
     let u : Unseen = record (task_turned n Resting shows.unseen) { summarise_lock = None } in
     let v : TableState = table_state (shown_by old.layout new.pages new.locks table shows.blocks) u in
-    let made = maintenance_is_refused p n table at range statement w v job phase here other on is refused so.turns so.steps so.lock in
+    let made = maintenance_is_refused p n table at range statement w v job phase here on is refused so.turns so.steps so.lock in
     record {
       after = v;
       shows = own_table_goes_on old new stored n table w v u shows.blocks shows leaves (subst (λ (x : TableState). TableStep n x v) here made.0.step) refl

@@ -36,7 +36,7 @@ use Rattle.store_parts.specs.TableLaws.{IsQuiet}
 use Rattle.store_parts.proofs.Locks.{gives_none}
 use Rattle.store_parts.proofs.Seeing.{rests_elsewhere}
 use Rattle.store_parts.proofs.Slots.{same_slots}
-use Rattle.store_parts.proofs.Steps.{takes_none}
+use Rattle.store_parts.proofs.Steps.{takes_none, takes_on}
 use Rattle.store_parts.proofs.Tables.{locks_none, own_table_goes_on, same_blocks, same_contents, shown_alike}
 
 -- the statement is at nothing then
@@ -128,20 +128,25 @@ module _ (p : Place) (n table : ℕ) (statement : Statement) (other : statement 
         busy : (task : Task) → IsInsertRefused here n b k r task → task ≢ Resting
         busy _ (IndexFull number at x old new verdict) is = cc
 
-  maintenance_here : (at range : ℕ) (v : TableState) (job : Job) (phase : Phase) → here.task n ≡ Maintains job at range phase → (refused : IsMaintainRefused (index_view_at at here) n range phase)
-      → TaskTurns n here v (Maintains job at range phase) Resting → StepsIn at here v → SummariseLockPasses n (index_view_at at here) (index_view_at at v) (Some n) None
+-- an index is full for maintenance
+module _ (p : Place) (n table : ℕ) (statement : Statement) (on : IsIn p n statement table) where
+  maintenance_here : (at range : ℕ) (v : TableState) (job : Job) (phase : Phase) → (p.tables table).task n ≡ Maintains job at range phase → (refused : IsMaintainRefused (index_view_at at (p.tables table)) n range phase)
+      → TaskTurns n (p.tables table) v (Maintains job at range phase) Resting → StepsIn at (p.tables table) v → SummariseLockPasses n (index_view_at at (p.tables table)) (index_view_at at v) (Some n) None
       → IsTurnRefused p n table statement v (p.accounts n) (maintain_refusal at refused)
   maintenance_here at range v job phase is refused turns steps passes = (
     record {
       on = on;
       step = record { between = v; does = RefusesMaintain job at range phase refused turns steps passes; settles = settles_at_rest n v turns.now };
-      own = inl (not_resting here n (Maintains job at range phase) is (λ (e : Maintains job at range phase ≡ Resting). cc));
+      own = inl busy_here;
       dead = tt;
       adds = λ b has. has;
-      takes = takes_none statement (here.task n) p.queue p.queue (omega arith) other;
+      takes = takes_on statement ((p.tables table).task n) p.queue busy_here;
     },
     refl,
   )
+    where
+      busy_here : (p.tables table).task n ≢ Resting
+      busy_here = not_resting (p.tables table) n (Maintains job at range phase) is (λ (e : Maintains job at range phase ≡ Resting). cc)
 
 row_here : (p : Place) (n table t : ℕ) (values : List Value) (counts : ℕ → Bool) → (p.tables table).task n ≡ Resting → (refused : IsRowRefused (p.tables table)) → CountsNoMore (p.tables table) counts t
     → IsTurnRefused p n table (statements.Insert table values) (refused_in n counts (p.tables table)) no_account (row_refusal (p.tables table) refused)
@@ -190,11 +195,11 @@ mark_is_refused p n table t statement w scan id rest counts is other on =
     (mark_here p n table statement other on counts t scan id rest)
 
 pub maintenance_is_refused : MaintenanceIsRefused
-maintenance_is_refused p n table at range statement w v job phase is other on =
+maintenance_is_refused p n table at range statement w v job phase is on =
     subst (λ (x : TableState). x.task n ≡ Maintains job at range phase → (refused : IsMaintainRefused (index_view_at at x) n range phase)
     → TaskTurns n x v (Maintains job at range phase) Resting → StepsIn at x v → SummariseLockPasses n (index_view_at at x) (index_view_at at v) (Some n) None
     → IsTurnRefused p n table statement v (p.accounts n) (maintain_refusal at refused)) is
-    (maintenance_here p n table statement other on at range v job phase)
+    (maintenance_here p n table statement on at range v job phase)
 
 -- ---- the table of a refused statement
 

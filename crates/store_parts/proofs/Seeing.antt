@@ -199,6 +199,10 @@ module _ (layout : DiskLayout) (table : ℕ) (blocks now : List (List Slot)) (tx
   task_goes_on transaction (Some (hands.Explains explain)) on at = at
   task_goes_on transaction (Some (hands.Summarises a)) on at = at
   task_goes_on transaction (Some (hands.Desummarises a)) on at = at
+  task_goes_on transaction (Some (hands.Cleans c)) on at = at
+  task_goes_on transaction (Some (hands.Completes c)) on at = at
+  task_goes_on transaction (Some hands.Working) on at = at
+  task_goes_on transaction (Some (hands.Works r)) on at = at
 
 -- ---- in another table
 
@@ -225,6 +229,10 @@ module _ (layout : DiskLayout) (table : ℕ) (blocks : List (List Slot)) (tx : T
   rests_elsewhere (Some (hands.Explains explain)) apart = rests_there explain.judging.query.table table _ apart
   rests_elsewhere (Some (hands.Summarises a)) apart = rests_there (index_at layout a.index).table table _ apart
   rests_elsewhere (Some (hands.Desummarises a)) apart = rests_there (index_at layout a.index).table table _ apart
+  rests_elsewhere (Some (hands.Cleans c)) apart = rests_there c.vacuum.table table _ apart
+  rests_elsewhere (Some (hands.Completes c)) apart = rests_there c.table table _ apart
+  rests_elsewhere (Some hands.Working) apart = refl
+  rests_elsewhere (Some (hands.Works r)) apart = rests_there (index_at layout r.summarise.index).table table _ apart
 
   pub task_elsewhere : (hand : Option Hand) (task : Task) → table_in layout hand ≢ Some table → IsTaskOf layout table blocks tx stored transaction hand task → task ≡ Resting
   task_elsewhere None task apart at = at
@@ -241,3 +249,7 @@ module _ (layout : DiskLayout) (table : ℕ) (blocks : List (List Slot)) (tx : T
   task_elsewhere (Some (hands.Explains explain)) task apart at = at.1 (other_table explain.judging.query.table table apart)
   task_elsewhere (Some (hands.Summarises a)) task apart at = at.1 (other_table (index_at layout a.index).table table apart)
   task_elsewhere (Some (hands.Desummarises a)) task apart at = at.1 (other_table (index_at layout a.index).table table apart)
+  task_elsewhere (Some (hands.Cleans c)) task apart at = at.1 (other_table c.vacuum.table table apart)
+  task_elsewhere (Some (hands.Completes c)) task apart at = at.1 (other_table c.table table apart)
+  task_elsewhere (Some hands.Working) task apart at = at
+  task_elsewhere (Some (hands.Works r)) task apart at = at.1 (other_table (index_at layout r.summarise.index).table table apart)

@@ -18,11 +18,11 @@ use Rattle.table_coverage.specs.TableSteps.{Does, IsBlocked, PrunesBlock, Settle
 use Rattle.line_texts.specs.Beginnings.{Begins, TakesUp, takes_lock}
 use Rattle.line_texts.specs.Names.{name_of}
 use Rattle.line_texts.specs.Place.{Hand as HandAt, Place, accounts_at, updated}
-use Rattle.line_texts.specs.StatementSteps.{AtOnce, GoesOn, IsRefused, IsWaiting, LacksMemoryAtOnce, MeetsConflict, NoNumber, Replies, WaitsFor, reply_after, what_of}
+use Rattle.line_texts.specs.StatementSteps.{AtOnce, GoesOn, IsRefused, IsWaiting, LacksMemoryAtOnce, MeetsConflict, NoNumber, NothingAsked, Replies, WaitsFor, reply_after, what_of}
 use Rattle.line_texts.specs.Turns.{Leads, PrunesTheDead, Turn}
 use Rattle.store_parts.specs.PlaceLaws.{AfterLeads, AtOnceLeads, TableAfter}
 use Rattle.store_parts.specs.PlacesAfter.{TurnsAsking, place_after, place_asking, place_at_once, recounted}
-use Rattle.store_parts.specs.StepLaws.{IsOneRequest, LacksMemoryThere, LacksNumber, MachineAsks, MachineTurns, TurnAsks, TurnConflicts, TurnGoesOn, TurnIsRefused, TurnReplies, TurnWaits}
+use Rattle.store_parts.specs.StepLaws.{FindsNothingAsked, IsOneRequest, LacksMemoryThere, LacksNumber, MachineAsks, MachineTurns, TurnAsks, TurnConflicts, TurnGoesOn, TurnIsRefused, TurnReplies, TurnWaits}
 
 -- ---- what is updated
 
@@ -92,8 +92,23 @@ takes_none (statements.Desummarize index block) task before after more other = n
 takes_none (statements.Vacuum table) task before after more other = none_goes before after more
 takes_none statements.Work task before after more other = absurd (other refl)
 
+-- nor does a step of a statement that has begun
+pub takes_on : (statement : Statement) (task : Task) (queue : List Asked) → task ≢ Resting → TakesUp statement task queue queue
+takes_on statements.Begin task queue busy = none_goes queue queue (omega arith)
+takes_on statements.Commit task queue busy = none_goes queue queue (omega arith)
+takes_on statements.Rollback task queue busy = none_goes queue queue (omega arith)
+takes_on (statements.Insert table values) task queue busy = none_goes queue queue (omega arith)
+takes_on (statements.Select q) task queue busy = none_goes queue queue (omega arith)
+takes_on (statements.Delete q) task queue busy = none_goes queue queue (omega arith)
+takes_on (statements.Explain q) task queue busy = none_goes queue queue (omega arith)
+takes_on (statements.Summarize index block) task queue busy = none_goes queue queue (omega arith)
+takes_on (statements.Desummarize index block) task queue busy = none_goes queue queue (omega arith)
+takes_on (statements.Vacuum table) task queue busy = none_goes queue queue (omega arith)
+takes_on statements.Work Resting queue busy = absurd (busy refl)
+takes_on statements.Work task queue busy = none_goes queue queue (omega arith)
+
 -- a step of another name prunes nothing
-not_pruned : (p : Place) (n : ℕ) (w v : TableState) (does : Does n w v) (point : Point) → does_point n w v does ≡ Some point → point ≢ points.Prune → PrunesTheDead p does
+pub not_pruned : (p : Place) (n : ℕ) (w v : TableState) (does : Does n w v) (point : Point) → does_point n w v does ≡ Some point → point ≢ points.Prune → PrunesTheDead p does
 not_pruned p n w v (PrunesBlock extent next dropped inside spared turns drops) point is other = absurd (other (sym (same_Some points.Prune point is)))
 not_pruned p n w v does point is other = tt
 
@@ -117,18 +132,19 @@ record DoesAsking (p : Place) (n table : ℕ) (x between : TableState) (point : 
   does : Does n x between
   point_is : does_point n x between does ≡ Some point
   adds : (b : Accounts) → AccountIs n (record (accounts_at p table) { queue = queue }) b account → Adds n x between does (accounts_at p table) b
+  dead : PrunesTheDead p does
 
 pub machine_asks : MachineAsks
-machine_asks p n table statement w between v point account queue is other on does named adds more no_prune settles own =
+machine_asks p n table statement w between v point account queue is takes on does named adds dead settles own =
     let there : DoesAsking p n table (p.tables table) between point account queue =
-    subst (λ (x : TableState). DoesAsking p n table x between point account queue) (sym is) (record { does = does; point_is = named; adds = adds }) in (
+    subst (λ (x : TableState). DoesAsking p n table x between point account queue) (sym is) (record { does = does; point_is = named; adds = adds; dead = dead }) in (
       record {
         on = on;
         step = record { between = between; does = there.does; settles = settles };
         own = subst (λ (x : TableState). (x.task n ≢ Resting) ⊎ Begins p n x statement (between.task n)) (sym is) own;
-        dead = not_pruned p n (p.tables table) between there.does point there.point_is no_prune;
+        dead = there.dead;
         adds = there.adds;
-        takes = takes_none statement ((p.tables table).task n) p.queue queue more other;
+        takes = subst (λ (x : TableState). TakesUp statement (x.task n) p.queue queue) (sym is) takes;
       },
       there.point_is,
       refl,
@@ -197,9 +213,14 @@ one_request p n hand counts c reply once makes said =
     AtOnce c reply (place_at_once p n counts c.journal) once makes said after.stay after.leads
 
 pub lacks_memory : LacksMemoryThere
-lacks_memory p n hand counts looking rests =
+lacks_memory p n hand counts lacks rests =
     let after = at_once_leads p n counts _ in
-    LacksMemoryAtOnce (place_at_once p n counts _) looking rests after.stay after.leads
+    LacksMemoryAtOnce (place_at_once p n counts _) lacks rests after.stay after.leads
+
+pub finds_nothing : FindsNothingAsked
+finds_nothing p n hand counts work rests none =
+    let after = at_once_leads p n counts p.journal in
+    NothingAsked (place_at_once p n counts p.journal) work rests none after.stay after.leads
 
 pub lacks_number : LacksNumber
 lacks_number p n hand counts begins full =

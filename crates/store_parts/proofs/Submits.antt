@@ -25,13 +25,14 @@ use Rattle.brin_summarise.specs.Summarises.{count_at}
 use Rattle.brin_summarise.specs.declared.wish.Wish.{Wish}
 use Rattle.brin_summarise.specs.declared.wish.Wish.TheVariants as wishes
 use Rattle.brin_summarise.specs.TableSteps as summarises
+use Rattle.brin_vacuum.specs.TableSteps as vacuums
 use Rattle.line_texts.specs.LineTexts.{with_statement}
 use Rattle.line_texts.specs.Names.{dropped_of}
 use Rattle.line_texts.specs.Place.{Hand as HandAt, Place, database_at, new_hand}
 use Rattle.status_fronts.proofs.Within.{any_place_stands}
 use Rattle.store_parts.specs.declared.hand.Hand.{Hand}
 use Rattle.store_parts.specs.declared.hand.Hand.TheVariants as hands
-use Rattle.store_parts.specs.Hands.{HandShows, TellsSo, AnswersAre, statement_of}
+use Rattle.store_parts.specs.Hands.{HandShows, TellsSo, AnswersAre, cleaned_at, statement_of}
 use Rattle.store_parts.specs.HandsAsk.{HandAsked, IsNoInsert}
 use Rattle.store_parts.specs.HandsInTables.{IsDesummariseAt, IsExplainAt, IsSummariseAt, IsTaskOf}
 use Rattle.store_parts.specs.ShowsPlace.{IsOfTransaction, IsPlaceOf, ShowsTable}
@@ -77,6 +78,10 @@ rests layout table blocks tx stored transaction (hands.Desummarises a) fresh = (
     here =
         let listed = unlisted layout (index_at layout a.index).table a.index fresh.1 refl in
         (listed.0, listed.1, sym (ap (λ (s : DesummariseStage). desummarises.task_at listed.0 (range_of layout a) s) fresh.0))
+rests layout table blocks tx stored transaction (hands.Cleans c) fresh = (λ own. sym (ap (vacuums.task_at c.vacuum) fresh), λ away. refl)
+rests layout table blocks tx stored transaction (hands.Completes c) fresh = absurd fresh
+rests layout table blocks tx stored transaction hands.Working fresh = refl
+rests layout table blocks tx stored transaction (hands.Works r) fresh = absurd fresh
 
 -- and it was answered nothing, and has nothing to tell
 answers_none : (layout : DiskLayout) (hand : Hand) → HasNotBegun layout hand → AnswersAre hand []
@@ -93,6 +98,10 @@ answers_none layout (hands.Marks marking) fresh = absurd fresh
 answers_none layout (hands.Explains explain) fresh = refl
 answers_none layout (hands.Summarises a) fresh = refl
 answers_none layout (hands.Desummarises a) fresh = refl
+answers_none layout (hands.Cleans c) fresh = refl
+answers_none layout (hands.Completes c) fresh = absurd fresh
+answers_none layout hands.Working fresh = refl
+answers_none layout (hands.Works r) fresh = absurd fresh
 
 tells_none : (layout : DiskLayout) (hand : Hand) → HasNotBegun layout hand → TellsSo hand no_account
 tells_none layout (hands.Begins numbers) fresh = refl
@@ -108,6 +117,10 @@ tells_none layout (hands.Marks marking) fresh = absurd fresh
 tells_none layout (hands.Explains explain) fresh = refl
 tells_none layout (hands.Summarises a) fresh = λ i. record no_account { ranges = sym (ap (count_at a) fresh.0) i }
 tells_none layout (hands.Desummarises a) fresh = λ i. record no_account { ranges = sym (ap desummarised_at fresh.0) i }
+tells_none layout (hands.Cleans c) fresh = sym (ap (cleaned_at c.vacuum) fresh)
+tells_none layout (hands.Completes c) fresh = absurd fresh
+tells_none layout hands.Working fresh = refl
+tells_none layout (hands.Works r) fresh = absurd fresh
 
 -- how it stands to its session's transaction
 is_of_any : (layout : DiskLayout) (transaction : Option Open) (copy : Option OpenTransaction) (hand : Hand) → HasNotBegun layout hand → IsOfTransaction transaction copy hand
@@ -124,6 +137,10 @@ is_of_any layout transaction None (hands.Marks marking) fresh = absurd fresh
 is_of_any layout transaction None (hands.Explains explain) fresh = tt
 is_of_any layout transaction None (hands.Summarises a) fresh = tt
 is_of_any layout transaction None (hands.Desummarises a) fresh = tt
+is_of_any layout transaction None (hands.Cleans c) fresh = tt
+is_of_any layout transaction None (hands.Completes c) fresh = absurd fresh
+is_of_any layout transaction None hands.Working fresh = tt
+is_of_any layout transaction None (hands.Works r) fresh = absurd fresh
 is_of_any layout transaction (Some x) (hands.Begins numbers) fresh = tt
 is_of_any layout transaction (Some x) hands.Commits fresh = tt
 is_of_any layout transaction (Some x) hands.RollsBack fresh = tt
@@ -137,6 +154,10 @@ is_of_any layout transaction (Some x) (hands.Marks marking) fresh = absurd fresh
 is_of_any layout transaction (Some x) (hands.Explains explain) fresh = tt
 is_of_any layout transaction (Some x) (hands.Summarises a) fresh = tt
 is_of_any layout transaction (Some x) (hands.Desummarises a) fresh = tt
+is_of_any layout transaction (Some x) (hands.Cleans c) fresh = tt
+is_of_any layout transaction (Some x) (hands.Completes c) fresh = absurd fresh
+is_of_any layout transaction (Some x) hands.Working fresh = tt
+is_of_any layout transaction (Some x) (hands.Works r) fresh = absurd fresh
 
 -- a statement that has made no step is no insert that has asked
 asks_nothing : (layout : DiskLayout) (hand : Hand) → HasNotBegun layout hand → IsNoInsert (Some hand)

@@ -1,5 +1,5 @@
 -- what a statement in hand is in the definition of texts
-use Rattle.std.specs.Prelude.{◌≡◌, ℕ, List, [], ◌∷◌, drop, map, replicate, Option, None, Some}
+use Rattle.std.specs.Prelude.{◌≡◌, ℕ, ◌+◌, List, [], ◌∷◌, drop, map, replicate, slice_get, Option, None, Some}
 use Rattle.block_model.specs.declared.place.Spot.{Spot}
 use Rattle.block_model.specs.declared.row.Query.{Query}
 use Rattle.block_model.specs.declared.row.Row.{Row}
@@ -11,8 +11,12 @@ use Rattle.table_coverage.specs.Accounts.{Account, no_account}
 use Rattle.brin_desummarise.specs.Desummarises.{count_at}
 use Rattle.brin_summarise.specs.declared.wish.Wish.{Wish}
 use Rattle.brin_summarise.specs.declared.wish.Wish.TheVariants as wishes
-use Rattle.brin_summarise.specs.Summarises.{count_of}
+use Rattle.brin_summarise.specs.Summarises.{SummariseState, count_of}
+use Rattle.brin_vacuum.specs.declared.standing.Standing.{Standing as CleaningStanding}
+use Rattle.brin_vacuum.specs.declared.standing.Standing.TheVariants as cleaning_standings
+use Rattle.brin_vacuum.specs.Vacuums.{VacuumState}
 use Rattle.line_texts.specs.Place.{Hand as HandAt}
+use Rattle.store_parts.specs.declared.hand.Completing.{Completing}
 use Rattle.store_parts.specs.declared.hand.Hand.{Hand}
 use Rattle.store_parts.specs.declared.hand.Hand.TheVariants as hands
 use Rattle.store_parts.specs.declared.hand.Hit.{Hit}
@@ -39,6 +43,28 @@ statement_of (hands.Marks marking) = statements.Delete marking.query
 statement_of (hands.Explains explain) = statements.Explain explain.judging.query
 statement_of (hands.Summarises a) = statements.Summarize a.index (block_of a.wish)
 statement_of (hands.Desummarises a) = statements.Desummarize a.index a.block
+statement_of (hands.Cleans c) = statements.Vacuum c.vacuum.table
+statement_of (hands.Completes c) = statements.Vacuum c.table
+statement_of hands.Working = statements.Work
+statement_of (hands.Works r) = statements.Work
+
+-- the summary that a vacuum makes now, or next
+abbrev pub summary_now : Completing → Option SummariseState
+summary_now c = slice_get c.summaries.items c.next
+
+-- how many ranges it has given a final tuple
+abbrev pub count_in : Option SummariseState → ℕ
+count_in None = 0
+count_in (Some a) = count_of a
+
+-- what a vacuum's cleaning has dropped so far; before its first step nothing is told
+abbrev pub cleaned_at : VacuumState → CleaningStanding → Account
+cleaned_at a cleaning_standings.Begins = no_account
+cleaned_at a standing = record no_account { rows = a.rows; unnamed = a.unnamed }
+
+-- what it tells at its summaries
+abbrev pub completed_by : Completing → Account
+completed_by c = record no_account { rows = c.rows; unnamed = c.unnamed; ranges = c.ranges + count_in (summary_now c) }
 
 -- the rows that a delete has still to mark
 abbrev pub hits_left : Marking → List Hit
@@ -67,6 +93,9 @@ AnswersAre hand answers = answers ≡ []
 abbrev pub TellsSo : Hand → Account → Type 0
 TellsSo (hands.Summarises a) account = account ≡ record no_account { ranges = count_of a }
 TellsSo (hands.Desummarises a) account = account ≡ record no_account { ranges = count_at a.stage }
+TellsSo (hands.Cleans c) account = account ≡ cleaned_at c.vacuum c.vacuum.standing
+TellsSo (hands.Completes c) account = account ≡ completed_by c
+TellsSo (hands.Works r) account = account ≡ record no_account { ranges = count_of r.summarise }
 TellsSo (hands.Inserts insert) account = account ≡ record no_account { dropped = account.dropped }
 TellsSo hand account = account ≡ no_account
 

@@ -23,13 +23,15 @@ use Rattle.brin_scan.specs.ScanHands.{ScanHand}
 use Rattle.brin_scan.specs.TableScans as scans
 use Rattle.brin_summarise.specs.Summarises.{SummariseState}
 use Rattle.brin_summarise.specs.TableSteps as summarises
+use Rattle.brin_vacuum.specs.TableSteps as vacuums
 use Rattle.line_texts.specs.Beginnings.{StandsAt}
 use Rattle.status_fronts.specs.SeenBefore.{SawRows}
+use Rattle.store_parts.specs.declared.hand.Completing.{Completing}
 use Rattle.store_parts.specs.declared.hand.Hand.{Hand}
 use Rattle.store_parts.specs.declared.hand.Hand.TheVariants as hands
 use Rattle.store_parts.specs.declared.hand.Hit.{Hit}
 use Rattle.store_parts.specs.declared.hand.Marking.{Marking}
-use Rattle.store_parts.specs.Hands.{hits_left, ids_of}
+use Rattle.store_parts.specs.Hands.{hits_left, ids_of, summary_now}
 
 -- how an open transaction sees rows, with these statuses on the pages
 abbrev pub sight_of : TxState → List Status → Open → Sight
@@ -77,12 +79,16 @@ IsSummariseAt layout a task = (at : ℕ) × StandsAt layout a.index at × (task 
 abbrev pub IsDesummariseAt : DiskLayout → DesummariseState → Task → Type 0
 IsDesummariseAt layout a task = (at : ℕ) × StandsAt layout a.index at × (task ≡ desummarises.task_of layout at a)
 
+-- a vacuum at the summary that it makes now, or next
+abbrev pub IsCompletingAt : DiskLayout → Completing → Task → Type 0
+IsCompletingAt layout c task = (a : SummariseState) × (summary_now c ≡ Some a) × (task ≡ summarises.task_of layout c.next a)
+
 -- in its own table a statement is at this, and in each other one at nothing
 abbrev pub InItsTable : (own table : ℕ) → (Here : Type 0) → Task → Type 0
 InItsTable own table Here task = (own ≡ table → Here) × (own ≢ table → task ≡ Resting)
 
 -- what a session's statement is at in the table, whose heap has these blocks; one that has made no step is at nothing,
--- but an explain, a summarise and a desummarise are in theirs from the start
+-- but an explain, a summarise, a desummarise and a vacuum are in theirs from the start
 abbrev pub IsTaskOf : DiskLayout → (table : ℕ) → List (List Slot) → TxState → List Status → Option Open → Option Hand → Task → Type 0
 IsTaskOf layout table blocks tx stored transaction (Some (hands.Inserts insert)) task = InItsTable insert.row.table table (task ≡ inserts.task_of layout insert) task
 IsTaskOf layout table blocks tx stored transaction (Some (hands.Selects scan)) task =
@@ -94,10 +100,13 @@ IsTaskOf layout table blocks tx stored transaction (Some (hands.Marks marking)) 
 IsTaskOf layout table blocks tx stored transaction (Some (hands.Explains explain)) task = InItsTable explain.judging.query.table table (IsExplainAt layout explain.judging task) task
 IsTaskOf layout table blocks tx stored transaction (Some (hands.Summarises a)) task = InItsTable (index_at layout a.index).table table (IsSummariseAt layout a task) task
 IsTaskOf layout table blocks tx stored transaction (Some (hands.Desummarises a)) task = InItsTable (index_at layout a.index).table table (IsDesummariseAt layout a task) task
+IsTaskOf layout table blocks tx stored transaction (Some (hands.Cleans c)) task = InItsTable c.vacuum.table table (task ≡ vacuums.task_of c.vacuum) task
+IsTaskOf layout table blocks tx stored transaction (Some (hands.Completes c)) task = InItsTable c.table table (IsCompletingAt layout c task) task
+IsTaskOf layout table blocks tx stored transaction (Some (hands.Works r)) task = InItsTable (index_at layout r.summarise.index).table table (IsSummariseAt layout r.summarise task) task
 IsTaskOf layout table blocks tx stored transaction hand task = task ≡ Resting
 
 -- the table in which the statement makes its steps, if there is one; one that has made no step is in none,
--- but an explain, a summarise and a desummarise are in theirs from the start
+-- but an explain, a summarise, a desummarise and a vacuum are in theirs from the start
 abbrev pub table_in : DiskLayout → Option Hand → Option ℕ
 table_in layout (Some (hands.Inserts insert)) = Some insert.row.table
 table_in layout (Some (hands.Selects scan)) = Some scan.judging.query.table
@@ -106,4 +115,7 @@ table_in layout (Some (hands.Marks marking)) = Some marking.query.table
 table_in layout (Some (hands.Explains explain)) = Some explain.judging.query.table
 table_in layout (Some (hands.Summarises a)) = Some (index_at layout a.index).table
 table_in layout (Some (hands.Desummarises a)) = Some (index_at layout a.index).table
+table_in layout (Some (hands.Cleans c)) = Some c.vacuum.table
+table_in layout (Some (hands.Completes c)) = Some c.table
+table_in layout (Some (hands.Works r)) = Some (index_at layout r.summarise.index).table
 table_in layout hand = None

@@ -63,7 +63,7 @@ MarkIsRefused = (p : Place) (n table t : ℕ) (statement : Statement) (w : Table
 -- an index is full for a maintenance statement, which gives its page locks and its summarise lock
 abbrev pub MaintenanceIsRefused : Type 0
 MaintenanceIsRefused = (p : Place) (n table at range : ℕ) (statement : Statement) (w v : TableState) (job : Job) (phase : Phase) → p.tables table ≡ w
-    → statement ≢ statements.Work → IsIn p n statement table → w.task n ≡ Maintains job at range phase → (refused : IsMaintainRefused (index_view_at at w) n range phase)
+    → IsIn p n statement table → w.task n ≡ Maintains job at range phase → (refused : IsMaintainRefused (index_view_at at w) n range phase)
     → TaskTurns n w v (Maintains job at range phase) Resting → StepsIn at w v → SummariseLockPasses n (index_view_at at w) (index_view_at at v) (Some n) None
     → (turns : TurnsIn p n statement table v (p.accounts n)) × (refusal_in turns ≡ Some (maintain_refusal at refused))
 
@@ -86,6 +86,6 @@ abbrev pub MaintenanceRefusalIsShown : Type 0
 MaintenanceRefusalIsShown = (old new : ShownStore) (stored : List Status) (p : Place) (n table at range : ℕ) (statement : Statement) (w : TableState) (job : Job) (phase : Phase) → ShowsTable old stored table w
     → LeavesOthers n old new → ((place : PagePlace) → page_at new.pages place ≡ page_at old.pages place) → GivesAll (holder old.locks) (holder new.locks) n
     → right_of new.rights table ≡ None → ((t : ℕ) → counts_of new.transactions stored t ≡ counts_of old.transactions stored t)
-    → table_in old.layout (hand_in new.hands n) ≢ Some table → p.tables table ≡ w → statement ≢ statements.Work → IsIn p n statement table
+    → table_in old.layout (hand_in new.hands n) ≢ Some table → p.tables table ≡ w → IsIn p n statement table
     → w.task n ≡ Maintains job at range phase → (refused : IsMaintainRefused (index_view_at at w) n range phase)
     → IsMaintenanceShown new stored p n table statement (maintain_refusal at refused)

@@ -1,5 +1,5 @@
 -- which step of the definition of texts a step of a store is
-use Rattle.std.specs.Prelude.{◌≡◌, ◌≢◌, ◌⊎◌, ℕ, Bool, ◌≤◌, List, length, IsTrue, ◌++◌, codes, None, Some}
+use Rattle.std.specs.Prelude.{◌≡◌, ◌≢◌, ◌⊎◌, ℕ, Bool, List, [], IsTrue, ◌++◌, codes, None, Some}
 use Rattle.block_model.specs.declared.reply.Point.{Point}
 use Rattle.block_model.specs.declared.reply.Point.TheVariants as points
 use Rattle.block_model.specs.declared.reply.Refusal.{Refusal}
@@ -20,11 +20,12 @@ use Rattle.table_coverage.specs.Refusals.{HasConflict}
 use Rattle.table_coverage.specs.Table.{Resting, TableState, Task}
 use Rattle.table_coverage.specs.TablePoints.{IsHeldBy, WaitedFor, does_point, waits_for}
 use Rattle.table_coverage.specs.TableSteps.{Does, IsBlocked, Settles}
-use Rattle.line_texts.specs.Beginnings.{Begins, IsAtRest, IsIn, takes_lock}
+use Rattle.line_texts.specs.Beginnings.{Begins, IsAtRest, IsIn, TakesUp, takes_lock}
 use Rattle.line_texts.specs.Names.{name_of}
 use Rattle.line_texts.specs.Place.{Hand as HandAt, Place, accounts_at, database_at}
 use Rattle.line_texts.specs.Requests.{Course, MakesAll, refused_request}
-use Rattle.line_texts.specs.StatementSteps.{Ended, IsAtOnce, IsLooking, MakesAt, Moved, RefusesSo, StepsTo, Waits, course_of, numbers_of, reply_after, what_of}
+use Rattle.line_texts.specs.StatementSteps.{Ended, IsAtOnce, MakesAt, MayLackMemory, Moved, RefusesSo, StepsTo, Waits, course_of, numbers_of, reply_after, what_of}
+use Rattle.line_texts.specs.Turns.{PrunesTheDead}
 use Rattle.store_parts.specs.PlacesAfter.{TurnsAsking, TurnsIn, place_after, place_asking, place_at_once, point_in, refusal_in}
 
 -- A step of the table that a machine makes is one of the statement's: under the machine's point, and with what that makes of the account. It doesn't prune.
@@ -34,12 +35,13 @@ MachineTurns = (p : Place) (n table : ℕ) (statement : Statement) (w between v 
     → (w.task n ≢ Resting) ⊎ Begins p n w statement (between.task n)
     → (turns : TurnsIn p n statement table v (account (p.accounts n))) × (point_in turns ≡ Some point) × (turns.step.between ≡ between)
 
--- A step of a machine that may ask for a summary is one of its statement's, with what that makes of the account and of the summaries that are asked for.
+-- A step of a machine that may ask for a summary, or take up the first one that is asked for, is one of its statement's, with what that makes of the account
+-- and of the summaries that are asked for; and so is one that drops exactly the dead rows of a block.
 abbrev pub MachineAsks : Type 0
 MachineAsks = (p : Place) (n table : ℕ) (statement : Statement) (w between v : TableState) (point : Point) (account : Account) (queue : List Asked)
-    → p.tables table ≡ w → statement ≢ statements.Work → IsIn p n statement table → (does : Does n w between) → does_point n w between does ≡ Some point
-    → ((b : Accounts) → AccountIs n (record (accounts_at p table) { queue = queue }) b account → Adds n w between does (accounts_at p table) b) → length p.queue ≤ length queue
-    → point ≢ points.Prune → Settles n between v → (w.task n ≢ Resting) ⊎ Begins p n w statement (between.task n)
+    → p.tables table ≡ w → TakesUp statement (w.task n) p.queue queue → IsIn p n statement table → (does : Does n w between) → does_point n w between does ≡ Some point
+    → ((b : Accounts) → AccountIs n (record (accounts_at p table) { queue = queue }) b account → Adds n w between does (accounts_at p table) b)
+    → PrunesTheDead p does → Settles n between v → (w.task n ≢ Resting) ⊎ Begins p n w statement (between.task n)
     → (turns : TurnsAsking p n statement table v account queue) × (point_in turns ≡ Some point) × (turns.step.between ≡ between)
 
 -- it goes on
@@ -80,14 +82,18 @@ IsOneRequest = (p : Place) (n : ℕ) (hand : HandAt) (counts : ℕ → Bool) (c 
     → MakesAll p.opening n hand.statement (course_of p hand) c → Some reply ≡ reply_to_statement (full_table p.layout) hand.statement c.answers
     → StepsTo p n hand (Ended reply) (place_at_once p n counts c.journal)
 
--- it lacks memory before it has a step, or a number
+-- it lacks memory before it has a step, or a number; or it is work, and no summary is asked for
 abbrev pub LacksMemoryThere : Type 0
-LacksMemoryThere = (p : Place) (n : ℕ) (hand : HandAt) (counts : ℕ → Bool) → IsLooking hand.statement → IsAtRest p n
+LacksMemoryThere = (p : Place) (n : ℕ) (hand : HandAt) (counts : ℕ → Bool) → MayLackMemory p n hand.statement → IsAtRest p n
     → StepsTo p n hand (Ended (replies.Refused refusals.Memory)) (place_at_once p n counts (p.journal ++ refused_request n tags.NoMemory hand.statement))
 
 abbrev pub LacksNumber : Type 0
 LacksNumber = (p : Place) (n : ℕ) (hand : HandAt) (counts : ℕ → Bool) → hand.statement ≡ statements.Begin → (database_at p).next ≡ numbers_of p.layout
     → StepsTo p n hand (Ended (replies.Refused (refusals.Full (codes "status") (numbers_of p.layout)))) (place_at_once p n counts p.journal)
+
+abbrev pub FindsNothingAsked : Type 0
+FindsNothingAsked = (p : Place) (n : ℕ) (hand : HandAt) (counts : ℕ → Bool) → hand.statement ≡ statements.Work → IsAtRest p n → p.queue ≡ []
+    → StepsTo p n hand (Ended replies.Idle) (place_at_once p n counts p.journal)
 
 -- it waits, and is told for whom
 abbrev pub TurnWaits : Type 0

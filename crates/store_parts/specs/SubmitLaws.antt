@@ -5,6 +5,7 @@ use Rattle.brin_desummarise.specs.declared.stage.Stage.TheVariants as desummaris
 use Rattle.brin_scan.specs.declared.stage.Stage.TheVariants as stages
 use Rattle.brin_summarise.specs.declared.course.Standing.TheVariants as standings
 use Rattle.brin_summarise.specs.declared.wish.Wish.TheVariants as wishes
+use Rattle.brin_vacuum.specs.declared.standing.Standing.TheVariants as cleaning_standings
 use Rattle.line_texts.specs.LineTexts.{with_statement}
 use Rattle.reply_texts.specs.declared.dropped.Dropped.{Dropped}
 use Rattle.line_texts.specs.Place.{Place}
@@ -26,6 +27,8 @@ HasNotBegun layout (hands.Deleting query) = Unit {0}
 HasNotBegun layout (hands.Explains explain) = explain.judging.stage ≡ stages.Extent
 HasNotBegun layout (hands.Summarises a) = (a.standing ≡ standings.Begins) × (a.index < length layout.schema.indexes) × (a.wish ≢ wishes.Complete)
 HasNotBegun layout (hands.Desummarises a) = (a.stage ≡ desummarise_stages.Right) × (a.index < length layout.schema.indexes)
+HasNotBegun layout (hands.Cleans c) = c.vacuum.standing ≡ cleaning_standings.Begins
+HasNotBegun layout hands.Working = Unit {0}
 HasNotBegun layout hand = ⊥
 
 -- what the session asked for in vain is forgotten, and that of the others stays

@@ -6,6 +6,7 @@ use brin_desummarise::Desummarise;
 use brin_insert::Insert;
 use brin_scan::{Explain, Scan};
 use brin_summarise::Summarise;
+use brin_vacuum::Vacuum;
 
 /// A row that a delete found: its id, and where it stands.
 #[derive(Clone, Copy, Debug, PartialEq, Eq)]
@@ -24,8 +25,34 @@ pub struct Marking {
     pub next: usize,
 }
 
-/// A statement in hand. An insert takes its memory with its first step, a select and a delete in the steps of their scan; the others have
-/// taken it.
+/// The summary of a range that an insert asked for, and that range: work took the request out of the queue with its first step.
+#[derive(Debug, Drop)]
+pub struct Requested {
+    pub summarise: Summarise,
+    pub range: u32,
+}
+
+/// A vacuum that cleans its table; and the summaries that come then, one of each index of the table in their order, over its complete ranges.
+#[derive(Debug, Drop)]
+pub struct Cleaning {
+    pub vacuum: Vacuum,
+    pub summaries: Vec<Summarise>,
+}
+
+/// A vacuum that has cleaned its table, with how many rows and unnamed tuples it dropped; the summaries of the table's indexes, in their order;
+/// which of them is made now, or next; and how many ranges those before it gave a final tuple.
+#[derive(Debug, Drop)]
+pub struct Completing {
+    pub table: u8,
+    pub rows: u64,
+    pub unnamed: u64,
+    pub summaries: Vec<Summarise>,
+    pub next: usize,
+    pub ranges: u64,
+}
+
+/// A statement in hand. An insert and work take their memory with their first step, a select and a delete in the steps of their scan; the
+/// others have taken it.
 #[derive(Debug, Drop)]
 pub enum Hand {
     /// A begin, with an empty list that has room for the number of a transaction of each session.
@@ -45,6 +72,12 @@ pub enum Hand {
     Explains(Explain),
     Summarises(Summarise),
     Desummarises(Desummarise),
+    /// A vacuum: its cleaning, and its summaries.
+    Cleans(Cleaning),
+    Completes(Completing),
+    /// Work before its first step, and at the range of the request that it took up.
+    Working,
+    Works(Requested),
 }
 
 /// What came of a step of a statement in hand: it goes on behind a step of this name; it is done, with its reply; it waits for what that

@@ -1,13 +1,13 @@
 //! Laws that say which step of the definition of texts a step of a store is. None does anything.
 
-ghost use Rattle.store_parts.specs.StepLaws.{IsOneRequest, LacksMemoryThere, LacksNumber, MachineAsks, MachineTurns, TurnAsks, TurnConflicts, TurnGoesOn, TurnIsRefused, TurnReplies, TurnWaits};
+ghost use Rattle.store_parts.specs.StepLaws.{FindsNothingAsked, IsOneRequest, LacksMemoryThere, LacksNumber, MachineAsks, MachineTurns, TurnAsks, TurnConflicts, TurnGoesOn, TurnIsRefused, TurnReplies, TurnWaits};
 
 /// A machine's step in a table is a turn of the statement there.
 pub fn a_machine_turns()
     ensures { MachineTurns }
 {}
 
-/// So is a step of a machine that may ask for a summary.
+/// So is a step of a machine that may ask for a summary or take up the first one, and one that drops the dead rows of a block.
 pub fn a_machine_asks()
     ensures { MachineAsks }
 {}
@@ -22,9 +22,11 @@ pub fn a_turn_is_a_step()
     ensures waits { TurnWaits }
 {}
 
-/// So is a step that touches no table: a statement that is one request, and one that lacks memory or a number before it has a step.
+/// So is a step that touches no table: a statement that is one request, one that lacks memory or a number before it has a step, and work that finds no
+/// summary asked for.
 pub fn one_request_is_a_step()
     ensures request { IsOneRequest }
     ensures memory { LacksMemoryThere }
     ensures number { LacksNumber }
+    ensures nothing { FindsNothingAsked }
 {}

@@ -2,7 +2,7 @@
 //! and what each session has in hand, as the machine that makes its steps. Which place of the definition of texts they show stands in
 //! specs/ShowsPlace.antt; a step of a session leads from each place that is shown before it to one that is shown after it
 //! (specs/StepIs.antt). The crates above each make the steps of one kind of statement, and session_core hands them out. It stands on
-//! line_texts, transactions, summary_queue, and the machines brin_insert, brin_scan, brin_summarise and brin_desummarise.
+//! line_texts, transactions, summary_queue, and the machines brin_insert, brin_scan, brin_summarise, brin_desummarise and brin_vacuum.
 #![tactic(auto)]
 
 mod dropped_requests;
@@ -26,7 +26,7 @@ mod parts;
 
 pub use dropped_requests::DroppedRequests;
 pub use faults::{Step, StoreFault, fault_of};
-pub use hand::{Hand, Hit, Marking, Stepped};
+pub use hand::{Cleaning, Completing, Hand, Hit, Marking, Requested, Stepped};
 pub use journal::Journal;
 pub use laws_leads::{
     a_request_leads, a_scan_saw_its_rows, few_rows_come_to_count, others_see_on, transactions_go_on,

@@ -1,4 +1,4 @@
-use Rattle.store_parts.proofs.Steps.{lacks_memory, lacks_number, one_request}
+use Rattle.store_parts.proofs.Steps.{finds_nothing, lacks_memory, lacks_number, one_request}
 use Rattle.store_parts.proofs.laws_steps.one_request_is_a_step.Goals as goal
 
 pub returns-clause-request : goal.returns-clause-request
@@ -9,3 +9,6 @@ returns-clause-memory c = lacks_memory
 
 pub returns-clause-number : goal.returns-clause-number
 returns-clause-number c = lacks_number
+
+pub returns-clause-nothing : goal.returns-clause-nothing
+returns-clause-nothing c = finds_nothing
