@@ -1,0 +1,11 @@
+pub mod Thinned
+pub mod DroppedRows
+pub mod DeadUnseen
+pub mod CleaningAt
+pub mod CleaningSteps
+pub mod CleaningMade
+pub mod StillShown
+pub mod CleaningRights
+pub mod CleaningParts
+pub mod CleaningDone
+pub mod CleaningWaits
