@@ -16,6 +16,8 @@ mod row_runs;
 #[cfg(test)]
 mod step_rows;
 #[cfg(test)]
+mod upkeep_rows;
+#[cfg(test)]
 mod word_rows;
 
 ghost use Rattle.std.specs.Prelude.{◌≡◌, ◌↔◌, None};

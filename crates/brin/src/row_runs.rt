@@ -103,7 +103,7 @@ pub fn check_words<R: Abort + AllocGlobal>(
 }
 
 /// The script of these lines, and what is written for it.
-fn parted(alloc: Global, lines: &str) -> Result<(Vec<u8>, Vec<u8>), Fail> {
+pub fn parted(alloc: Global, lines: &str) -> Result<(Vec<u8>, Vec<u8>), Fail> {
     let mut script = Vec::new(alloc);
     let mut output = Vec::new(alloc);
     for line in lines.split('\n') {
