@@ -1,6 +1,6 @@
 //! Scripts of whole lines.
 
-use crate::row_runs::{Script, check_scripts};
+use script_rows::{Script, check_scripts};
 use std::test::Fail;
 
 /// The first words of a small store.

@@ -1,6 +1,6 @@
 //! Scripts of vacuum, and of the summaries that inserts ask for.
 
-use crate::row_runs::{Script, check, check_scripts, parted};
+use script_rows::{Script, check, check_scripts, parted};
 use std::string::String;
 use std::test::Fail;
 

@@ -1,7 +1,7 @@
 //! Command lines: those that ask for a run, and those that ask for nothing.
 
-use crate::row_runs::{Row, check_words, ran};
 use block_model::Words;
+use script_rows::{Row, check_words, ran};
 use std::test::Fail;
 
 /// Command lines that ask for a run, one a line.

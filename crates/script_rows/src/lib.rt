@@ -1,4 +1,6 @@
-//! A run of the program in memory.
+//! Worked scripts and command lines as data, and their run in memory: what is written and the status are those of the row, whether bytes come and
+//! go one by one or in large pieces. Tests of scripts stand on it; it stands on brin_app.
+#![tactic(auto)]
 
 ghost use Rattle.std.specs.Prelude.{◌<◌};
 
