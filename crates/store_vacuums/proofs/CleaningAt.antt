@@ -1,5 +1,5 @@
 -- a vacuum's cleaning in hand, in a place that the store shows
-use Rattle.std.proofs.Common.{◌≡◌, ◌≢◌, ℕ, ◌<◌, ◌≤◌, List, [], length, Option, None, Some, refl, sym, ap, subst, ◌∙◌}
+use Rattle.std.proofs.Common.{◌≡◌, ◌≢◌, ℕ, ◌<◌, ◌≤◌, List, [], length, Option, Some, refl, sym, ap, subst, ◌∙◌}
 use Rattle.block_model.specs.declared.place.Place.{Place as PagePlace}
 use Rattle.block_model.specs.DatabaseState.{OpenTransaction}
 use Rattle.store_layout.specs.DiskLayout.{DiskLayout}
@@ -23,7 +23,7 @@ use Rattle.brin_vacuum.specs.declared.standing.Standing.{Standing}
 use Rattle.brin_vacuum.specs.declared.standing.Standing.TheVariants as standings
 use Rattle.brin_vacuum.specs.TableSteps.{HasCounted, account_by, task_of}
 use Rattle.brin_vacuum.specs.Vacuums.{VacuumState}
-use Rattle.line_texts.specs.Place.{Hand as HandAt, Place, new_hand}
+use Rattle.line_texts.specs.Place.{Place, new_hand}
 use Rattle.store_parts.specs.declared.hand.Cleaning.{Cleaning}
 use Rattle.store_parts.specs.declared.hand.Hand.{Hand}
 use Rattle.store_parts.specs.declared.hand.Hand.TheVariants as hands

@@ -1,5 +1,5 @@
 -- what comes of a step of a vacuum's cleaning: it goes on, comes to its summaries, or replies
-use Rattle.std.proofs.Common.{◌≡◌, ◌≢◌, ℕ, zero, suc, ◌+◌, ◌<◌, ◌≤◌, List, [], ◌∷◌, length, map, Option, None, Some, refl, sym, ap, subst, ◌∙◌, arith}
+use Rattle.std.proofs.Common.{◌≡◌, ◌≢◌, ℕ, suc, ◌+◌, ◌<◌, List, [], ◌∷◌, length, map, Option, None, Some, refl, sym, ap, subst, ◌∙◌, arith}
 use Rattle.std.specs.Prelude.{All, slice_get, slice_set}
 use Rattle.std.proofs.lemmas.Option.{get_or_from_slice_get, slice_get_within}
 use Rattle.disk_trait.specs.Told.{Told}
@@ -7,21 +7,14 @@ use Rattle.block_model.specs.DatabaseState.{OpenTransaction}
 use Rattle.block_model.specs.declared.reply.Point.{Point}
 use Rattle.block_model.specs.declared.reply.Reply.TheVariants as replies
 use Rattle.store_layout.specs.DiskLayout.{DiskLayout}
-use Rattle.page_layout.specs.PageContents.{Slot}
-use Rattle.page_store.specs.Keeps.{Tells}
 use Rattle.page_store.specs.PageMap.{View}
 use Rattle.page_locks.specs.declared.did.Did.{Did}
 use Rattle.page_locks.specs.declared.did.Did.TheVariants as did
 use Rattle.page_locks.specs.RightHolders.{right_of}
-use Rattle.row_versions.specs.declared.sessions.Open.{Open}
-use Rattle.row_versions.specs.StoredVersions.{transaction_of}
-use Rattle.snapshot_core.specs.declared.statuses.Status.{Status}
 use Rattle.statements.specs.declared.statement.Statement.TheVariants as statements
-use Rattle.tx_table.specs.TxState.{TxState}
-use Rattle.table_coverage.specs.Accounts.{Account, no_account}
-use Rattle.table_coverage.specs.Table.{Restarts, Resting, Task}
+use Rattle.table_coverage.specs.Accounts.{Account}
+use Rattle.table_coverage.specs.Table.{Restarts, Task}
 use Rattle.index_steps.specs.ShownTable.{indexes_of}
-use Rattle.brin_summarise.specs.declared.course.Standing.{Standing as SummaryStanding}
 use Rattle.brin_summarise.specs.declared.course.Standing.TheVariants as summary_standings
 use Rattle.brin_summarise.specs.declared.wish.Wish.{Wish}
 use Rattle.brin_summarise.specs.declared.wish.Wish.TheVariants as wishes
@@ -30,8 +23,7 @@ use Rattle.brin_summarise.specs.TableSteps as summarises
 use Rattle.brin_vacuum.specs.declared.standing.Standing.{Standing}
 use Rattle.brin_vacuum.specs.declared.standing.Standing.TheVariants as standings
 use Rattle.brin_vacuum.specs.TableSteps.{account_by, held_done, task_at, task_done, task_of}
-use Rattle.brin_vacuum.specs.Vacuums.{DoesOver, IsUnderWay, IsVacuumOf, PrunesAt, RightAnswers, VacuumState, step_of}
-use Rattle.line_texts.specs.Place.{Place}
+use Rattle.brin_vacuum.specs.Vacuums.{DoesOver, IsUnderWay, PrunesAt, RightAnswers, VacuumState, step_of}
 use Rattle.store_fronts.specs.DeadToAll.{oldest_snapshots}
 use Rattle.store_parts.specs.declared.hand.Cleaning.{Cleaning}
 use Rattle.store_parts.specs.declared.hand.Completing.{Completing}
@@ -39,19 +31,17 @@ use Rattle.store_parts.specs.declared.hand.Hand.{Hand}
 use Rattle.store_parts.specs.declared.hand.Hand.TheVariants as hands
 use Rattle.store_parts.specs.declared.hand.Stepped.TheVariants as stepped
 use Rattle.store_parts.specs.declared.parts.Parts.{Parts}
-use Rattle.store_parts.specs.HandFits.{AreSummariesOf, IsCleaningFor, IsCompletingFor, right_cleaning}
-use Rattle.store_parts.specs.Hands.{cleaned_at, completed_by, count_in, summary_now}
-use Rattle.store_parts.specs.HandsInTables.{IsTaskOf}
-use Rattle.store_parts.specs.ShowsPlace.{IsLeftToMark, IsPlaceOf}
+use Rattle.store_parts.specs.HandFits.{AreSummariesOf, IsCompletingFor}
+use Rattle.store_parts.specs.Hands.{cleaned_at, count_in, summary_now}
+use Rattle.store_parts.specs.ShowsPlace.{IsLeftToMark}
 use Rattle.store_parts.specs.StepAnswers.{StaysReady}
 use Rattle.store_parts.specs.Stepping.{IsFit}
-use Rattle.store_parts.specs.StoreStates.{hand_in, with_hand}
 use Rattle.store_parts.specs.UndoneLaws.{StepsSo}
 use Rattle.store_parts.proofs.Stores.{hand_changes}
 use Rattle.store_upkeep.proofs.SummariseLocks.{OthersStay, gives_own, gives_stay, gives_there, stays_on}
 use Rattle.store_vacuums.specs.Cleaned.{behind, completing_of}
-use Rattle.store_vacuums.proofs.CleaningAt.{IsVacuumHand, at_task, cleaned, counts_on, here, told_is}
-use Rattle.store_vacuums.proofs.CleaningMade.{is_begun, is_busy, is_left, is_named, made_so, point_at}
+use Rattle.store_vacuums.proofs.CleaningAt.{IsVacuumHand, cleaned, counts_on, here, told_is}
+use Rattle.store_vacuums.proofs.CleaningMade.{is_begun, is_busy, is_left, is_named, made_so}
 use Rattle.store_vacuums.proofs.CleaningParts.{DeadLaws, MachineLeft, StepsInTable, fits, fits_then, held_by, held_none, holds_there, leaves_others, left_so, new_store, of, old_store, stays_fit, still_so, with_these, within}
 use Rattle.store_vacuums.proofs.CleaningRights.{right_begun, right_left, right_taken}
 use Rattle.store_vacuums.proofs.CleaningSteps.{goes_on, is_done}

@@ -1,8 +1,7 @@
 -- what a step of a vacuum's cleaning makes of its table, in a place that the store shows
-use Rattle.std.proofs.Common.{◌≡◌, ◌≢◌, ◌⊎◌, inl, inr, ℕ, suc, ◌<◌, Bool, true, false, List, length, Option, None, Some, refl, sym, ap, subst, ◌∙◌}
+use Rattle.std.proofs.Common.{◌≡◌, ◌≢◌, ◌⊎◌, inl, inr, ℕ, ◌<◌, Bool, true, false, List, length, Option, None, Some, refl, sym, subst, ◌∙◌}
 use Rattle.std.specs.Prelude.{◌↔◌, IsTrue}
 use Rattle.std.proofs.lemmas.Bool.{false≢true}
-use Rattle.std.proofs.lemmas.Option.{none-some, same_Some}
 use Rattle.block_model.specs.declared.reply.Point.{Point}
 use Rattle.block_model.specs.declared.reply.Point.TheVariants as points
 use Rattle.block_model.specs.declared.row.Row.{Row}
@@ -15,10 +14,10 @@ use Rattle.statements.specs.declared.statement.Statement.TheVariants as statemen
 use Rattle.transactions.specs.ShowsDatabase.{ShowsDatabase}
 use Rattle.table_coverage.specs.Accounts.{Account, AccountIs, Accounts, Adds}
 use Rattle.table_coverage.specs.InOneIndex.{DoesAt}
-use Rattle.table_coverage.specs.Machines.{ShownTable, Unseen, table_state}
-use Rattle.table_coverage.specs.Table.{Prunes, Resting, Sweeps, TableState, Task}
+use Rattle.table_coverage.specs.Machines.{ShownTable, table_state}
+use Rattle.table_coverage.specs.Table.{Prunes, Resting, TableState, Task}
 use Rattle.table_coverage.specs.TablePoints.{does_point}
-use Rattle.table_coverage.specs.TableSteps.{AsksSummary, BeginsScan, Blocked, Conflicts, Does, DropsRows, HasPut, InsertCompletes, InsertGoes, Judges, MaintainCompletes, MaintainGoes, MarksRow, PrunesBlock, PutsRow, ReadsBlock, RefusesInsert, RefusesMaintain, RefusesRow, RefusesScan, RefusesVacuum, RestartsIndex, SeesPlace, SweepsPage, TakesLock, TaskTurns, Transacts}
+use Rattle.table_coverage.specs.TableSteps.{Does, DropsRows, HasPut, PrunesBlock, SeesPlace}
 use Rattle.index_steps.specs.ShownRows.{rows_in, shown_by}
 use Rattle.brin_vacuum.specs.declared.standing.Standing.{Standing}
 use Rattle.brin_vacuum.specs.declared.standing.Standing.TheVariants as standings

@@ -1,32 +1,27 @@
 -- a step of a vacuum's cleaning, over the parts of a store
-use Rattle.std.proofs.Common.{◌≡◌, ◌≢◌, ◌⊎◌, inl, inr, ⊎_elim, ℕ, ◌+◌, ◌<◌, ◌≤◌, List, [], length, Option, None, Some, refl, sym, ap, subst, ◌∙◌, arith}
+use Rattle.std.proofs.Common.{◌≡◌, ◌≢◌, inl, inr, ℕ, ◌+◌, ◌<◌, List, length, Option, None, Some, refl, sym, ap, subst, ◌∙◌, arith}
 use Rattle.std.proofs.lemmas.Bool.{cases_eq}
 use Rattle.disk_trait.specs.Told.{Told}
 use Rattle.block_model.specs.declared.place.Place.{Place as PagePlace}
-use Rattle.block_model.specs.declared.reply.Point.{Point}
 use Rattle.store_layout.specs.DiskLayout.{DiskLayout}
 use Rattle.page_layout.specs.PageContents.{Slot}
 use Rattle.page_store.specs.Keeps.{Leaves, Tells}
 use Rattle.page_store.specs.PageMap.{View, page_at}
 use Rattle.page_locks.specs.declared.did.Did.{Did}
-use Rattle.page_locks.specs.LockCounts.{locks_of}
-use Rattle.page_locks.specs.LockHolders.{LockState}
 use Rattle.page_locks.specs.RightHolders.{right_of}
 use Rattle.heap_rows.specs.HeapBlocks.{HasBlocks}
 use Rattle.row_versions.specs.StoredVersions.{transaction_of}
-use Rattle.snapshot_core.specs.declared.snapshots.Snapshot.{Snapshot}
 use Rattle.tx_table.specs.Kept.{over_kept}
 use Rattle.tx_table.specs.Statuses.{status_relation}
 use Rattle.tx_table.specs.TxState.{IsOver}
 use Rattle.transactions.proofs.Standing.{one_blocks}
 use Rattle.index_order.specs.KeepsOrder.{KeepsOrder}
-use Rattle.table_coverage.specs.Table.{Task}
 use Rattle.table_coverage.specs.TableCovered.{IsMaintenance}
 use Rattle.brin_vacuum.specs.declared.standing.Standing.{Standing}
 use Rattle.brin_vacuum.specs.declared.standing.Standing.TheVariants as standings
 use Rattle.brin_vacuum.specs.DeadRows.{DropsTheDead, living}
 use Rattle.brin_vacuum.specs.TableSteps.{DoesInTable, task_at, task_of}
-use Rattle.brin_vacuum.specs.Vacuums.{DoesOver, HasHeap, IsVacuumOf, LeavesTheRest, PrunesAt, RightAnswers, VacuumDoes, VacuumState, VacuumStep, step_of}
+use Rattle.brin_vacuum.specs.Vacuums.{HasHeap, IsVacuumOf, LeavesTheRest, PrunesAt, VacuumDoes, VacuumState, VacuumStep, step_of}
 use Rattle.brin_vacuum.proofs.Tables.{locked_by}
 use Rattle.line_texts.specs.Place.{Place}
 use Rattle.store_fronts.specs.DeadToAll.{DropsTheDeadByJournal, OldestSpeaksForAll, oldest_snapshots}
@@ -36,7 +31,7 @@ use Rattle.store_parts.specs.declared.hand.Hand.{Hand}
 use Rattle.store_parts.specs.declared.hand.Hand.TheVariants as hands
 use Rattle.store_parts.specs.declared.hand.Stepped.{Stepped}
 use Rattle.store_parts.specs.declared.parts.Parts.{Parts}
-use Rattle.store_parts.specs.HandFits.{FitsHand, locks_held, right_held}
+use Rattle.store_parts.specs.HandFits.{FitsHand, right_held}
 use Rattle.store_parts.specs.Leaving.{IsRelationOf}
 use Rattle.store_parts.specs.Shares.{hand_share, share_of}
 use Rattle.store_parts.specs.ShowsPlace.{IsPlaceOf}

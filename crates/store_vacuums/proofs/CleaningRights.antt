@@ -1,6 +1,6 @@
 -- the summarise lock of a vacuum's table, and which pages its step leaves
-use Rattle.std.proofs.Common.{◌≡◌, ◌≢◌, inl, inr, ℕ, ◌<◌, List, length, Option, None, Some, refl, sym, ap, subst, ◌∙◌, arith}
-use Rattle.std.specs.Prelude.{slice_get, slice_set}
+use Rattle.std.proofs.Common.{◌≡◌, ◌≢◌, inl, inr, ℕ, ◌<◌, List, length, Option, Some, refl, sym, ap, subst, ◌∙◌, arith}
+use Rattle.std.specs.Prelude.{slice_get}
 use Rattle.std.proofs.lemmas.Option.{none-some, same_Some, slice_get-get_or}
 use Rattle.disk_trait.specs.Told.{Told}
 use Rattle.block_model.specs.declared.place.Place.{Place}
@@ -18,7 +18,7 @@ use Rattle.index_steps.proofs.Listed.{is_counted}
 use Rattle.brin_vacuum.specs.declared.standing.Standing.{Standing}
 use Rattle.brin_vacuum.specs.declared.standing.Standing.TheVariants as standings
 use Rattle.brin_vacuum.specs.DeadRows.{DropsFrom}
-use Rattle.brin_vacuum.specs.Vacuums.{Begins, IsVacuumOf, LacksRight, LeavesTheRest, PrunesBlock, RightAnswers, StandsWell, SweepsPageOf, VacuumDoes, VacuumState, VacuumStep, Waits, index_of}
+use Rattle.brin_vacuum.specs.Vacuums.{Begins, LacksRight, LeavesTheRest, PrunesBlock, RightAnswers, StandsWell, SweepsPageOf, VacuumDoes, VacuumState, VacuumStep, Waits, index_of}
 use Rattle.store_parts.specs.HandFits.{right_cleaning}
 use Rattle.store_parts.specs.Leaving.{IsRelationOf}
 use Rattle.store_upkeep.proofs.SummariseLocks.{OthersStay, same_stays, set_stays, set_there}

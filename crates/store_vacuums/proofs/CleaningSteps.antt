@@ -6,7 +6,6 @@ use Rattle.std.proofs.lemmas.List.Elements.{All-nil}
 use Rattle.std.proofs.lemmas.Option.{none-some, same_Some}
 use Rattle.block_model.specs.declared.place.Spot.{Spot}
 use Rattle.block_model.specs.declared.reply.Point.{Point}
-use Rattle.block_model.specs.declared.reply.Reply.{Reply}
 use Rattle.block_model.specs.declared.reply.Reply.TheVariants as replies
 use Rattle.block_model.specs.declared.request.Entry.{Entry}
 use Rattle.block_model.specs.SerialRun.{IsLegal, serial_run}
@@ -41,7 +40,7 @@ use Rattle.brin_vacuum.specs.Vacuums.{VacuumState}
 use Rattle.line_texts.specs.Beginnings.{Begins}
 use Rattle.line_texts.specs.Place.{Hand as HandAt, Place, database_at, new_hand}
 use Rattle.line_texts.specs.Requests.{NoneLeft}
-use Rattle.line_texts.specs.StatementSteps.{Ended, MakesAt, Moved, Steps, StepsTo, course_of, reply_after}
+use Rattle.line_texts.specs.StatementSteps.{Ended, MakesAt, Moved, Steps, StepsTo, course_of}
 use Rattle.line_texts.specs.Turns.{PrunesTheDead}
 use Rattle.status_fronts.specs.RowsFollow.{RowsFollow}
 use Rattle.status_fronts.specs.StepLaws.{IsWithin, OpensStay}

@@ -1,5 +1,5 @@
 -- a vacuum's cleaning that waits for what another session holds, or whose step the pages refuse
-use Rattle.std.proofs.Common.{◌≡◌, ◌≢◌, ◌⊎◌, inl, inr, ℕ, ◌<◌, ◌≤◌, List, length, Option, None, Some, refl, sym, ap, subst, ◌∙◌, arith}
+use Rattle.std.proofs.Common.{◌≡◌, ◌≢◌, ◌⊎◌, inl, inr, ℕ, ◌<◌, ◌≤◌, List, length, Option, Some, refl, sym, ap, subst, ◌∙◌, arith}
 use Rattle.std.specs.Prelude.{slice_get}
 use Rattle.disk_trait.specs.Told.{Told}
 use Rattle.block_model.specs.declared.place.Place.{Place as PagePlace}
@@ -8,15 +8,13 @@ use Rattle.block_model.specs.declared.reply.What.{What}
 use Rattle.block_model.specs.declared.reply.What.TheVariants as whats
 use Rattle.block_model.specs.declared.request.Entry.{Entry}
 use Rattle.store_layout.specs.DiskLayout.{DiskLayout}
-use Rattle.page_layout.specs.PageContents.{Slot}
 use Rattle.page_store.specs.declared.faults.StoreError.{StoreError}
 use Rattle.page_store.specs.Keeps.{Keeps, Tells, Untold}
 use Rattle.page_store.specs.Outcome.{Refused}
 use Rattle.page_store.specs.PageMap.{View}
-use Rattle.page_locks.specs.declared.did.Did.{Did}
 use Rattle.page_locks.specs.declared.did.Did.TheVariants as did
 use Rattle.page_locks.specs.declared.held.Held.{Held}
-use Rattle.page_locks.specs.LockChanges.{IsAnothers, page_of}
+use Rattle.page_locks.specs.LockChanges.{page_of}
 use Rattle.page_locks.specs.LockCounts.{locks_of}
 use Rattle.page_locks.specs.LockHolders.{LockState, holder}
 use Rattle.page_locks.specs.RightHolders.{right_of}
@@ -24,7 +22,6 @@ use Rattle.statements.specs.declared.limits.TheConstants.{MAX_ENTRIES}
 use Rattle.statements.specs.declared.statement.Statement.TheVariants as statements
 use Rattle.index_contents.specs.IndexContents.{relation_of as index_relation}
 use Rattle.index_steps.specs.ShownTable.{indexes_of, shown_at}
-use Rattle.table_coverage.specs.Table.{Task}
 use Rattle.table_coverage.specs.TablePoints.{IsHeldBy, PageLock, SummariseLock, WaitedFor, waits_for}
 use Rattle.table_coverage.specs.TableSteps.{IsBlocked}
 use Rattle.brin_vacuum.specs.declared.standing.Standing.{Standing}

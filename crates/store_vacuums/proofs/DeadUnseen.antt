@@ -1,6 +1,6 @@
 -- a row that is dead to all nobody sees: no commit has it, and no open transaction sees it, or marked it
-use Rattle.std.proofs.Common.{◌≡◌, ◌≢◌, Bool, true, false, not, ◌&&◌, ◌||◌, eqb, ℕ, ◌<◌, List, length, Option, Some, refl, sym, ap, ◌∙◌, inl, inr, arith}
-use Rattle.std.proofs.lemmas.Bool.{and_parts, eqb-true, false_from_ne_true, false≢true, ne_eqb, or_cases, or_right}
+use Rattle.std.proofs.Common.{◌≡◌, ◌≢◌, Bool, true, false, not, ◌&&◌, ◌||◌, eqb, ℕ, ◌<◌, List, length, Some, refl, sym, ap, ◌∙◌, inl, inr, arith}
+use Rattle.std.proofs.lemmas.Bool.{and_parts, false≢true, ne_eqb, or_cases, or_right}
 use Rattle.std.specs.List.{list_all}
 use Rattle.block_model.specs.declared.place.Spot.{Spot}
 use Rattle.block_model.specs.DatabaseState.{DatabaseState}
@@ -15,7 +15,7 @@ use Rattle.snapshot_core.specs.Visibility.{had_ended, has_done, in_snapshot, is_
 use Rattle.row_versions.specs.declared.sessions.Open.{Open}
 use Rattle.row_versions.specs.declared.table.Version.{Version}
 use Rattle.row_versions.specs.StoredVersions.{IsKnown, IsUnderWay, transaction_of}
-use Rattle.row_versions.specs.VisibleState.{is_marked, is_of_commit, is_seen, status_of}
+use Rattle.row_versions.specs.VisibleState.{status_of}
 use Rattle.heap_versions.specs.ShownVersions.{version_of}
 use Rattle.transactions.specs.GivenStatuses.{given_statuses}
 use Rattle.transactions.specs.ShowsDatabase.{ShowsDatabase}

@@ -1,8 +1,7 @@
 -- what stays shown behind a step of a vacuum's cleaning: one that leaves its table's heap, and one that drops the dead rows of a block
-use Rattle.std.proofs.Common.{◌≡◌, ◌≢◌, ◌⊎◌, inl, inr, ⊎_elim, ℕ, ◌<◌, false, List, length, None, Some, refl, sym, ap, subst, ◌∙◌, arith}
+use Rattle.std.proofs.Common.{◌≡◌, ◌≢◌, ◌⊎◌, inl, inr, ⊎_elim, ℕ, ◌<◌, false, List, length, None, Some, refl, sym, ap, subst, ◌∙◌}
 use Rattle.std.specs.Prelude.{◌↔◌, IsTrue}
 use Rattle.std.proofs.lemmas.Option.{none-some, same_Some}
-use Rattle.block_model.specs.declared.place.Place.{Place as PagePlace}
 use Rattle.block_model.specs.declared.place.Spot.{Spot}
 use Rattle.block_model.specs.declared.row.Row.{Row}
 use Rattle.page_layout.specs.PageContents.{Slot}
@@ -12,19 +11,18 @@ use Rattle.heap_rows.specs.HeapBlocks.{HasBlocks}
 use Rattle.heap_rows.specs.Heaps.{relation_of as heap_of}
 use Rattle.heap_rows.specs.RowPlaces.{slot_at}
 use Rattle.index_steps.specs.ShownRows.{row_in, rows_in, shown_by}
-use Rattle.row_versions.specs.StoredVersions.{transaction_of}
 use Rattle.snapshot_core.specs.declared.statuses.Status.{Status}
 use Rattle.snapshot_core.specs.Visibility.{in_snapshot}
 use Rattle.tx_table.specs.Statuses.{status_relation}
 use Rattle.transactions.specs.StoredRows.{OtherRelationsStay}
 use Rattle.transactions.proofs.Alike.{shown_alike}
 use Rattle.transactions.proofs.Standing.{one_blocks}
-use Rattle.table_coverage.specs.Table.{Prunes, Task}
+use Rattle.table_coverage.specs.Table.{Prunes}
 use Rattle.table_coverage.specs.TableSteps.{HasPut, SeesPlace}
 use Rattle.brin_vacuum.specs.DeadRows.{DropsFrom, DropsTheDead, living}
 use Rattle.brin_vacuum.specs.declared.standing.Standing.{Standing}
 use Rattle.brin_vacuum.specs.declared.standing.Standing.TheVariants as standings
-use Rattle.brin_vacuum.specs.TableSteps.{has_gone, task_at, task_of}
+use Rattle.brin_vacuum.specs.TableSteps.{has_gone, task_at}
 use Rattle.brin_vacuum.specs.Vacuums.{VacuumState}
 use Rattle.brin_vacuum.proofs.InTable.{none_spared}
 use Rattle.line_texts.specs.DeadRows.{IsDead}
@@ -36,7 +34,7 @@ use Rattle.store_fronts.specs.Watched.{TableIsSpared}
 use Rattle.store_parts.specs.declared.hand.Cleaning.{Cleaning}
 use Rattle.store_parts.specs.declared.hand.Hand.TheVariants as hands
 use Rattle.store_parts.specs.HandsInTables.{sight_of}
-use Rattle.store_parts.specs.Leaving.{LacksDeleters, SeenRowsStay, SeenSlotsStay, SeesSlots}
+use Rattle.store_parts.specs.Leaving.{SeenRowsStay, SeenSlotsStay}
 use Rattle.store_parts.specs.ShowsPlace.{IsPlaceOf}
 use Rattle.store_parts.specs.StoreStates.{ShownStore, hand_in}
 use Rattle.store_parts.proofs.Leads.{nothing_leaves_slots}

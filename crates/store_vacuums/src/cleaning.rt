@@ -16,7 +16,9 @@ use page_locks::{Did, Rights};
 use page_store::MachineFault;
 use snapshot_core::Snapshot;
 use store_fronts::{a_table_is_watched, dead_to_all_is_dead, oldest_speaks_for_all};
-use store_parts::{Cleaning, Completing, Hand, Parts, Stepped, fault_of, lock_waited_for, page_waited_for};
+use store_parts::{
+    Cleaning, Completing, Hand, Parts, Stepped, fault_of, lock_waited_for, page_waited_for,
+};
 use transactions::Transactions;
 
 /// A step of a vacuum's cleaning: the first one takes the summarise lock of its table; the next ones drop the rows of a block that are
