@@ -57,12 +57,15 @@ is_working layout index within below =
 
 -- ---- where an index stands
 
+not_less : (n : ℕ) → n < n → ⊥
+not_less n less = absurd (omega (arith, less))
+
 -- it stands at one place
 pub same_place : (layout : DiskLayout) (table i j n : ℕ) → slice_get (indexes_of layout table) i ≡ Some n → slice_get (indexes_of layout table) j ≡ Some n → i ≡ j
 unfolding indexes_of
 same_place layout table i j n first second =
-    let not_before = λ (below : i < j). is_ascending table 0 layout.schema.indexes i j n n below first second in
-    let not_behind = λ (below : j < i). is_ascending table 0 layout.schema.indexes j i n n below second first in
+    let not_before = λ (below : i < j). not_less n (is_ascending table 0 layout.schema.indexes i j n n below first second) in
+    let not_behind = λ (below : j < i). not_less n (is_ascending table 0 layout.schema.indexes j i n n below second first) in
     omega (arith, not_before, not_behind)
 
 -- ---- the summary that is asked for first

@@ -140,9 +140,12 @@ module _ {D : Type 0} (told : D → Told) (parts : Parts D) (n : ℕ) (fit : IsF
         let old : ShownStore = shown_of (store_of parts names hand_list) in
         let it = asked old n has p shown request first in
         let same = asked_table old n has p shown request first in
-        let there : ShowsTable old shown.database.stored (index_at parts.pages.layout request.0).table (p.tables (index_at parts.pages.layout request.0).table) = shown.tables (index_at parts.pages.layout request.0).table below in
-        (it.one, asked_first old n has p shown request first, λ m held.
-        free m (sym there.lock ∙ ap (λ (x : TableState). x.summarise_lock) (sym there.shown) ∙ ap (λ (t : ℕ). (p.tables t).summarise_lock) (sym same) ∙ held))
+        let there : ShowsTable old shown.database.stored (index_at parts.pages.layout request.0).table (p.tables (index_at parts.pages.layout request.0).table) = shown.tables (index_at parts.pages.layout request.0).table below in (
+          it.one,
+          asked_first old n has p shown request first,
+          λ m held.
+              free m (sym there.lock ∙ ap (λ (x : TableState). x.summarise_lock) (sym there.shown) ∙ ap (λ (t : ℕ). (p.tables t).summarise_lock) (sym same) ∙ held),
+        )
 
     pub short_so : StepsSo told parts parts n hands.Working (stepped.Done (replies.Refused refusals.Memory))
     short_so = at_once_so (replies.Refused refusals.Memory) (λ names hand_list has p shown.

@@ -1,5 +1,5 @@
 -- the first step of work that takes up a request, over the parts of a store
-use Rattle.std.proofs.Common.{◌≡◌, ◌≢◌, ◌⊎◌, inl, inr, ℕ, ◌+◌, ◌<◌, ◌≤◌, List, [], length, drop, Option, None, Some, refl, sym, ap, subst, ◌∙◌, arith}
+use Rattle.std.proofs.Common.{◌≡◌, ◌≢◌, ◌⊎◌, inl, inr, ℕ, ◌+◌, ◌/◌, ◌<◌, ◌≤◌, List, [], length, drop, Option, None, Some, refl, sym, ap, subst, ◌∙◌, arith}
 use Rattle.std.specs.Prelude.{slice_get, slice_set}
 use Rattle.std.proofs.lemmas.Option.{none-some}
 use Rattle.disk_trait.specs.Told.{Told}
@@ -59,15 +59,21 @@ use Rattle.store_upkeep.proofs.UpkeepStays.{waits_for_lock}
 use Rattle.store_upkeep.proofs.WorkAsked.{is_working, on_asked}
 use Rattle.store_upkeep.proofs.WorkBegins.{emptied, made_first, not_complete}
 
-begins_not_range : standings.Begins ≢ standings.AtRange
+pub begins_not_range : standings.Begins ≢ standings.AtRange
 begins_not_range is = cc
 
-begins_not_done : standings.Begins ≢ standings.Done
+pub begins_not_done : standings.Begins ≢ standings.Done
 begins_not_done is = cc
 
 -- with the first step nothing is counted
 none_counted : (standing : Standing) (before count after : ℕ) → standing ≡ standings.Begins → HasCounted standing before count after → after ≡ 0
 none_counted standing before count after begins counts = subst (λ (q : Standing). HasCounted q before count after) begins counts
+
+-- one that may take the summarise lock doesn't lack it
+pub never_lacks : (by table n : ℕ) (rights righted : List (Option ℕ)) (standing : Standing) → standing ≡ standings.Begins → ((m : ℕ) → right_of rights table ≡ Some m → m ≡ n) → RightAnswers table n rights righted standing (did.NoRight by) → ⊥
+never_lacks by table n rights righted standing begins free right =
+    let lacks : (right_of rights table ≡ Some by) × (by ≢ n) × (righted ≡ rights) = subst (λ (q : Standing). RightAnswers table n rights righted q (did.NoRight by)) begins right in
+    lacks.1 (free by lacks.0)
 
 -- ---- another session has the summarise lock
 
@@ -127,7 +133,7 @@ module _ {D : Type 0} (told : D → Told) (parts : Parts D) (n range : ℕ) (a :
 
   -- its session holds no page lock
   pub own_none : locks_of parts.locks n ≤ held_by a
-  own_none = let own = fits_there.own in omega (arith, own)
+  own_none = let own : locks_of parts.locks n ≤ 0 = fits_there.own in omega (arith, own)
 
   not_range : a.standing ≢ standings.AtRange
   not_range at = begins_not_range (sym begins ∙ at)

@@ -68,11 +68,7 @@ pub fn work_on<D: Disk + Drop>(parts: &mut Parts<D>, session: u32, requested: Re
 
 /// Work takes up the request, unless another session has the summarise lock of its table, or memory is short.
 #[tactic(none)]
-fn take_up<D: Disk + Drop>(
-    parts: &mut Parts<D>,
-    session: u32,
-    request: FirstRequest,
-) -> Stepped
+fn take_up<D: Disk + Drop>(parts: &mut Parts<D>, session: u32, request: FirstRequest) -> Stepped
     requires fit { IsFit D.told parts.old session Hand.Working }
     requires ready { parts.old.pages.failed ≡ None }
     requires first { IsFirstRequest parts.old.pages.layout parts.old.queue request }
@@ -80,6 +76,7 @@ fn take_up<D: Disk + Drop>(
     ensures survives { Survives D.told (λ passed. passed ≡ parts.old.pages.pages) parts.old.pages parts.new.pages }
 {
     other_pages_show_alike();
+    parts.pages.known();
     let layout = parts.pages.layout();
     let table = table_of(layout, request.index);
     match another_holder(&parts.rights, table, session) {
@@ -150,6 +147,8 @@ fn begin_summary<D: Disk + Drop>(
             let asker = Asker::Insert { range };
             Stepped::Done(told(asker, parts.pages.layout(), &summarise))
         }
+        Ok(Did::Blocked(_)) => unreachable!(),
+        Ok(Did::NoRight { .. }) => unreachable!(),
         // Where the disk tells its contents this can't come: no tuple is put yet.
         Err(MachineFault::Full { number, .. }) => {
             Stepped::Done(refused(parts, session, index, table, number))
@@ -158,8 +157,6 @@ fn begin_summary<D: Disk + Drop>(
             parts.locks.drop_all(session);
             undone(Hand::Working, fault_of(error))
         }
-        Ok(Did::Blocked(_)) => unreachable!(),
-        Ok(Did::NoRight { .. }) => unreachable!(),
         Err(MachineFault::Memory) => unreachable!(),
     }
 }

@@ -25,7 +25,7 @@ use Rattle.store_parts.specs.UndoneLaws.{StepsSo}
 use Rattle.store_parts.proofs.Undone.{fit_of_parts, refused_is_undone}
 use Rattle.store_upkeep.specs.Askers.{hand_for, reply_for}
 use Rattle.store_upkeep.proofs.SummariseFull.{full_so}
-use Rattle.store_upkeep.proofs.SummariseParts.{done, is_ready, lacks_right, moved, own_before, refused, summarise_takes, waits_there}
+use Rattle.store_upkeep.proofs.SummariseParts.{MachineLeft, done, is_ready, lacks_right, moved, own_before, refused, summarise_takes, waits_there}
 use Rattle.store_upkeep.proofs.SummariseTurns.{right_left}
 use Rattle.store_upkeep.proofs.SummaryReplies.{by_asker, replies_so}
 use Rattle.store_upkeep.proofs.UpkeepAt.{of_same, table_below, table_is}
@@ -137,7 +137,7 @@ returns-in-Ok-Finished g c =
     let by = by_asker parts.pages.layout (transaction_of parts.transactions.opens c.args.session) c.args.asker in
     let number = table_is parts.pages.layout c.layout.result.now c.layout.ensures c.args.summarise.index c.index-index.result c.index-index.ensures c.table_of-table.result c.table_of-table.ensures.number in
     let below = table_below parts.pages.layout c.layout.result.now c.layout.ensures c.args.summarise.index c.index-index.result c.index-index.ensures c.table_of-table.result c.table_of-table.ensures.number c.table_of-table.ensures.there in
-    let left = record { of = e.of; index = e.same_index; wish = e.same_wish; others = e.others; order = e.order; leaves = e.locks; counts = e.counts } in
+    let left : MachineLeft told parts c.args.session c.args.summarise c.step.new.pages c.step.new.locks c.step.new.self = record { of = e.of; index = e.same_index; wish = e.same_wish; others = e.others; order = e.order; leaves = e.locks; counts = e.counts } in
     let named = of_same (λ (l : DiskLayout) (i : ℕ). (table at : ℕ) → slice_get (indexes_of l table) at ≡ Some i → c.told.result ≡ reply_for c.args.asker (index_name l table at) (count_of c.step.new.self))
     parts.pages.layout c.layout-in-Ok-Finished.result.now (c.layout-in-Ok-Finished.ensures ∙ e.others.leaves.layout) c.args.summarise.index c.step.new.self.index e.same_index c.told.ensures in
     let so = done told parts c.args.session (hand_for c.args.asker) by c.args.summarise c.requires.fit below c.step.new.pages c.step.new.locks c.step.new.self left
