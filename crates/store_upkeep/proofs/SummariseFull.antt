@@ -66,7 +66,7 @@ use Rattle.store_upkeep.proofs.UpkeepAt.{IsUpkeep, IsUpkeepAt, UpkeepLeft, at_ta
 use Rattle.store_upkeep.proofs.UpkeepParts.{refused_so, with_these}
 use Rattle.store_upkeep.proofs.UpkeepSteps.{behind}
 
-abbrev is_maintaining : Task → Bool
+abbrev pub is_maintaining : Task → Bool
 is_maintaining (Maintains job at range phase) = true
 is_maintaining task = false
 
@@ -74,15 +74,15 @@ not_insert : (w : TableState) (s b k : ℕ) (r : Row) (task : Task) → IsInsert
 not_insert w s b k r _ (IndexFull number i x old new verdict) is = false≢true is
 
 -- a maintenance statement at this task is refused there, since its index is full
-record RefusedThere (w : TableState) (s : ℕ) (task : Task) (at number : ℕ) : Type 0 where
-  job : Job
-  range : ℕ
-  phase : Phase
-  is : task ≡ Maintains job at range phase
-  refused : IsMaintainRefused (index_view_at at w) s range phase
-  why : maintain_refusal at refused ≡ IsFull (IndexNumber at) number
+pub record RefusedThere (w : TableState) (s : ℕ) (task : Task) (at number : ℕ) : Type 0 where
+  pub job : Job
+  pub range : ℕ
+  pub phase : Phase
+  pub is : task ≡ Maintains job at range phase
+  pub refused : IsMaintainRefused (index_view_at at w) s range phase
+  pub why : maintain_refusal at refused ≡ IsFull (IndexNumber at) number
 
-refused_there : (w : TableState) (s : ℕ) (task : Task) (at number : ℕ) → IsTaskFull w s task at number → is_maintaining task ≡ true → RefusedThere w s task at number
+pub refused_there : (w : TableState) (s : ℕ) (task : Task) (at number : ℕ) → IsTaskFull w s task at number → is_maintaining task ≡ true → RefusedThere w s task at number
 refused_there w s _ _ _ (InsertFull b k r task at number refused why) is = absurd (not_insert w s b k r task refused is)
 refused_there w s _ _ _ (MaintainFull job at range number phase refused why) is = record { job = job; range = range; phase = phase; is = refl; refused = refused; why = why }
 
@@ -119,8 +119,13 @@ module _ (old new : ShownStore) (n : ℕ) (own : Option Open) (hand : SummariseS
 
     it : IsMaintenanceShown new shown.database.stored p n its_table statement (maintain_refusal its_at.0 there.refused)
     it = maintenance_refusal_is_shown old new shown.database.stored p n its_table its_at.0 there.range statement (p.tables its_table) there.job there.phase at_here left.others pages gives free counts_same
+<<<<<<< HEAD
         (λ in_it. none-some its_table (ap (table_in old.layout) (sym now) ∙ in_it)) refl (by.on a fit is.below p n its_at.0 shown.layout at_its_task)
         (at_its_task ∙ there.is) there.refused
+=======
+        (λ in_it. none-some its_table (ap (table_in old.layout) (sym now) ∙ in_it)) refl (is.on p n shown.layout)
+        (ap (λ (x : TableState). x.task n) at_here.shown ∙ its_at.2 ∙ there.is) there.refused
+>>>>>>> dc824e217608500052730c0bfc08e469c069b540
 
     told : Some (maintain_refusal its_at.0 there.refused) ≡ Some (IsFull (IndexNumber its_at.0) number)
     told = ap Some there.why

@@ -98,7 +98,7 @@ rests_stage : (stage : Stage) (old new : SummariseHand) → RestsAt stage old ne
 rests_stage stages.Place old new is = ap (λ (h : SummariseHand). h.stage) is
 rests_stage stage old new is = ap (λ (h : SummariseHand). h.stage) is
 
-same_count : (a b : SummariseState) → a.standing ≡ standings.AtRange → b ≡ record a { hand = b.hand } → RestsAt a.hand.stage a.hand b.hand → count_of b ≡ count_of a
+pub same_count : (a b : SummariseState) → a.standing ≡ standings.AtRange → b ≡ record a { hand = b.hand } → RestsAt a.hand.stage a.hand b.hand → count_of b ≡ count_of a
 same_count a b at same rests =
     ap count_of same ∙ ap (λ (q : Standing). count_at (record a { hand = b.hand }) q) at ∙ ap (λ (s : Stage). a.made + made_at s) (rests_stage a.hand.stage a.hand b.hand rests)
     ∙ sym (ap (λ (q : Standing). count_at a q) at)

@@ -80,17 +80,17 @@ with_queue parts pages locks rights queue = record parts { pages = pages; locks 
 pub leaves_same : {D : Type 0} (told : D → Told) (store : View D) → Leaves told store store
 leaves_same told store = record { layout = refl; tells = refl; faults = omega arith }
 
-never_shown : {D : Type 0} (told : D → Told) (old new : View D) (error : StoreError) → Refused told (Untold told old) old new error → Tells told old → old.failed ≡ None → new.failed ≡ None → ⊥
+pub never_shown : {D : Type 0} (told : D → Told) (old new : View D) (error : StoreError) → Refused told (Untold told old) old new error → Tells told old → old.failed ≡ None → new.failed ≡ None → ⊥
 never_shown told old now errors.Disk refused tells ready after = none-some _ (sym after ∙ refused.2)
 never_shown told old now (errors.Reopen faults) refused tells ready after = none-some _ (sym ready ∙ refused.0)
 never_shown told old now (errors.Damaged at) refused tells ready after = refused.3 tells
 
-has_cause : {D : Type 0} (told : D → Told) (old new : View D) (error : StoreError) → Refused told (Untold told old) old new error → HasFaultCause told old new (fault_of error)
+pub has_cause : {D : Type 0} (told : D → Told) (old new : View D) (error : StoreError) → Refused told (Untold told old) old new error → HasFaultCause told old new (fault_of error)
 has_cause told old now errors.Disk refused = refused
 has_cause told old now (errors.Reopen faults) refused = refused
 has_cause told old now (errors.Damaged at) refused = refused
 
-enters_none : {D : Type 0} (told : D → Told) (old new : StoreState D) (n : ℕ) (was hand : Hand) (error : StoreError) → new.journal.entries ≡ old.journal.entries → statement_of hand ≡ statement_of was
+pub enters_none : {D : Type 0} (told : D → Told) (old new : StoreState D) (n : ℕ) (was hand : Hand) (error : StoreError) → new.journal.entries ≡ old.journal.entries → statement_of hand ≡ statement_of was
     → StaysWhereUndone told old new n was (stepped.Undone (fault_of error) hand)
 enters_none told old now n was hand errors.Disk same statement = (same, statement)
 enters_none told old now n was hand (errors.Reopen faults) same statement = (same, statement)
