@@ -44,7 +44,7 @@ use Rattle.store_parts.proofs.Steps.{machine_turns, turn_goes_on, turn_replies}
 use Rattle.store_parts.proofs.Tables.{own_table_goes_on, same_blocks}
 use Rattle.store_upkeep.proofs.UpkeepAt.{UpkeepLeft}
 use Rattle.store_upkeep.proofs.UpkeepPoints.{IsPlain}
-use Rattle.store_upkeep.proofs.UpkeepSteps.{not_pruned, plain_enters, turned}
+use Rattle.store_upkeep.proofs.UpkeepSteps.{no_prune, plain_enters, turned}
 use Rattle.store_summaries.proofs.CompleteAt.{IsAtWorkIn, hand_is, here, pages_show, shows_so, told_is, unseen_here, w}
 
 -- what the machine's step is in the table: under this point, with this made of the account; the session is at these within the step and behind it, and holds the
@@ -156,7 +156,7 @@ module _ (old new : ShownStore) (n : ℕ) (was : Hand) (index : ℕ) (within : i
 
     turns : (turns : TurnsIn p n statement number v account_then) × (point_in turns ≡ Some point) × (turns.step.between ≡ inside)
     turns = machine_turns p n number statement (w old n was number Here account is left.had p shown) inside v point made.adds at_here.shown is.no_work (is.on p n shown.layout) made.turns.does
-        (not_pruned point made.turns.plain) made.turns.settles (inl made.turns.busy)
+        (no_prune point made.turns.plain) made.turns.settles (inl made.turns.busy)
 
     table_then : IsTaskOf old.layout number at_here.blocks new.transactions.tx stored (transaction_of new.transactions.opens n) (hand_in new.hands n) after → ShowsTable new stored number v
     table_then is_at = own_table_goes_on old new stored n number (p.tables number) v (turned n made.held after made.unnamed u) at_here.blocks at_here left.others turns.0.step refl has_then made.right

@@ -270,8 +270,7 @@ module _ {D : Type 0} (told : D → Told) (parts : Parts D) (n : ℕ) (c : Compl
             let old = old_store told parts pages locks righted n was a.index of_it.index (IsCompletingAt parts.pages.layout c) (completed_by c) fit is_it (left_by righted stays) names hand_list has in
             let shows = here old n was number (IsCompletingAt parts.pages.layout c) (completed_by c) is_it has p shown in
             let at = there old n c a got is_it has p shown in
-            let so = came law righted (did.Blocked held) does tells shows.blocks shows.has in
-            (
+            let so = came law righted (did.Blocked held) does tells shows.blocks shows.has in (
               at_still parts.pages.layout c then a b got now_b same_next so.1,
               subst (λ (x : What). Steps p n (Waits (refusals.Blocked x (name_of p held.by))) p) (sym (named number c.next stands))
                   (waits_for_page old n was a.index (IsCompletingAt parts.pages.layout c) (completed_by c) is_it has p shown fits.entries (task_of parts.pages.layout c.next a) at c.next stands held.page held.by
@@ -294,8 +293,7 @@ module _ {D : Type 0} (told : D → Told) (parts : Parts D) (n : ℕ) (c : Compl
             let old = old_store told parts pages locks righted n was a.index of_it.index (IsCompletingAt parts.pages.layout c) (completed_by c) fit is_it (left_by righted stays) names hand_list has in
             let shows = here old n was number (IsCompletingAt parts.pages.layout c) (completed_by c) is_it has p shown in
             let at = there old n c a got is_it has p shown in
-            let so = came law righted (did.NoRight by) does tells shows.blocks shows.has in
-            (
+            let so = came law righted (did.NoRight by) does tells shows.blocks shows.has in (
               at_still parts.pages.layout c then a b got now_b same_next (ap (task_of parts.pages.layout c.next) stood.1),
               subst (λ (x : What). Steps p n (Waits (refusals.Blocked x (name_of p by))) p) (sym named)
                   (waits_for_lock old n was a.index (IsCompletingAt parts.pages.layout c) (completed_by c) is_it has p shown fits.entries (task_of parts.pages.layout c.next a) at by

@@ -119,13 +119,8 @@ module _ (old new : ShownStore) (n : ℕ) (own : Option Open) (hand : SummariseS
 
     it : IsMaintenanceShown new shown.database.stored p n its_table statement (maintain_refusal its_at.0 there.refused)
     it = maintenance_refusal_is_shown old new shown.database.stored p n its_table its_at.0 there.range statement (p.tables its_table) there.job there.phase at_here left.others pages gives free counts_same
-<<<<<<< HEAD
         (λ in_it. none-some its_table (ap (table_in old.layout) (sym now) ∙ in_it)) refl (by.on a fit is.below p n its_at.0 shown.layout at_its_task)
         (at_its_task ∙ there.is) there.refused
-=======
-        (λ in_it. none-some its_table (ap (table_in old.layout) (sym now) ∙ in_it)) refl (is.on p n shown.layout)
-        (ap (λ (x : TableState). x.task n) at_here.shown ∙ its_at.2 ∙ there.is) there.refused
->>>>>>> dc824e217608500052730c0bfc08e469c069b540
 
     told : Some (maintain_refusal its_at.0 there.refused) ≡ Some (IsFull (IndexNumber its_at.0) number)
     told = ap Some there.why

@@ -51,13 +51,8 @@ use Rattle.store_parts.proofs.Tables.{own_table_goes_on, same_blocks}
 use Rattle.store_upkeep.proofs.UpkeepAt.{IsUpkeep, UpkeepLeft, at_task, counted, hand_is, here, pages_show, table, told_is, unseen_here, upkeep_shows, w}
 use Rattle.store_upkeep.proofs.UpkeepPoints.{IsPlain}
 
-<<<<<<< HEAD
-no_prune : (point : Point) → IsPlain point → point ≢ points.Prune
+pub no_prune : (point : Point) → IsPlain point → point ≢ points.Prune
 no_prune point plain is = subst IsPlain is plain
-=======
-pub not_pruned : (point : Point) → IsPlain point → point ≢ points.Prune
-not_pruned point plain is = subst IsPlain is plain
->>>>>>> dc824e217608500052730c0bfc08e469c069b540
 
 -- a step under a plain name enters nothing
 pub plain_enters : (point : Point) (p : Place) (n : ℕ) (hand : HandAt) → IsPlain point → MakesAt point p n hand (course_of p hand)
