@@ -24,8 +24,8 @@ pub record IsBounded (w : TableState) : Type 0 where
   pub rows : (b k : ℕ) (r : Row) → w.row b k ≡ Some r → k < most_slots
   pub tuples : (i : ℕ) → i < w.indexes → (x : Spot) (t : IndexTuple) → (w.index i).tuple x ≡ Some t → x.slot < most_slots
 
--- How far a session's statement goes, as it stands between its steps: a scan no further than a table may reach, and a delete has no more rows to
--- mark than a list has in memory. Of the others the table itself tells it.
+-- How far a session's statement goes at most, as it stands between its steps: a scan no further than a table may reach, and a delete has no more rows
+-- to mark than a list has in memory. How far any other one goes, its table tells.
 abbrev pub IsTaskBounded : Task → Type 0
 IsTaskBounded (Scans scan) = scan.extent ≤ most_blocks
 IsTaskBounded (Marks scan ids) = length ids < 2 ^ 63

@@ -1,0 +1,10 @@
+pub mod CompleteAt
+pub mod CompletePoints
+pub mod CompleteSteps
+pub mod CompleteStays
+pub mod CompleteParts
+pub mod Summaries
+pub mod CompleteTurns
+pub mod SummarySteps
+pub mod IndexEnds
+pub mod CompleteFull
