@@ -21,7 +21,7 @@ use Rattle.transactions.specs.TransactionsState.{TransactionsState}
 use Rattle.index_contents.specs.IndexContents.{relation_of as index_relation}
 use Rattle.table_coverage.specs.Accounts.{Account}
 use Rattle.table_coverage.specs.InOneIndex.{DoesAt}
-use Rattle.table_coverage.specs.Machines.{ShownTable, Unseen, table_state, task_turned}
+use Rattle.table_coverage.specs.Machines.{ShownTable, Unseen, table_state}
 use Rattle.table_coverage.specs.Table.{Resting, TableState, Task}
 use Rattle.table_coverage.specs.TableSteps.{Settles}
 use Rattle.table_coverage.proofs.Views.{pick_other, pick_same}
