@@ -1,6 +1,6 @@
 //! Scripts of whole lines.
 
-use crate::row_runs::{Script, check_scripts};
+use script_rows::{Script, check_scripts};
 use std::test::Fail;
 
 /// The first words of a small store.
@@ -288,7 +288,7 @@ s select u -> s row 1.3 7 | s rows 1",
 ];
 
 /// Lines that aren't read, aren't taken, or say nothing.
-const REFUSALS: [Script; 4] = [
+const REFUSALS: [Script; 3] = [
     (
         "refusals_name_their_place",
         PAIRS,
@@ -323,14 +323,6 @@ s1 finish -> s1 begun 1
 s1 start begin -> s1 error 5
 s1 start insert t 5 -> s1 started
 s1 rollback -> s1 error 12",
-    ),
-    (
-        "words_that_come_later_are_refused",
-        PAIRS,
-        "m vacuum t -> - error 1 2
-m work -> - error 1 2
-m start vacuum t -> - error 1 8
-m start work -> - error 1 8",
     ),
     (
         "empty_lines_and_comments_say_nothing",

@@ -12,9 +12,9 @@ mod limit_rows;
 #[cfg(test)]
 mod line_rows;
 #[cfg(test)]
-mod row_runs;
-#[cfg(test)]
 mod step_rows;
+#[cfg(test)]
+mod upkeep_rows;
 #[cfg(test)]
 mod word_rows;
 

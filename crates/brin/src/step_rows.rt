@@ -1,6 +1,6 @@
 //! Scripts whose statements are started, and stepped beside others.
 
-use crate::row_runs::{Script, check_scripts};
+use script_rows::{Script, check_scripts};
 use std::test::Fail;
 
 /// The first words of a small store: an index has a metapage, a page of its map and two of tuples.

@@ -1,7 +1,7 @@
 //! Command lines: those that ask for a run, and those that ask for nothing.
 
-use crate::row_runs::{Row, check_words, ran};
 use block_model::Words;
+use script_rows::{Row, check_words, ran};
 use std::test::Fail;
 
 /// Command lines that ask for a run, one a line.
@@ -131,7 +131,6 @@ run|table t(a int8,b int8)|index i on t(a minmax, b minmax)
 run|table t(a int8,b int8)|index i on t(a minmax,)
 run|table t(a int8,b int8)|index i on t()
 run|table t(a int8,b int8,c int8,d int8)|index i on t(a bloom 16384 1,b bloom 16384 1,c bloom 16384 1,d bloom 16384 1)
-run|table t(a int8)|index i on t(a minmax) autosummarize
 run|table t(a int8) 
 run| table t(a int8)
 run|table  t(a int8)

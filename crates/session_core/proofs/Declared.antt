@@ -12,7 +12,7 @@ use Rattle.block_model.specs.ValuesOfKind.{IsValueOf, has_kind}
 use Rattle.heap_rows.specs.Heaps.{kinds_at, no_table}
 use Rattle.page_layout.specs.HeapForms.{kinds_of}
 use Rattle.page_layout.specs.RowBytes.{HaveKinds}
-use Rattle.statements.specs.StatementFits.{AreValuesFor, IsIndexOf, IsInsertFor}
+use Rattle.statements.specs.StatementFits.{AreValuesFor, IsIndexOf, IsInsertFor, IsTableOf}
 use Rattle.store_layout.specs.DiskLayout.{DiskLayout}
 
 one_kind : (kind : Kind) (v : Value) → IsValueOf kind v → has_kind kind v ≡ true
@@ -37,3 +37,6 @@ insert_below schema table row h = slice_get_within schema.tables table h.into h.
 
 pub index_below : (schema : Schema) (n : ℕ) → IsIndexOf schema n → n < length schema.indexes
 index_below schema n h = slice_get_within schema.indexes n h.0 h.1
+
+pub table_below : (schema : Schema) (n : ℕ) → IsTableOf schema n → n < length schema.tables
+table_below schema n h = slice_get_within schema.tables n h.0 h.1

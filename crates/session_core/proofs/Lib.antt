@@ -6,4 +6,5 @@ pub mod Taking
 pub mod Naming
 pub mod New
 pub mod Stops
+pub mod Summaries
 pub mod Ending

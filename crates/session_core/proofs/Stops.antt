@@ -45,3 +45,7 @@ no_put (hands.Marks marking) not = tt
 no_put (hands.Explains explain) not = tt
 no_put (hands.Summarises summarise) not = tt
 no_put (hands.Desummarises desummarise) not = tt
+no_put (hands.Cleans cleaning) not = tt
+no_put (hands.Completes completing) not = tt
+no_put hands.Working not = tt
+no_put (hands.Works requested) not = tt

@@ -11,6 +11,7 @@ mod sessions;
 mod steps;
 mod store;
 mod submitting;
+mod vacuuming;
 
 pub use faults::SessionFault;
 pub use store::Store;

@@ -17,8 +17,10 @@ use store_inserts::{insert_on, put_row};
 use store_marks::mark;
 use store_parts::{Hand, Parts, Step, Stepped, StoreFault};
 use store_scans::{begin_delete, begin_select, delete_on, select_on};
+use store_summaries::complete_on;
 use store_transactions::{begin, commit, roll_back};
-use store_upkeep::{desummarise_on, explain_on, summarise_on};
+use store_upkeep::{begin_work, desummarise_on, explain_on, summarise_on, work_on};
+use store_vacuums::clean_on;
 
 /// Makes the next step of the statement; what is left of it comes into `left`. The session's spare machine serves the next row of its table.
 pub(crate) fn step_of<D: Disk + Drop>(
@@ -73,6 +75,10 @@ fn step_on<D: Disk + Drop>(
         Hand::Explains(explain) => explain_on(parts, session, explain),
         Hand::Summarises(summarise) => summarise_on(parts, session, summarise),
         Hand::Desummarises(desummarise) => desummarise_on(parts, session, desummarise),
+        Hand::Cleans(cleaning) => clean_on(parts, session, cleaning),
+        Hand::Completes(completing) => complete_on(parts, session, completing),
+        Hand::Working => begin_work(parts, session),
+        Hand::Works(requested) => work_on(parts, session, requested),
     }
 }
 

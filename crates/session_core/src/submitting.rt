@@ -6,6 +6,7 @@ ghost use Rattle.line_texts.specs.LineTexts.{block_refusal, may_want_memory};
 ghost use Rattle.statements.specs.StatementFits.{IsQueryFor, IsStatementFor};
 ghost use Rattle.session_core.specs.Submitting.{TakesHand, begin_refusal, end_refusal, request_refusal, standing_refusal};
 
+use crate::vacuuming::vacuum_hand;
 use block_model::{NoMemory, Query, Refusal, Values};
 use brin_desummarise::Desummarise;
 use brin_scan::Explain;
@@ -85,7 +86,8 @@ fn request_refusal(standing: Standing) -> Option<Refusal>
     }
 }
 
-/// The statement in hand, before its first step. A begin, an explain and maintenance take their memory here. After a refusal nothing is changed.
+/// The statement in hand, before its first step. A begin, an explain and maintenance take their memory here, but for work, which doesn't know its
+/// range yet. After a refusal nothing is changed.
 pub(crate) fn hand_for<D: Disk + Drop>(
     parts: &mut Parts<D>,
     statement: Statement,
@@ -105,7 +107,8 @@ pub(crate) fn hand_for<D: Disk + Drop>(
         Statement::Explain(query) => explain_hand(parts, query),
         Statement::Summarize { index, block } => summarise_hand(parts, index, block),
         Statement::Desummarize { index, block } => desummarise_hand(parts, index, block),
-        Statement::Vacuum { .. } | Statement::Work => unreachable!(),
+        Statement::Vacuum { table } => vacuum_hand(parts, table),
+        Statement::Work => Ok(Hand::Working),
     }
 }
 

@@ -1,27 +1,24 @@
 -- The first step of a statement, with which it begins in its table: how many come behind it.
-use Rattle.std.proofs.Common.{◌≡◌, ◌≢◌, ◌⊎◌, inl, inr, ⊎_elim, ℕ, suc, ◌≤◌, ◌<◌, false, Some, refl, sym, ap, ◌∙◌, subst}
+use Rattle.std.proofs.Common.{◌≡◌, ◌≢◌, ◌⊎◌, inl, inr, ⊎_elim, ℕ, suc, ◌≤◌, false, Some, refl, sym, ◌∙◌, subst}
 use Rattle.std.proofs.lemmas.Bool.{false≢true}
 use Rattle.std.proofs.lemmas.Option.{none-some}
 use Rattle.block_model.specs.declared.reply.Point.{Point}
 use Rattle.block_model.specs.declared.row.Row.{Row}
 use Rattle.coverage.specs.Statements.{Empty, NotBuilding}
 use Rattle.table_coverage.specs.GoingOn.{IsInserting, StepsAlone}
-use Rattle.table_coverage.specs.Table.{Job, EachRange, OneRange, WholeRanges, Desummarising, Index, TableScan, Task, Resting, Reaches, Considers, Maintains, Prunes, Scans, TableState}
+use Rattle.table_coverage.specs.Table.{Job, EachRange, OneRange, WholeRanges, Desummarising, TableScan, Task, Resting, Reaches, Considers, Maintains, Prunes, SweepsFrom, Scans, TableState}
 use Rattle.table_coverage.specs.TableCovered.{IsTableKept}
 use Rattle.table_coverage.specs.TablePoints.{does_point}
 use Rattle.table_coverage.specs.TableSteps.{AsksSummary, BeginsScan, BeginsWith, Blocked, Conflicts, Desummarize, Does, Inserted, InsertCompletes, InsertGoes, Judges, JudgesNext}
-use Rattle.table_coverage.specs.TableSteps.{MaintainCompletes, MaintainGoes, MarksRow, NextIndex, OnlyTurns, Onward, PrunesBlock, PutsRow, ReadsBlock, RefusesInsert, RefusesMaintain, RefusesRow}
-use Rattle.table_coverage.specs.TableSteps.{RefusesScan, RefusesVacuum, RestartsIndex, SameIndexes, SameRows, ScanBegins, Scanned, Stays, Summarize, SummarizeOne, SweepsPage, TableStep, TakesLock, TaskTurns, ToAsk, ToIndex, ToMarks, ToRange, Transacts, Vacuum, Work}
+use Rattle.table_coverage.specs.TableSteps.{MaintainCompletes, MaintainGoes, MarksRow, NextIndex, OnlyTurns, Onward, PrunesBlock, Pruned, PutsRow, ReadsBlock, RefusesInsert, RefusesMaintain, RefusesRow}
+use Rattle.table_coverage.specs.TableSteps.{RefusesScan, RefusesVacuum, RestartsIndex, SameIndexes, SameRows, ScanBegins, Scanned, Stays, Summarize, SummarizeOne, SweepsPage, Swept, TableStep, TakesLock, TaskTurns, ToAsk, ToIndex, ToMarks, ToPage, ToRange, Transacts, Vacuum, Work}
 use Rattle.table_coverage.proofs.InsertsEndAlone.{insert_within}
 use Rattle.table_coverage.proofs.StepDid.{step_settles}
 use Rattle.table_coverage.proofs.TableSeen.{table_step_kept}
-use Rattle.step_bounds.specs.Bounds.{IsBounded, IsTaskBounded, most_blocks, most_pages}
-use Rattle.step_bounds.proofs.Sizes.{few_from, few_steps, insert_few}
-
--- what a vacuum begins with
-abbrev pub IsNoVacuum : Task → Type 0
-IsNoVacuum (Prunes extent next) = ⊥
-IsNoVacuum task = Unit {0}
+use Rattle.step_bounds.specs.Bounds.{IsBounded, IsTaskBounded, most_blocks}
+use Rattle.step_bounds.proofs.FewSteps.{few_from}
+use Rattle.step_bounds.proofs.Sizes.{few_steps, insert_few}
+use Rattle.step_bounds.proofs.StaysBounded.{same_bounds}
 
 abbrev IsOther : Task → Type 0
 IsOther Resting = ⊥
@@ -87,31 +84,26 @@ module _ (u : TableState) where
       let one = lists.only id (inl refl) in
       absurd (false≢true (sym (none one.0 one.1) ∙ one.3))
 
-  begins_to : (w : TableState) (first t : Task) → BeginsWith w first → IsNoVacuum first → Onward u first t → IsTaskBounded t
-  begins_to w _ t (Summarize at below) real on = subst IsTaskBounded (sym (considers_to (EachRange w.blocks) at 0 t (λ whole. whole) on)) tt
-  begins_to w _ t (SummarizeOne at only below) real on = subst IsTaskBounded (sym (considers_to (OneRange w.blocks only) at only t (λ whole. whole) on)) tt
-  begins_to w _ t (Work at only below) real on = subst IsTaskBounded (sym (considers_to (OneRange w.blocks only) at only t (λ whole. whole) on)) tt
-  begins_to w _ t (Desummarize at only below) real on = subst IsTaskBounded (sym (considers_to (Desummarising only) at only t (λ whole. whole) on)) tt
-  begins_to w _ t Vacuum real on = absurd real
+  sweeps_to : (at from : ℕ) (t : Task) → Onward u (SweepsFrom at from) t → IsTaskBounded t
+  sweeps_to at from _ (Stays _ has) = absurd has
+  sweeps_to at from _ (ToPage _ _ m p next) = tt
+  sweeps_to at from _ (Swept _ _ none some) = tt
 
--- ---- the table is as large as it was
+  prunes_to : (extent next : ℕ) (t : Task) → Onward u (Prunes extent next) t → IsTaskBounded t
+  prunes_to extent next _ (Stays _ has) = tt
+  prunes_to extent next t (Pruned _ _ _ all more) = sweeps_to 0 0 t more
 
-same_bounds : (w v : TableState) → SameRows w v → SameIndexes w v → IsBounded w → IsBounded v
-same_bounds w v rows same bounded =
-    let before = λ (i : ℕ) (less : i < v.indexes). subst (λ n. i < n) rows.layout.indexes less in
-    record {
-      indexes = subst (λ n. n ≤ 8) (sym rows.layout.indexes) bounded.indexes;
-      blocks = subst (λ n. n ≤ most_blocks) (sym rows.blocks) bounded.blocks;
-      ranges = λ i less. subst (λ (x : Index). x.pages_per_range ≤ most_blocks) (sym (same.index i)) (bounded.ranges i (before i less));
-      pages = λ i less. subst (λ (x : Index). x.pages.limit ≤ most_pages) (sym (same.index i)) (bounded.pages i (before i less));
-      rows = λ b k r is. bounded.rows b k r (sym (rows.row b k) ∙ is);
-      tuples = λ i less x t is. bounded.tuples i (before i less) x t (ap (λ (y : Index). y.tuple x) (sym (same.index i)) ∙ is);
-    }
+  begins_to : (w : TableState) (first t : Task) → BeginsWith w first → Onward u first t → IsTaskBounded t
+  begins_to w _ t (Summarize at below) on = subst IsTaskBounded (sym (considers_to (EachRange w.blocks) at 0 t (λ whole. whole) on)) tt
+  begins_to w _ t (SummarizeOne at only below) on = subst IsTaskBounded (sym (considers_to (OneRange w.blocks only) at only t (λ whole. whole) on)) tt
+  begins_to w _ t (Work at only below) on = subst IsTaskBounded (sym (considers_to (OneRange w.blocks only) at only t (λ whole. whole) on)) tt
+  begins_to w _ t (Desummarize at only below) on = subst IsTaskBounded (sym (considers_to (Desummarising only) at only t (λ whole. whole) on)) tt
+  begins_to w _ t Vacuum on = prunes_to w.blocks 0 t on
 
 -- ---- so many steps come behind the first one
 
 module _ (s n : ℕ) (w v : TableState) (step : TableStep s w v) (p : Point) (point : does_point s w step.between step.does ≡ Some p) (rests : w.task s ≡ Resting) (kept : IsTableKept w) (bounded : IsBounded w)
-    (real : IsNoVacuum (step.between.task s)) (going : v.task s ≢ Resting) (alone : StepsAlone s n v) where
+    (going : v.task s ≢ Resting) (alone : StepsAlone s n v) where
   abbrev u : TableState
   u = step.between
 
@@ -127,7 +119,7 @@ module _ (s n : ℕ) (w v : TableState) (step : TableStep s w v) (p : Point) (po
 
   few_bounded : SameRows w u → SameIndexes w u → OnlyTurns u v → IsTaskBounded (v.task s) → n ≤ few_steps
   few_bounded rows same only task =
-      few_from s n v kept_v (same_bounds u v only.rows only.indexes (same_bounds w u rows same bounded)) (v.task s) refl going task alone
+      few_from s n v kept_v (same_bounds u v only.rows only.indexes (same_bounds w u rows same bounded)) alone (v.task s) refl going task
 
   few_behind : Begun s w u → n ≤ few_steps
   few_behind (PutsItsRow b k r is indexes) =
@@ -139,7 +131,7 @@ module _ (s n : ℕ) (w v : TableState) (step : TableStep s w v) (p : Point) (po
       (reaches_to u b k r 0 (v.task s) on.0)
   few_behind (TakesItsLock first begins is rows same) =
       let on = goes_on first is in
-      few_bounded rows same on.1 (begins_to u w first (v.task s) begins (subst IsNoVacuum is real) on.0)
+      few_bounded rows same on.1 (begins_to u w first (v.task s) begins on.0)
   few_behind (BeginsItsScan scan begins is rows same) =
       let on = goes_on (Scans scan) is in
       few_bounded rows same on.1 (scans_to u scan (v.task s) (subst (λ e. e ≤ most_blocks) (sym begins.extent) bounded.blocks) begins.found on.0)

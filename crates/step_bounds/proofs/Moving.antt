@@ -1,5 +1,5 @@
 -- Steps of a statement at places as steps in its table: how many there are.
-use Rattle.std.proofs.Common.{◌≡◌, ◌≢◌, ◌⊎◌, inl, inr, ⊎_elim, ℕ, zero, suc, ◌-◌, ◌^◌, ◌≤◌, ◌<◌, Some, None, refl, sym, ap, ◌∙◌, subst, arith}
+use Rattle.std.proofs.Common.{◌≡◌, ◌≢◌, ◌⊎◌, inl, inr, ⊎_elim, ℕ, zero, suc, ◌-◌, ◌^◌, ◌≤◌, ◌<◌, Some, length, refl, sym, ap, ◌∙◌, subst, arith}
 use Rattle.std.proofs.lemmas.Option.{same_Some}
 use Rattle.block_model.specs.declared.reply.Point.{Point}
 use Rattle.statements.specs.declared.statement.Statement.{Statement}
@@ -8,14 +8,14 @@ use Rattle.store_layout.specs.DiskLayout.{DiskLayout}
 use Rattle.table_coverage.specs.GoingOn.{StepsAlone, LastAlone, OneMoreAlone}
 use Rattle.table_coverage.specs.Table.{Task, Resting, Reaches, Asks, Inserts, Considers, Maintains, Prunes, SweepsFrom, Sweeps, Restarts, Scans, Marks, TableState}
 use Rattle.index_steps.specs.IndexTuples.{index_at}
-use Rattle.line_texts.specs.Beginnings.{Begins, IsIn}
+use Rattle.line_texts.specs.Beginnings.{IsIn, IsWorkIn}
 use Rattle.line_texts.specs.Place.{Hand, Place}
 use Rattle.line_texts.specs.StatementSteps.{GoesOn, Moved, Steps, StepsTo}
 use Rattle.line_texts.specs.Stops.{MovedTo, OnTo, Still}
-use Rattle.line_texts.specs.Turns.{Turn, point_of}
-use Rattle.step_bounds.specs.Moves.{IsBoundedAt, IsCounted, MovedIn, OneFurther, StillThere}
-use Rattle.step_bounds.proofs.Begun.{IsNoVacuum, few_after}
-use Rattle.step_bounds.proofs.Sizes.{few_from}
+use Rattle.line_texts.specs.Turns.{Recounts, Turn, point_of}
+use Rattle.step_bounds.specs.Moves.{IsBoundedAt, IsInOneTable, MovedIn, OneFurther, StillThere}
+use Rattle.step_bounds.proofs.Begun.{few_after}
+use Rattle.step_bounds.proofs.FewSteps.{few_from}
 
 -- ---- by their number
 
@@ -32,48 +32,62 @@ one_behind n _ _ _ r point (OneFurther k p m q first before more) step = OneFurt
 abbrev InHand : Place → ℕ → Statement → Type 0
 InHand p n statement = (hand : Hand) × (p.hands n ≡ Some hand) × (hand.statement ≡ statement)
 
--- there is one such table, as long as the layout is the same
-one_table : (p q : Place) (n : ℕ) (statement : Statement) (i j : ℕ) → IsCounted statement → q.layout ≡ p.layout → IsIn p n statement i → IsIn q n statement j → j ≡ i
-one_table p q n statements.Begin i j counted layout on on' = absurd on
-one_table p q n statements.Commit i j counted layout on on' = absurd on
-one_table p q n statements.Rollback i j counted layout on on' = absurd on
-one_table p q n (statements.Insert table values) i j counted layout on on' = on' ∙ sym on
-one_table p q n (statements.Select query) i j counted layout on on' = on' ∙ sym on
-one_table p q n (statements.Delete query) i j counted layout on on' = on' ∙ sym on
-one_table p q n (statements.Explain query) i j counted layout on on' = on' ∙ sym on
-one_table p q n (statements.Summarize index block) i j counted layout on on' = on' ∙ ap (λ (d : DiskLayout). (index_at d index).table) layout ∙ sym on
-one_table p q n (statements.Desummarize index block) i j counted layout on on' = on' ∙ ap (λ (d : DiskLayout). (index_at d index).table) layout ∙ sym on
-one_table p q n (statements.Vacuum table) i j counted layout on on' = absurd counted
-one_table p q n statements.Work i j counted layout on on' = absurd counted
+-- the statement makes its steps in this table, and in no other
+abbrev IsInAlone : Place → ℕ → Statement → ℕ → Type 0
+IsInAlone p n statements.Work table = (table < length p.layout.schema.tables) × ((i : ℕ) → IsWorkIn p n i → i ≡ table)
+IsInAlone p n statement table = IsIn p n statement table
 
-still_in : (p q : Place) (n : ℕ) (statement : Statement) (i : ℕ) → IsCounted statement → q.layout ≡ p.layout → IsIn p n statement i → IsIn q n statement i
-still_in p q n statements.Begin i counted layout on = absurd on
-still_in p q n statements.Commit i counted layout on = absurd on
-still_in p q n statements.Rollback i counted layout on = absurd on
-still_in p q n (statements.Insert table values) i counted layout on = on
-still_in p q n (statements.Select query) i counted layout on = on
-still_in p q n (statements.Delete query) i counted layout on = on
-still_in p q n (statements.Explain query) i counted layout on = on
-still_in p q n (statements.Summarize index block) i counted layout on = on ∙ ap (λ (d : DiskLayout). (index_at d index).table) (sym layout)
-still_in p q n (statements.Desummarize index block) i counted layout on = on ∙ ap (λ (d : DiskLayout). (index_at d index).table) (sym layout)
-still_in p q n (statements.Vacuum table) i counted layout on = absurd counted
-still_in p q n statements.Work i counted layout on = absurd counted
+in_alone : (p : Place) (n : ℕ) (statement : Statement) (table : ℕ) → IsInOneTable p n statement → IsIn p n statement table → IsInAlone p n statement table
+in_alone p n statements.Begin table one on = on
+in_alone p n statements.Commit table one on = on
+in_alone p n statements.Rollback table one on = on
+in_alone p n (statements.Insert into values) table one on = on
+in_alone p n (statements.Select query) table one on = on
+in_alone p n (statements.Delete query) table one on = on
+in_alone p n (statements.Explain query) table one on = on
+in_alone p n (statements.Summarize index block) table one on = on
+in_alone p n (statements.Desummarize index block) table one on = on
+in_alone p n (statements.Vacuum of) table one on = on
+in_alone p n statements.Work table one on = ((one table table on on).0, λ i there. (one table i on there).1)
 
--- no other statement begins as a vacuum does
-no_vacuum : (p : Place) (n : ℕ) (w : TableState) (statement : Statement) (task : Task) → IsCounted statement → Begins p n w statement task → IsNoVacuum task
-no_vacuum p n w statements.Begin task counted begins = absurd begins
-no_vacuum p n w statements.Commit task counted begins = absurd begins
-no_vacuum p n w statements.Rollback task counted begins = absurd begins
-no_vacuum p n w (statements.Insert table values) task counted (inl rests) = subst IsNoVacuum (sym rests) tt
-no_vacuum p n w (statements.Insert table values) task counted (inr begins) = subst IsNoVacuum (sym begins.4) tt
-no_vacuum p n w (statements.Select query) task counted begins = subst IsNoVacuum (sym begins.2) tt
-no_vacuum p n w (statements.Delete query) task counted begins = subst IsNoVacuum (sym begins.2) tt
-no_vacuum p n w (statements.Explain query) task counted begins = subst IsNoVacuum (sym begins.2) tt
-no_vacuum p n w (statements.Summarize index None) task counted begins = subst IsNoVacuum (sym begins.2) tt
-no_vacuum p n w (statements.Summarize index (Some block)) task counted begins = subst IsNoVacuum (sym begins.2) tt
-no_vacuum p n w (statements.Desummarize index block) task counted begins = subst IsNoVacuum (sym begins.2) tt
-no_vacuum p n w (statements.Vacuum table) task counted begins = absurd counted
-no_vacuum p n w statements.Work task counted begins = absurd counted
+same_table : (p : Place) (n : ℕ) (statement : Statement) (table i : ℕ) → IsInAlone p n statement table → IsIn p n statement i → i ≡ table
+same_table p n statements.Begin table i alone on = absurd on
+same_table p n statements.Commit table i alone on = absurd on
+same_table p n statements.Rollback table i alone on = absurd on
+same_table p n (statements.Insert into values) table i alone on = on ∙ sym alone
+same_table p n (statements.Select query) table i alone on = on ∙ sym alone
+same_table p n (statements.Delete query) table i alone on = on ∙ sym alone
+same_table p n (statements.Explain query) table i alone on = on ∙ sym alone
+same_table p n (statements.Summarize index block) table i alone on = on ∙ sym alone
+same_table p n (statements.Desummarize index block) table i alone on = on ∙ sym alone
+same_table p n (statements.Vacuum of) table i alone on = on ∙ sym alone
+same_table p n statements.Work table i alone on = alone.1 i on
+
+-- it stays there, as long as the layout is the same and it is at a step there
+module _ (p q : Place) (n table : ℕ) (layout : q.layout ≡ p.layout) (others : (i : ℕ) → (i ≡ table) ⊎ Recounts (p.tables i) (q.tables i)) (going : (q.tables table).task n ≢ Resting) where
+  work_stays : IsInAlone p n statements.Work table → (i : ℕ) → IsWorkIn q n i → i ≡ table
+  work_stays alone i (inl (below, at_work)) = ⊎_elim
+      (λ (same : i ≡ table). same)
+      (λ (recounts : Recounts (p.tables i) (q.tables i)).
+      alone.1 i (inl (
+        subst (λ (d : DiskLayout). i < length d.schema.tables) layout below,
+        λ rests. at_work (ap (λ (w : TableState). w.task n) recounts.1 ∙ rests),
+      )))
+      (others i)
+  work_stays alone i (inr (rest, asked)) = absurd (going (rest table (subst (λ (d : DiskLayout). table < length d.schema.tables) (sym layout) alone.0)))
+
+  stays_alone : (statement : Statement) → IsInAlone p n statement table → IsInAlone q n statement table
+  stays_alone statements.Begin on = on
+  stays_alone statements.Commit on = on
+  stays_alone statements.Rollback on = on
+  stays_alone (statements.Insert into values) on = on
+  stays_alone (statements.Select query) on = on
+  stays_alone (statements.Delete query) on = on
+  stays_alone (statements.Explain query) on = on
+  stays_alone (statements.Summarize index block) on = on ∙ ap (λ (d : DiskLayout). (index_at d index).table) (sym layout)
+  stays_alone (statements.Desummarize index block) on = on ∙ ap (λ (d : DiskLayout). (index_at d index).table) (sym layout)
+  stays_alone (statements.Vacuum of) on = on
+  stays_alone statements.Work alone = (subst (λ (d : DiskLayout). table < length d.schema.tables) (sym layout) alone.0, work_stays alone)
 
 -- ---- a step of it
 
@@ -99,17 +113,24 @@ further p n statement point q hand step =
     subst (λ (s : Statement). GoesFurther p n s point q) (ap (λ (h : Hand). h.statement) (same_Some _ _ (sym step.in_hand ∙ hand.1)) ∙ hand.2)
     (further_by p n step.hand point q step.steps)
 
-module _ (n : ℕ) (statement : Statement) (counted : IsCounted statement) where
-  alone_from : (k : ℕ) (p r : Place) (table : ℕ) → InHand p n statement → IsIn p n statement table → MovedIn n (suc k) p r → StepsAlone n (suc k) (p.tables table)
-  alone_from zero p r table hand on (OneFurther _ _ q _ point step (StillThere _)) =
+module _ (n : ℕ) (statement : Statement) where
+  -- it takes this step in its table, and is there alone behind it
+  further_alone : (p : Place) (point : Point) (q : Place) (table : ℕ) → IsInAlone p n statement table → (to : GoesFurther p n statement point q)
+      → (to.turn.table ≡ table) × IsInAlone q n statement to.turn.table
+  further_alone p point q table alone to =
+      let same = same_table p n statement table to.turn.table alone to.turn.on in
+      (same, stays_alone p q n to.turn.table to.layout to.turn.others to.going statement (subst (IsInAlone p n statement) (sym same) alone))
+
+  alone_from : (k : ℕ) (p r : Place) (table : ℕ) → InHand p n statement → IsInAlone p n statement table → MovedIn n (suc k) p r → StepsAlone n (suc k) (p.tables table)
+  alone_from zero p r table hand alone (OneFurther _ _ q _ point step (StillThere _)) =
       let to = further p n statement point q hand step in
-      subst (λ i. StepsAlone n 1 (p.tables i)) (one_table p p n statement table to.turn.table counted refl on to.turn.on)
+      subst (λ i. StepsAlone n 1 (p.tables i)) (further_alone p point q table alone to).0
       (LastAlone (p.tables to.turn.table) (q.tables to.turn.table) to.turn.step point to.named)
-  alone_from (suc k) p r table hand on (OneFurther _ _ q _ point step more) =
+  alone_from (suc k) p r table hand alone (OneFurther _ _ q _ point step more) =
       let to = further p n statement point q hand step in
-      subst (λ i. StepsAlone n (suc (suc k)) (p.tables i)) (one_table p p n statement table to.turn.table counted refl on to.turn.on)
-      (OneMoreAlone (suc k) (p.tables to.turn.table) (q.tables to.turn.table) to.turn.step point to.named to.going
-      (alone_from k q r to.turn.table to.next (still_in p q n statement to.turn.table counted to.layout to.turn.on) more))
+      let one = further_alone p point q table alone to in
+      subst (λ i. StepsAlone n (suc (suc k)) (p.tables i)) one.0
+      (OneMoreAlone (suc k) (p.tables to.turn.table) (q.tables to.turn.table) to.turn.step point to.named to.going (alone_from k q r to.turn.table to.next one.1 more))
 
 -- ---- how many
 
@@ -154,18 +175,14 @@ module _ (n : ℕ) (statement : Statement) (p : Place) (hand : InHand p n statem
       let v = q.tables to.turn.table in
       let kept = within.kept to.turn.table to.turn.on in
       let bounded = within.bounded to.turn.table to.turn.on in
-      let alone = alone_from n statement within.counted k q r to.turn.table to.next (still_in p q n statement to.turn.table within.counted to.layout to.turn.on) more in
+      let one = further_alone n statement p point q to.turn.table (in_alone p n statement to.turn.table within.one_table to.turn.on) to in
+      let alone = alone_from n statement k q r to.turn.table to.next one.1 more in
       ⊎_elim
-      (λ (rests : w.task n ≡ Resting). ⊎_elim
-      (λ (not : w.task n ≢ Resting). absurd (not rests))
-      (λ (begins : Begins p n w statement (to.turn.step.between.task n)).
-      few (suc k)
-      (few_after n (suc k) w v to.turn.step point to.named rests kept bounded (no_vacuum p n w statement (to.turn.step.between.task n) within.counted begins) to.going alone))
-      to.turn.own)
+      (λ (rests : w.task n ≡ Resting). few (suc k) (few_after n (suc k) w v to.turn.step point to.named rests kept bounded to.going alone))
       (λ (not : w.task n ≢ Resting).
       fewer (suc k)
-      (few_from n (suc (suc k)) w kept bounded (w.task n) refl not (within.task to.turn.table to.turn.on)
-      (OneMoreAlone (suc k) w v to.turn.step point to.named to.going alone)))
+      (few_from n (suc (suc k)) w kept bounded (OneMoreAlone (suc k) w v to.turn.step point to.named to.going alone) (w.task n) refl not
+      (within.task to.turn.table to.turn.on)))
       (rests_or_not (w.task n))
 
   pub few_moves : (k : ℕ) (q : Place) → MovedIn n k p q → k < 2 ^ 64 - 1

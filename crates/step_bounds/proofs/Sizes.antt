@@ -1,25 +1,22 @@
 -- How many steps a statement takes at most from where it is, in a table that is no larger than a layout may make it.
-use Rattle.std.proofs.Common.{◌≡◌, ℕ, zero, suc, ◌+◌, ◌-◌, ◌*◌, ◌/◌, ◌^◌, ◌≤◌, ◌<◌, true, false, Bool, Option, None, Some, length, refl, sym, subst, arith, suc-mul, zero-mul, mul-le-mul, div-le_self, le_trans}
+use Rattle.std.proofs.Common.{◌≡◌, ℕ, zero, suc, ◌+◌, ◌-◌, ◌*◌, ◌/◌, ◌^◌, ◌≤◌, ◌<◌, true, false, Bool, Option, None, Some, sym, subst, arith, suc-mul, zero-mul, mul-le-mul, div-le_self, le_trans}
 use Rattle.block_model.specs.declared.place.Spot.{Spot}
 use Rattle.coverage.specs.IndexView.{Passing, ExtentUnread}
 use Rattle.coverage.specs.PageOrder.{KnowsPages}
 use Rattle.coverage.specs.Statements.{Empty, Held, Phase, NotBuilding, Vacant, Growing, Evacuating, Placing, IsAt, Copied, Moving, Dropping, Maintaining}
-use Rattle.table_coverage.specs.GoingOn.{IsInserting, StepsAlone}
-use Rattle.table_coverage.specs.StepsLeft.{sum_below, ranges_below, held_steps, unread_blocks, scan_steps, desummarise_steps, later_ranges, range_steps, summarise_steps, IsSummarise}
-use Rattle.table_coverage.specs.Table.{Job, EachRange, OneRange, WholeRanges, Desummarising, TableScan, Task, Resting, Reaches, Asks, Inserts, Considers, Maintains, Prunes, SweepsFrom, Sweeps, Restarts, Scans, Marks}
-use Rattle.table_coverage.specs.Table.{TableState, index_view_at}
+use Rattle.table_coverage.specs.StepsLeft.{sum_below, ranges_below, held_steps, unread_blocks, scan_steps, desummarise_steps, later_ranges, range_steps, summarise_steps, HasAtMostTuples, page_limit, cleaning_steps}
+use Rattle.table_coverage.specs.Table.{Job, EachRange, OneRange, WholeRanges, Desummarising, TableScan, Maintains, Prunes, Sweeps, TableState, index_view_at}
 use Rattle.table_coverage.specs.TableCovered.{IsExtentWithin, IsInTable, IsTableKept}
-use Rattle.table_coverage.proofs.DesummariseEnds.{desummarise_within}
-use Rattle.table_coverage.proofs.InsertsEndAlone.{insert_within}
-use Rattle.table_coverage.proofs.ScansEndAlone.{scan_within, marks_within_ids}
-use Rattle.table_coverage.proofs.SummariseEnds.{summarise_within}
 use Rattle.table_coverage.proofs.MachinesIn.{maintain_knows}
-use Rattle.step_bounds.specs.Bounds.{IsBounded, IsTaskBounded, most_blocks, most_pages, most_slots}
-use Rattle.step_bounds.proofs.Boxes.{rows_at_most, tuples_at_most}
+use Rattle.step_bounds.specs.Bounds.{IsBounded, most_blocks, most_pages, most_slots}
+use Rattle.step_bounds.proofs.Boxes.{tuples_at_most}
 
--- as many as no statement takes
+-- as many as no statement takes, and as many as none takes in one index
 abbrev pub few_steps : ℕ
 few_steps = 2 ^ 63
+
+abbrev pub most_in_index : ℕ
+most_in_index = 6645000000000
 
 self : (n : ℕ) → n ≤ n
 self n = omega arith
@@ -44,19 +41,19 @@ all_few a b c le le' le'' = omega arith
 pub insert_few : (n i : ℕ) → i ≤ 8 → n ≤ 6 * i → n ≤ 9223372036854775808
 insert_few n i le le' = omega arith
 
-summarises_few : (n m : ℕ) → m ≤ 6645000000000 → n ≤ m → n ≤ 9223372036854775808
+pub summarises_few : (n m : ℕ) → m ≤ 6645000000000 → n ≤ m → n ≤ 9223372036854775808
 summarises_few n m le le' = omega arith
 
-scans_few : (n m : ℕ) → m ≤ 4325377 → n ≤ m + 131072 * 8192 → n ≤ 9223372036854775808
+pub scans_few : (n m : ℕ) → m ≤ 4325377 → n ≤ m + 131072 * 8192 → n ≤ 9223372036854775808
 scans_few n m le le' = omega arith
 
-marks_few : (n m : ℕ) → m < 9223372036854775808 → n ≤ m → n ≤ 9223372036854775808
+pub marks_few : (n m : ℕ) → m < 9223372036854775808 → n ≤ m → n ≤ 9223372036854775808
 marks_few n m less le = omega arith
 
-four_few : (n m : ℕ) → m ≤ 4 → n ≤ m → n ≤ 9223372036854775808
+pub four_few : (n m : ℕ) → m ≤ 4 → n ≤ m → n ≤ 9223372036854775808
 four_few n m le le' = omega arith
 
-desummarise_few : (phase : Phase) → desummarise_steps phase ≤ 4
+pub desummarise_few : (phase : Phase) → desummarise_steps phase ≤ 4
 desummarise_few phase = cases_of phase
   where
     three : 3 ≤ 4
@@ -131,7 +128,7 @@ module _ (w : TableState) (bounded : IsBounded w) where
       less : (a b : ℕ) → a ≤ 131072 → a - b ≤ 131072
       less a b le = omega arith
 
-  scan_few : (scan : TableScan) → scan.extent ≤ most_blocks → scan_steps w scan ≤ 4325377
+  pub scan_few : (scan : TableScan) → scan.extent ≤ most_blocks → scan_steps w scan ≤ 4325377
   scan_few scan low =
       sum (held_steps scan.held) (sum_below w.indexes (ranges_below w scan.extent)) (sum_below scan.at (ranges_below w scan.extent) + scan.range)
       (unread_blocks scan.explains scan.extent scan.read) (held_few scan.held) (all_ranges scan.extent low) (unread_few scan.explains scan.extent scan.read low)
@@ -139,81 +136,89 @@ module _ (w : TableState) (bounded : IsBounded w) where
       sum : (h a b u : ℕ) → h ≤ 1 → a ≤ 8 * 262144 → u ≤ 131072 → h + 2 * (a - b) + u ≤ 4325377
       sum h a b u le le' le'' = omega arith
 
-  -- ---- summarises
+  -- ---- a vacuum that cleans
 
-  module _ (s at range : ℕ) (job : Job) (phase : Phase) (kept : IsTableKept w) (is : w.task s ≡ Maintains job at range phase) where
-    inside : IsInTable w (Maintains job at range phase)
-    inside = subst (IsInTable w) is (kept.inside s)
+  all_pages : sum_below w.indexes (page_limit w) ≤ 8 * most_pages
+  all_pages = le_trans (sum_at_most (page_limit w) most_pages w.indexes bounded.pages) (mul-le-mul bounded.indexes (self most_pages))
 
-    per_few : (w.index at).pages_per_range ≤ most_blocks
-    per_few = bounded.ranges at inside.0
+  pub prunes_few : (extent next : ℕ) → extent ≤ w.blocks → cleaning_steps w (Prunes extent next) ≤ 278528
+  prunes_few extent next within = sum extent (sum_below w.indexes (page_limit w)) (le_trans within bounded.blocks) all_pages
+    where
+      sum : (a b : ℕ) → a ≤ 131072 → b ≤ 8 * 16384 → (a - next) + b ≤ 278528
+      sum a b le le' = omega arith
 
-    later_few : (j : Job) → IsExtentWithin w j → IsSummarise j → later_ranges w j at range ≤ 262144
-    later_few (EachRange extent) lies summarises =
-        less ((extent + (w.index at).pages_per_range - 1) / (w.index at).pages_per_range) (suc range)
-        (ranges_at_most extent (w.index at).pages_per_range (le_trans lies bounded.blocks) per_few)
-      where
-        less : (a b : ℕ) → a ≤ 262144 → a - b ≤ 262144
-        less a b le = omega arith
-    later_few (OneRange extent only) lies summarises = none
-      where
-        none : 0 ≤ 262144
-        none = omega arith
-    later_few (WholeRanges extent) lies summarises = absurd summarises
-    later_few (Desummarising only) lies summarises = absurd summarises
+  pub sweeps_few : (at page : ℕ) → at < w.indexes → cleaning_steps w (Sweeps at page) ≤ 278528
+  sweeps_few at page below = sum (sum_below w.indexes (page_limit w)) (sum_below (suc at) (page_limit w)) (page_limit w at) all_pages (bounded.pages at below)
+    where
+      sum : (a b c : ℕ) → a ≤ 8 * 16384 → c ≤ 16384 → (a - b) + (c - page) ≤ 278528
+      sum a b c le le' = omega arith
 
-    phase_few : (p : Phase) → KnowsPages (index_view_at at w) s (Maintaining range p) → range_steps (w.index at).pages_per_range p ≤ 131082
-    phase_few (NotBuilding on_index) known = ten_more per_few
-    phase_few Vacant known = ten_more per_few
-    phase_few Growing known = ten_more per_few
-    phase_few (Evacuating m on_index) known = ten_more per_few
-    phase_few (Placing x) known = ten_more per_few
-    phase_few (IsAt ExtentUnread on_index) known = ten_more per_few
-    phase_few (IsAt (Passing extent next result) on_index) known = six_more extent next (le_trans known.2.0 bounded.blocks)
+-- ---- at a range
 
-    pages_left : (w.index at).pages.limit - (w.index at).pages.map_pages ≤ most_pages
-    pages_left = less (w.index at).pages.limit (w.index at).pages.map_pages (bounded.pages at inside.0)
-      where
-        less : (a b : ℕ) → a ≤ 16384 → a - b ≤ 16384
-        less a b le = omega arith
+-- an index, and what its ranges are made of, are small
+pub record IsSmallAt (w : TableState) (at : ℕ) : Type 0 where
+  pub blocks : w.blocks ≤ most_blocks
+  pub ranges : (w.index at).pages_per_range ≤ most_blocks
+  pub pages : (w.index at).pages.limit ≤ most_pages
+  pub tuples : HasAtMostTuples w at (most_pages * most_slots)
 
-    summarise_few : IsSummarise job → summarise_steps w job at range phase (most_pages * most_slots) ≤ 6645000000000
-    summarise_few summarises =
-        let later = later_few job inside.1 summarises in
-        let tuples = most_pages * most_slots in
-        all_few (range_steps (w.index at).pages_per_range phase)
-        (((w.index at).pages.limit - (w.index at).pages.map_pages) * (3 * (tuples + suc (later_ranges w job at range)) + 3))
-        (later_ranges w job at range * ((w.index at).pages_per_range + 9))
-        (phase_few phase (maintain_knows s job at range w phase kept inside.0 is).1)
-        (mul-le-mul pages_left (growth_few (later_ranges w job at range) later))
-        (mul-le-mul later (nine_more per_few))
+pub small_at : (w : TableState) (at : ℕ) → IsTableKept w → IsBounded w → at < w.indexes → IsSmallAt w at
+small_at w at kept bounded below = record {
+  blocks = bounded.blocks;
+  ranges = bounded.ranges at below;
+  pages = bounded.pages at below;
+  tuples = tuples_at_most w at kept bounded below;
+}
 
--- ---- a statement that goes on
+module _ (w : TableState) (at : ℕ) (small : IsSmallAt w at) where
+  abbrev per : ℕ
+  per = (w.index at).pages_per_range
 
--- at its step the statement takes fewer steps than that
-pub few_from : (s n : ℕ) (w : TableState) → IsTableKept w → IsBounded w → (task : Task) → w.task s ≡ task → (task ≡ Resting → ⊥) → IsTaskBounded task
-    → StepsAlone s n w → n ≤ few_steps
-few_from s n w kept bounded Resting is going task alone = absurd (going refl)
-few_from s n w kept bounded (Asks b k r at) is going task alone = insert_few n w.indexes bounded.indexes (insert_within s n w kept (subst IsInserting (sym is) tt) alone)
-few_from s n w kept bounded (Inserts b k r at on_index) is going task alone =
-    insert_few n w.indexes bounded.indexes (insert_within s n w kept (subst IsInserting (sym is) tt) alone)
-few_from s n w kept bounded (Maintains (EachRange extent) at range phase) is going task alone =
-    summarises_few n (summarise_steps w (EachRange extent) at range phase (most_pages * most_slots)) (summarise_few w bounded s at range (EachRange extent) phase kept is tt)
-    (summarise_within s n at range (most_pages * most_slots) w (EachRange extent) phase kept is tt
-    (tuples_at_most w at kept bounded (inside w bounded s at range (EachRange extent) phase kept is).0) alone)
-few_from s n w kept bounded (Maintains (OneRange extent only) at range phase) is going task alone =
-    summarises_few n (summarise_steps w (OneRange extent only) at range phase (most_pages * most_slots)) (summarise_few w bounded s at range (OneRange extent only) phase kept is tt)
-    (summarise_within s n at range (most_pages * most_slots) w (OneRange extent only) phase kept is tt
-    (tuples_at_most w at kept bounded (inside w bounded s at range (OneRange extent only) phase kept is).0) alone)
-few_from s n w kept bounded (Maintains (Desummarising only) at range phase) is going task alone =
-    four_few n (desummarise_steps phase) (desummarise_few phase) (desummarise_within s n only at range w phase kept is alone)
-few_from s n w kept bounded (Maintains (WholeRanges extent) at range phase) is going task alone = absurd task
-few_from s n w kept bounded (Scans scan) is going low alone =
-    scans_few n (scan_steps w scan) (scan_few w bounded scan low) (scan_within s n (most_blocks * most_slots) w scan kept is (rows_at_most w scan kept bounded) alone)
-few_from s n w kept bounded (Marks scan ids) is going few alone = marks_few n (length ids) few (marks_within_ids s n w scan ids kept is alone)
-few_from s n w kept bounded (Reaches b k r at) is going task alone = absurd task
-few_from s n w kept bounded (Considers job at range) is going task alone = absurd task
-few_from s n w kept bounded (Prunes extent next) is going task alone = absurd task
-few_from s n w kept bounded (SweepsFrom at from) is going task alone = absurd task
-few_from s n w kept bounded (Sweeps at page) is going task alone = absurd task
-few_from s n w kept bounded (Restarts at) is going task alone = absurd task
+  pub later_few : (job : Job) (range : ℕ) → IsExtentWithin w job → later_ranges w job at range ≤ 262144
+  later_few job range lies = of job lies
+    where
+      less : (a : ℕ) → a ≤ 262144 → a - suc range ≤ 262144
+      less a le = omega arith
+
+      wider : (a : ℕ) → a ≤ 131072 → a ≤ 262144
+      wider a le = omega arith
+
+      none : 0 ≤ 262144
+      none = omega arith
+
+      of : (j : Job) → IsExtentWithin w j → later_ranges w j at range ≤ 262144
+      of (EachRange extent) lies = less ((extent + per - 1) / per) (ranges_at_most extent per (le_trans lies small.blocks) small.ranges)
+      of (OneRange extent only) lies = none
+      of (WholeRanges extent) lies = less (extent / per) (wider (extent / per) (le_trans (div-le_self extent per) (le_trans lies small.blocks)))
+      of (Desummarising only) lies = none
+
+  pages_left : (w.index at).pages.limit - (w.index at).pages.map_pages ≤ most_pages
+  pages_left = less (w.index at).pages.limit (w.index at).pages.map_pages small.pages
+    where
+      less : (a b : ℕ) → a ≤ 16384 → a - b ≤ 16384
+      less a b le = omega arith
+
+  -- its own steps, the growth of the map, and the ranges that come later
+  pub in_index_few : (own later : ℕ) → own ≤ 131082 → later ≤ 262144
+      → own + ((w.index at).pages.limit - (w.index at).pages.map_pages) * (3 * (most_pages * most_slots + suc later) + 3) + later * (per + 9) ≤ most_in_index
+  in_index_few own later few less =
+      all_few own (((w.index at).pages.limit - (w.index at).pages.map_pages) * (3 * (most_pages * most_slots + suc later) + 3)) (later * (per + 9)) few
+      (mul-le-mul pages_left (growth_few later less)) (mul-le-mul less (nine_more small.ranges))
+
+  -- a summarise that is at a range, or a vacuum's
+  pub summarise_few : (s range : ℕ) (job : Job) (phase : Phase) → IsTableKept w → w.task s ≡ Maintains job at range phase
+      → summarise_steps w job at range phase (most_pages * most_slots) ≤ most_in_index
+  summarise_few s range job phase kept is =
+      in_index_few (range_steps per phase) (later_ranges w job at range) (phase_few phase (maintain_knows s job at range w phase kept inside.0 is).1) (later_few job range inside.1)
+    where
+      inside : IsInTable w (Maintains job at range phase)
+      inside = subst (IsInTable w) is (kept.inside s)
+
+      phase_few : (p : Phase) → KnowsPages (index_view_at at w) s (Maintaining range p) → range_steps per p ≤ 131082
+      phase_few (NotBuilding on_index) known = ten_more small.ranges
+      phase_few Vacant known = ten_more small.ranges
+      phase_few Growing known = ten_more small.ranges
+      phase_few (Evacuating m on_index) known = ten_more small.ranges
+      phase_few (Placing x) known = ten_more small.ranges
+      phase_few (IsAt ExtentUnread on_index) known = ten_more small.ranges
+      phase_few (IsAt (Passing extent next result) on_index) known = six_more extent next (le_trans known.2.0 small.blocks)

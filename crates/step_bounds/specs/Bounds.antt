@@ -3,7 +3,7 @@ use Rattle.std.specs.Prelude.{◌≡◌, ℕ, ◌^◌, ◌≤◌, ◌<◌, lengt
 use Rattle.block_model.specs.declared.place.Spot.{Spot}
 use Rattle.block_model.specs.declared.row.Row.{Row}
 use Rattle.coverage.specs.IndexView.{IndexTuple}
-use Rattle.table_coverage.specs.Table.{EachRange, OneRange, Desummarising, Task, Resting, Asks, Inserts, Maintains, Scans, Marks, TableState}
+use Rattle.table_coverage.specs.Table.{Task, Scans, Marks, TableState}
 
 -- the heap blocks that a table may have, and of which a range may be; the pages that an index may have; and more slots than a page has, of either
 abbrev pub most_blocks : ℕ
@@ -24,15 +24,9 @@ pub record IsBounded (w : TableState) : Type 0 where
   pub rows : (b k : ℕ) (r : Row) → w.row b k ≡ Some r → k < most_slots
   pub tuples : (i : ℕ) → i < w.indexes → (x : Spot) (t : IndexTuple) → (w.index i).tuple x ≡ Some t → x.slot < most_slots
 
--- A session's statement, as it stands between its steps, is no vacuum. A scan goes no further than a table may reach, and a delete has no more rows
--- to mark than a list has in memory.
+-- How far a session's statement goes at most, as it stands between its steps: a scan no further than a table may reach, and a delete has no more rows
+-- to mark than a list has in memory. How far any other one goes, its table tells.
 abbrev pub IsTaskBounded : Task → Type 0
-IsTaskBounded Resting = Unit
-IsTaskBounded (Asks b k r at) = Unit
-IsTaskBounded (Inserts b k r at on_index) = Unit
-IsTaskBounded (Maintains (EachRange extent) at range phase) = Unit
-IsTaskBounded (Maintains (OneRange extent only) at range phase) = Unit
-IsTaskBounded (Maintains (Desummarising only) at range phase) = Unit
 IsTaskBounded (Scans scan) = scan.extent ≤ most_blocks
 IsTaskBounded (Marks scan ids) = length ids < 2 ^ 63
-IsTaskBounded task = ⊥
+IsTaskBounded task = Unit

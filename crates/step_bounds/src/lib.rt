@@ -18,8 +18,8 @@ pub fn moves_are_counted()
     ensures further { (p q r : Place) (n steps : ℕ) (point : Point) → MovedIn n steps p q → Steps q n (Moved point) r → MovedIn n (suc steps) p r }
 {}
 
-/// A statement that is neither a vacuum nor work, and that its session alone steps, goes on behind fewer than 2^64 - 1 steps, where its table is
-/// kept and no larger than a layout may make it: it comes to its reply, or to a step that waits, before.
+/// A statement that its session alone steps goes on behind fewer than 2^64 - 1 steps, where its table is kept and no larger than a layout may make
+/// it: it comes to its reply, or to a step that waits, before. So do a vacuum, over all of its indexes, and work.
 pub fn a_finished_statement_ends()
     ensures { (p q : Place) (n steps : ℕ) (hand : Hand) → p.hands n ≡ Some hand → IsBoundedAt p n hand.statement → MovedIn n steps p q → steps < 2 ^ 64 - 1 }
 {}

@@ -5,7 +5,7 @@ use Rattle.std.specs.List.{list_all}
 use Rattle.std.specs.Option.{is_some}
 use Rattle.std.specs.FinMap as map
 use Rattle.std.specs.FinSet as set
-use Rattle.std.proofs.lemmas.Bool.{and_from, and_parts, cases_lt, eqb-true, false_from_ne_true, false≢true, ne_eqb, not_from_false, not_from_true, or_cases, or_left, or_right, true_from_ne_false, true≢false}
+use Rattle.std.proofs.lemmas.Bool.{and_from, and_parts, cases_eq, cases_lt, eqb-true, false_from_ne_true, false≢true, ne_eqb, not_from_false, not_from_true, or_cases, or_left, or_right, true_from_ne_false, true≢false}
 use Rattle.std.proofs.lemmas.Map.Entries.{option_filter}
 use Rattle.block_model.specs.declared.place.Spot.{Spot}
 use Rattle.block_model.specs.declared.request.Entry.{Entry}
@@ -40,7 +40,7 @@ use Rattle.transactions.proofs.Given.{given_none, status_given}
 use Rattle.transactions.proofs.Marks.{row_stored}
 use Rattle.transactions.proofs.Shown.{open_one, versions_on_pages, whole}
 use Rattle.index_steps.specs.ShownRows.{row_in, rows_in}
-use Rattle.brin_vacuum.specs.DeadRows.{DropsTheDead, is_dead}
+use Rattle.brin_vacuum.specs.DeadRows.{DropsTheDead, Living, is_dead, living}
 use Rattle.brin_vacuum.specs.TableSteps.{has_gone}
 use Rattle.line_texts.specs.DeadRows.{Deleted, HasEnded, IsDead, IsOpen, RolledBack as ByRollback}
 use Rattle.line_texts.specs.Place.{Place, database_at}
@@ -52,9 +52,10 @@ use Rattle.journal_fronts.specs.OldestFront.{DeadByOldestFront, IsOldestFront, O
 use Rattle.journal_fronts.specs.UnseenRows.{DeadRowsAreUnseen, IsUnseen}
 use Rattle.store_parts.specs.ShowsPlace.{IsPlaceOf}
 use Rattle.store_parts.specs.StoreStates.{ShownStore}
-use Rattle.store_fronts.specs.DeadToAll.{DeadToAllIsDead, DropsTheDeadByJournal, living_of, snapshots_of}
+use Rattle.store_fronts.specs.DeadToAll.{DeadToAllIsDead, DropsTheDeadByJournal, OldestSpeaksForAll, living_of, oldest_snapshots, snapshots_of}
 use Rattle.status_fronts.specs.FrontsStand.{FrontsStand}
 use Rattle.store_fronts.proofs.Fronts.{goes_on}
+use Rattle.store_fronts.proofs.Oldest.{all_snapshots, of_oldest, oldest_among, oldest_is_below, oldest_is_open}
 use Rattle.status_fronts.proofs.Rows.{row_is_version, version_is_row}
 use Rattle.status_fronts.proofs.Snapshots.{StandsIn, is_of_open, is_open, its_front}
 
@@ -82,22 +83,6 @@ neither RolledBack used ended uncommitted = refl
 and_none : (b : Bool) → (b && false) ≡ false
 and_none true = refl
 and_none false = refl
-
--- ---- all snapshots
-
-all_snapshots : (os : List (Option Open)) (test : Snapshot → Bool) → ((n : ℕ) (o : Open) → transaction_of os n ≡ Some o → test o.snapshot ≡ true) → list_all test (snapshots_of os) ≡ true
-all_snapshots [] test each = refl
-all_snapshots (None ∷ os) test each = all_snapshots os test (λ n o was. each (suc n) o was)
-all_snapshots (Some o ∷ os) test each = and_from (test o.snapshot) (list_all test (snapshots_of os)) (each 0 o refl) (all_snapshots os test (λ n o was. each (suc n) o was))
-
-pub each_snapshot : (os : List (Option Open)) (test : Snapshot → Bool) → list_all test (snapshots_of os) ≡ true → (n : ℕ) (o : Open) → transaction_of os n ≡ Some o → test o.snapshot ≡ true
-each_snapshot [] test all n o was = absurd (cc)
-each_snapshot (None ∷ os) test all zero o was = absurd (cc)
-each_snapshot (None ∷ os) test all (suc n) o was = each_snapshot os test all n o was
-each_snapshot (Some x ∷ os) test all zero o was =
-    let same : x ≡ o = cc in
-    ap (λ (o : Open). test o.snapshot) (sym same) ∙ (and_parts (test x.snapshot) (list_all test (snapshots_of os)) all).0
-each_snapshot (Some x ∷ os) test all (suc n) o was = each_snapshot os test (and_parts (test x.snapshot) (list_all test (snapshots_of os)) all).1 n o was
 
 -- ---- a row of a table
 
@@ -194,28 +179,46 @@ module _ (s : ShownStore) (p : Place) (shown : IsPlaceOf s p) (table : ℕ) (spo
     rolled_is_dead : is_rolled_back put ≡ true → IsDead p row.id
     rolled_is_dead is = elim (cases_lt row.id.t p.opening.next) [ inl low ↦ rolled_early is low | inr since ↦ rolled_late is since ]
 
-  -- ---- deleted for all
+  -- ---- deleted for all, by the snapshot of the oldest
 
-  module _ (is : is_committed gone ≡ true) (all : list_all (λ sn. in_snapshot sn row.deleter gone) (snapshots_of t.opens) ≡ true) where
-    had_deleter : (n : ℕ) (o : Open) → transaction_of t.opens n ≡ Some o → had_ended o.snapshot row.deleter ≡ true
-    had_deleter n o was = (and_parts (is_committed gone) (had_ended o.snapshot row.deleter) (each_snapshot t.opens (λ sn. in_snapshot sn row.deleter gone) all n o was)).1
-
-    had_put : (n : ℕ) (o : Open) → transaction_of t.opens n ≡ Some o → had_ended o.snapshot row.id.t ≡ true
-    had_put n o was = stands.deleters table spot row below there (deleted_by_one is) n o was (had_deleter n o was)
-
+  module _ (is : is_committed gone ≡ true) (so : list_all (λ sn. in_snapshot sn row.deleter gone) (oldest_snapshots t.opens) ≡ true) where
     other_deleter : (n : ℕ) (o : Open) → transaction_of t.opens n ≡ Some o → row.deleter ≢ o.t
     other_deleter n o was same = committed_not_begun gone is (ap status same ∙ (open_one shows n o was).given)
 
-    deletion_done : (n : ℕ) (o : Open) → transaction_of t.opens n ≡ Some o → has_done o.snapshot o.t row.deleter gone ≡ true
-    deletion_done n o was = or_right (eqb row.deleter o.t) (in_snapshot o.snapshot row.deleter gone) (and_from (is_committed gone) (had_ended o.snapshot row.deleter) is (had_deleter n o was))
-
-    module _ (n : ℕ) (x : OpenTransaction) (found : map.get db.sessions n ≡ Some x) where
+    -- no open transaction is older than this session's
+    module _ (n : ℕ) (x : OpenTransaction) (found : map.get db.sessions n ≡ Some x) (first : (u : ℕ) → IsOpen db u → x.t ≤ u) where
       abbrev opened : (o : Open) × (transaction_of t.opens n ≡ Some o) × IsCopyOf o x
       opened = have.opened n x found
 
+      -- so it is the oldest, since no other has its number
+      had_from : (m : ℕ) (o : Open) → transaction_of t.opens m ≡ Some o → o.t ≤ opened.0.t → had_ended o.snapshot row.deleter ≡ true → had_ended opened.0.snapshot row.deleter ≡ true
+      had_from m o was low had = elim (cases_eq m n) [
+        | inl same ↦
+            let one : Some o ≡ Some opened.0 = sym was ∙ ap (transaction_of t.opens) same ∙ opened.1 in
+            let alike : o ≡ opened.0 = cc in
+            subst (λ (o : Open). had_ended o.snapshot row.deleter ≡ true) alike had
+        | inr apart ↦
+            let above : x.t ≤ o.t = first o.t (is_open t db have o.t (m, o, was, refl)) in
+            let number : x.t ≡ opened.0.t = opened.2.t in
+            absurd (((whole shows).apart m n o opened.0 was opened.1 apart).differ (omega (arith, low, above, number)))
+      ]
+
+      had_deleter : had_ended opened.0.snapshot row.deleter ≡ true
+      had_deleter =
+          let oldest = oldest_is_below t.opens n opened.0 opened.1 in
+          let at = oldest_is_open t.opens oldest.0 oldest.1 in
+          had_from at.0 oldest.0 at.1 oldest.2
+          (and_parts (is_committed gone) (had_ended oldest.0.snapshot row.deleter) (of_oldest t.opens (λ sn. in_snapshot sn row.deleter gone) so oldest.0 oldest.1)).1
+
+      had_put : had_ended opened.0.snapshot row.id.t ≡ true
+      had_put = stands.deleters table spot row below there (deleted_by_one is) n opened.0 opened.1 had_deleter
+
+      deletion_done : has_done opened.0.snapshot opened.0.t row.deleter gone ≡ true
+      deletion_done = or_right (eqb row.deleter opened.0.t) (in_snapshot opened.0.snapshot row.deleter gone) (and_from (is_committed gone) (had_ended opened.0.snapshot row.deleter) is had_deleter)
+
       not_in_view : map.contains_key x.view row.id ≡ false
       not_in_view = (seen_in_copy s.layout s.pages t db shows.stored n table opened.0 x spot row shows shows.has opened.1 found below there).seen
-          ∙ ap (λ b. has_done opened.0.snapshot opened.0.t row.id.t put && not b) (deletion_done n opened.0 opened.1) ∙ and_none (has_done opened.0.snapshot opened.0.t row.id.t put)
+          ∙ ap (λ b. has_done opened.0.snapshot opened.0.t row.id.t put && not b) deletion_done ∙ and_none (has_done opened.0.snapshot opened.0.t row.id.t put)
 
       not_in_marks : set.contains x.marks row.id ≡ false
       not_in_marks = ap (λ (x : OpenTransaction). set.contains x.marks row.id) (copy_is shows n opened.0 x opened.1 found)
@@ -231,15 +234,15 @@ module _ (s : ShownStore) (p : Place) (shown : IsPlaceOf s p) (table : ℕ) (spo
       ended_at_front : (front : Began p.opening p.journal n x.t) → HasEnded (serial_run p.opening front.before) row.id.t
       ended_at_front front =
           let at : StandsIn p n x.t opened.0.snapshot = subst (λ k. StandsIn p n k opened.0.snapshot) (sym opened.2.t) (stands.snapshots n opened.0 opened.1) in
-          (at front row.id.t).0 (had_put n opened.0 opened.1)
+          (at front row.id.t).0 had_put
 
     gone_now : IsGone db row.id
     gone_now = record { ended = (put_below, λ under_way. committed_not_begun put (put_committed is) (open_has_begun row.id.t under_way)); absent = absent_now is }
 
     gone_at : CopiesAreOfTheirFronts → (before : List Entry) → IsOldestFront p.opening p.journal before → IsGone (serial_run p.opening before) row.id
     gone_at copies before (Whole none same) = subst (λ (l : List Entry). IsGone (serial_run p.opening l) row.id) (sym same) gone_now
-    gone_at copies before (OfOldest n x found oldest front same) = subst (λ (l : List Entry). IsGone (serial_run p.opening l) row.id) (sym same)
-        (record { ended = ended_at_front n x found front; absent = absent_at_front n x found copies front })
+    gone_at copies before (OfOldest n x found first front same) = subst (λ (l : List Entry). IsGone (serial_run p.opening l) row.id) (sym same)
+        (record { ended = ended_at_front n x found first front; absent = absent_at_front n x found first copies front })
 
     deleted_is_dead : CopiesAreOfTheirFronts → OldestFrontStands → DeadByOldestFront → IsDead p row.id
     deleted_is_dead copies oldest by_front =
@@ -298,12 +301,30 @@ module _ (s : ShownStore) (p : Place) (shown : IsPlaceOf s p) (table : ℕ) (spo
   abbrev deleted : Bool
   deleted = is_deleted_for_all (snapshots_of t.opens) row.deleter gone
 
-  pub dead_to_all_is_dead : NumbersRise → CopiesAreOfTheirFronts → OldestFrontStands → DeadByOldestFront → IsTrue (is_dead (living_of t shows.stored) row) → IsDead p row.id
-  dead_to_all_is_dead numbers copies oldest by_front dead = elim (or_cases rolled deleted dead) [
+  abbrev by_oldest : Living
+  by_oldest = living (oldest_snapshots t.opens) t.tx.first shows.stored
+
+  abbrev by_all : Living
+  by_all = living_of t shows.stored
+
+  -- dead by the oldest's snapshot alone
+  pub dead_by_oldest_is_dead : NumbersRise → CopiesAreOfTheirFronts → OldestFrontStands → DeadByOldestFront → IsTrue (is_dead by_oldest row) → IsDead p row.id
+  dead_by_oldest_is_dead numbers copies oldest by_front dead = elim (or_cases rolled (is_deleted_for_all (oldest_snapshots t.opens) row.deleter gone) dead) [
     | inl back ↦ rolled_is_dead numbers back
-    | inr for_all ↦
-        let parts = and_parts (is_committed gone) (list_all (λ sn. in_snapshot sn row.deleter gone) (snapshots_of t.opens)) for_all in
+    | inr for_oldest ↦
+        let parts = and_parts (is_committed gone) (list_all (λ sn. in_snapshot sn row.deleter gone) (oldest_snapshots t.opens)) for_oldest in
         deleted_is_dead parts.0 parts.1 copies oldest by_front
+  ]
+
+  -- by all snapshots it is dead by that one
+  pub dead_to_all_by_oldest : IsTrue (is_dead by_all row) → IsTrue (is_dead by_oldest row)
+  dead_to_all_by_oldest dead = elim (or_cases rolled deleted dead) [
+    | inl back ↦ or_left rolled (is_deleted_for_all (oldest_snapshots t.opens) row.deleter gone) back
+    | inr for_all ↦
+        let had : Snapshot → Bool = λ sn. in_snapshot sn row.deleter gone in
+        let parts = and_parts (is_committed gone) (list_all had (snapshots_of t.opens)) for_all in
+        or_right rolled (is_deleted_for_all (oldest_snapshots t.opens) row.deleter gone)
+        (and_from (is_committed gone) (list_all had (oldest_snapshots t.opens)) parts.0 (oldest_among t.opens had parts.1))
   ]
 
   by_delete : OpenTransactionsBegan → NumbersRise → (before behind : List Entry) → before ++ behind ≡ p.journal → HasEnded (serial_run p.opening before) row.id.t → ((u : ℕ) → IsOpen db u → (serial_run p.opening before).next ≤ u) → IsUnseen db row.id
@@ -317,7 +338,7 @@ module _ (s : ShownStore) (p : Place) (shown : IsPlaceOf s p) (table : ℕ) (spo
       (put_rolled ended (false_from_ne_true (is_committed put) (λ is. uncommitted ((stands.commits row.id.t since).0 is))))
   by_journal laws numbers unseen (Deleted before behind split ended absent first) = by_delete laws numbers before behind split ended first unseen (is_committed put) refl
 
-  pub dead_is_dead_to_all : OpenTransactionsBegan → NumbersRise → DeadRowsAreUnseen → IsDead p row.id → IsTrue (is_dead (living_of t shows.stored) row)
+  pub dead_is_dead_to_all : OpenTransactionsBegan → NumbersRise → DeadRowsAreUnseen → IsDead p row.id → IsTrue (is_dead by_all row)
   dead_is_dead_to_all laws numbers unseen dead = by_journal laws numbers (unseen p stands.none_open stands.earlier shown.legal row.id dead) dead
 
 -- what the journal says, as the law needs it
@@ -331,7 +352,7 @@ pub record JournalLaws : Type 0 where
 
 pub dead_to_all : JournalLaws → DeadToAllIsDead
 dead_to_all laws s p table spot row shown below there = (
-  dead_to_all_is_dead s p shown table spot row below there laws.numbers laws.copies laws.oldest laws.by_front,
+  λ dead. dead_by_oldest_is_dead s p shown table spot row below there laws.numbers laws.copies laws.oldest laws.by_front (dead_to_all_by_oldest s p shown table spot row below there dead),
   dead_is_dead_to_all s p shown table spot row below there laws.began laws.numbers laws.unseen,
 )
 
@@ -369,3 +390,24 @@ module _ (laws : JournalLaws) (s : ShownStore) (p : Place) (table block : ℕ) (
 
 pub drops_by_journal : JournalLaws → DropsTheDeadByJournal
 drops_by_journal laws s p table block blocks blocked shown below has drops k = drops_dead laws s p table block blocks blocked shown below has drops k
+
+-- ---- the oldest speaks for all
+
+module _ (laws : JournalLaws) (s : ShownStore) (p : Place) (table block : ℕ) (blocks blocked : List (List Slot)) (shown : IsPlaceOf s p) (below : table < length s.layout.schema.tables)
+    (has : HasBlocks s.layout s.pages table blocks) where
+  by_one_by_all : (x : Spot) (row : StoredRow) → slot_at blocks x ≡ Some row
+      → IsTrue (is_dead (living (oldest_snapshots s.transactions.opens) s.transactions.tx.first shown.database.stored) row) ↔ IsTrue (is_dead (living_of s.transactions shown.database.stored) row)
+  by_one_by_all x row at =
+      let there : StandsAt s.layout s.pages table x row = record { blocks = blocks; has = has; there = at } in (
+        λ dead. dead_is_dead_to_all s p shown table x row below there laws.began laws.numbers laws.unseen (dead_by_oldest_is_dead s p shown table x row below there laws.numbers laws.copies laws.oldest laws.by_front dead),
+        dead_to_all_by_oldest s p shown table x row below there,
+      )
+
+  pub drops_for_all : DropsTheDead (living (oldest_snapshots s.transactions.opens) s.transactions.tx.first shown.database.stored) blocks blocked block → DropsTheDead (living_of s.transactions shown.database.stored) blocks blocked block
+  drops_for_all drops = record {
+    dead = λ k row at dead. drops.dead k row at ((by_one_by_all (record { block = block; slot = k }) row at).1 dead);
+    gone = λ x row at left. let went = drops.gone x row at left in (went.0, (by_one_by_all x row at).0 went.1);
+  }
+
+pub oldest_for_all : JournalLaws → OldestSpeaksForAll
+oldest_for_all laws s p table block blocks blocked shown below has = drops_for_all laws s p table block blocks blocked shown below has

@@ -1,4 +1,5 @@
 mod Fronts
+mod Oldest
 mod Dead
 mod Wanted
 mod Watching

@@ -1,5 +1,5 @@
 -- whose statement wants the row of a place: it has put it, or it sees it
-use Rattle.std.proofs.Common.{◌≡◌, ◌⊎◌, inl, inr, ℕ, zero, suc, ◌<◌, Bool, true, false, List, Option, None, Some, refl, sym, ap, subst, ◌∙◌}
+use Rattle.std.proofs.Common.{◌≡◌, ◌⊎◌, inl, inr, ℕ, zero, suc, ◌<◌, Bool, true, false, List, length, Option, None, Some, refl, sym, ap, subst, ◌∙◌}
 use Rattle.std.specs.Prelude.{IsTrue}
 use Rattle.std.proofs.lemmas.Bool.{cases_eq, false≢true}
 use Rattle.block_model.specs.declared.place.Spot.{Spot}
@@ -41,12 +41,17 @@ use Rattle.brin_summarise.specs.declared.wish.Wish.{Wish}
 use Rattle.brin_summarise.specs.declared.wish.Wish.TheVariants as wishes
 use Rattle.brin_summarise.specs.Summarises.{SummariseState}
 use Rattle.brin_summarise.specs.TableSteps as summarises
+use Rattle.brin_vacuum.specs.declared.standing.Standing.{Standing as VacuumStanding}
+use Rattle.brin_vacuum.specs.declared.standing.Standing.TheVariants as vacuum_standings
+use Rattle.brin_vacuum.specs.TableSteps as vacuums
+use Rattle.brin_vacuum.specs.Vacuums.{VacuumState}
 use Rattle.status_fronts.specs.SeenBefore.{WasSeenBy}
+use Rattle.store_parts.specs.declared.hand.Completing.{Completing}
 use Rattle.store_parts.specs.declared.hand.Hand.{Hand}
 use Rattle.store_parts.specs.declared.hand.Hand.TheVariants as hands
 use Rattle.store_parts.specs.declared.hand.Marking.{Marking}
 use Rattle.store_parts.specs.Hands.{hits_left, ids_of}
-use Rattle.store_parts.specs.HandsInTables.{InItsTable, IsDesummariseAt, IsExplainAt, IsMarkingBy, IsScanBy, IsSummariseAt, IsTaskOf, sight_of}
+use Rattle.store_parts.specs.HandsInTables.{InItsTable, IsCompletingAt, IsDesummariseAt, IsExplainAt, IsMarkingBy, IsScanBy, IsSummariseAt, IsTaskOf, sight_of}
 
 -- an insert of that row at that place, at an index or before it asks for a summary there
 abbrev pub IsInsertingAt : (b k : ℕ) → Row → (at : ℕ) → Task → Type 0
@@ -147,6 +152,16 @@ module _ (b k : ℕ) where
   desummarise_wants_none at range desummarise_stages.Lacked wants = nothing wants
   desummarise_wants_none at range desummarise_stages.Cleared wants = nothing wants
 
+  cleaned_wants_none : (indexes : ℕ) → Wants (vacuums.task_done indexes) → ⊥
+  cleaned_wants_none zero wants = nothing wants
+  cleaned_wants_none (suc more) wants = nothing wants
+
+  vacuum_wants_none : (a : VacuumState) (standing : VacuumStanding) → Wants (vacuums.task_at a standing) → ⊥
+  vacuum_wants_none a vacuum_standings.Begins wants = nothing wants
+  vacuum_wants_none a (vacuum_standings.Prunes block) wants = nothing wants
+  vacuum_wants_none a (vacuum_standings.Sweeps at page) wants = nothing wants
+  vacuum_wants_none a vacuum_standings.Done wants = cleaned_wants_none (length a.indexes) wants
+
   module _ (layout : DiskLayout) (table : ℕ) (blocks : List (List Slot)) (tx : TxState) (stored : List Status) (task : Task) where
     -- what is told of a place that the statement in hand wants
     abbrev pub TellsWho : Option Open → Option Hand → Type 0
@@ -208,6 +223,12 @@ module _ (b k : ℕ) where
     by_desummarise : {transaction : Option Open} {hand : Option Hand} (a : DesummariseState) → IsDesummariseAt layout a task → TellsWho transaction hand
     by_desummarise a at = wants_none (λ wants. desummarise_wants_none at.0 (range_of layout a) a.stage (subst Wants at.2 wants))
 
+    by_vacuum : {transaction : Option Open} {hand : Option Hand} (a : VacuumState) → task ≡ vacuums.task_of a → TellsWho transaction hand
+    by_vacuum a at = wants_none (λ wants. vacuum_wants_none a a.standing (subst Wants at wants))
+
+    by_completing : {transaction : Option Open} {hand : Option Hand} (c : Completing) → IsCompletingAt layout c task → TellsWho transaction hand
+    by_completing c at = wants_none (λ wants. summarise_wants_none layout c.next at.0 at.0.standing (subst Wants at.2 wants))
+
     pub tells_who : (transaction : Option Open) (hand : Option Hand) → IsTaskOf layout table blocks tx stored transaction hand task → TellsWho transaction hand
     tells_who transaction None at = at_rest at
     tells_who transaction (Some (hands.Begins numbers)) at = at_rest at
@@ -224,6 +245,11 @@ module _ (b k : ℕ) where
     tells_who transaction (Some (hands.Explains explain)) at = in_own explain.judging.query.table (IsExplainAt layout explain.judging task) (by_explain explain.judging) at
     tells_who transaction (Some (hands.Summarises a)) at = in_own (index_at layout a.index).table (IsSummariseAt layout a task) (by_summarise a) at
     tells_who transaction (Some (hands.Desummarises a)) at = in_own (index_at layout a.index).table (IsDesummariseAt layout a task) (by_desummarise a) at
+    tells_who transaction (Some (hands.Cleans c)) at = in_own c.vacuum.table (task ≡ vacuums.task_of c.vacuum) (by_vacuum c.vacuum) at
+    tells_who transaction (Some (hands.Completes c)) at = in_own c.table (IsCompletingAt layout c task) (by_completing c) at
+    tells_who transaction (Some hands.Working) at = at_rest at
+    tells_who transaction (Some (hands.Works requested)) at =
+        in_own (index_at layout requested.summarise.index).table (IsSummariseAt layout requested.summarise task) (by_summarise requested.summarise) at
 
 -- ---- in a table that is kept it stands there
 

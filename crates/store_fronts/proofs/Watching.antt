@@ -38,7 +38,7 @@ use Rattle.store_parts.specs.ShowsPlace.{IsPlaceOf, IsRowOf, ShowsTable, is_put}
 use Rattle.store_parts.specs.StoreStates.{ShownStore, hand_in}
 use Rattle.store_fronts.specs.DeadToAll.{living_of, snapshots_of}
 use Rattle.store_fronts.specs.Watched.{MarkedAreSeen, OwnDeleteIsUnseen, SeenBeforeIsSpared, TableIsSpared, TableIsWatched}
-use Rattle.store_fronts.proofs.Dead.{each_snapshot}
+use Rattle.store_fronts.proofs.Oldest.{each_snapshot}
 use Rattle.store_fronts.proofs.Wanted.{IsPutBy, IsSeenBy, TellsWho, put_stands, tells_who}
 
 -- an open transaction's snapshot is among those of all

@@ -9,6 +9,7 @@ use Rattle.index_steps.specs.ShownRows.{rows_in}
 use Rattle.snapshot_core.specs.declared.snapshots.Snapshot.{Snapshot}
 use Rattle.snapshot_core.specs.declared.statuses.Status.{Status}
 use Rattle.row_versions.specs.declared.sessions.Open.{Open}
+use Rattle.row_versions.specs.OldestOpen.{oldest_of}
 use Rattle.transactions.specs.StoredRows.{StandsAt}
 use Rattle.transactions.specs.TransactionsState.{TransactionsState}
 use Rattle.brin_vacuum.specs.DeadRows.{DropsTheDead, Living, is_dead, living}
@@ -40,3 +41,20 @@ DropsTheDeadByJournal = (s : ShownStore) (p : Place) (table block : ℕ) (blocks
     → table < length s.layout.schema.tables → HasBlocks s.layout s.pages table blocks
     → DropsTheDead (living_of s.transactions shown.database.stored) blocks blocked block → (k : ℕ)
     → IsTrue (has_gone (rows_in table blocks block k) (rows_in table blocked block k)) ↔ ((r : Row) × (rows_in table blocks block k ≡ Some r) × IsDead p r.id)
+
+-- ---- the oldest open transaction speaks for all
+
+abbrev pub snapshot_in : Option Open → List Snapshot
+snapshot_in None = []
+snapshot_in (Some o) = o.snapshot ∷ []
+
+-- the snapshot of the oldest open transaction, if one is open
+abbrev pub oldest_snapshots : List (Option Open) → List Snapshot
+oldest_snapshots opens = snapshot_in (oldest_of opens)
+
+-- where exactly the rows of a block go that are dead by its snapshot alone, exactly those that are dead to all go
+abbrev pub OldestSpeaksForAll : Type 0
+OldestSpeaksForAll = (s : ShownStore) (p : Place) (table block : ℕ) (blocks blocked : List (List Slot)) → (shown : IsPlaceOf s p)
+    → table < length s.layout.schema.tables → HasBlocks s.layout s.pages table blocks
+    → DropsTheDead (living (oldest_snapshots s.transactions.opens) s.transactions.tx.first shown.database.stored) blocks blocked block
+    → DropsTheDead (living_of s.transactions shown.database.stored) blocks blocked block

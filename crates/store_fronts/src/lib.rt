@@ -1,10 +1,10 @@
 //! What a vacuum as a statement of a store needs. A row that is dead to all, by the snapshots of all open transactions and the
-//! statuses, is dead by the store's journal; and which rows the statements of other sessions want. Each law is a function that does
-//! no work: its contract is the law, and whoever calls it may use it. It stands on journal_fronts, status_fronts, transactions,
-//! brin_vacuum and store_parts. No crate stands on it yet: it is for a vacuum whose steps a store makes.
+//! statuses, is dead by the store's journal; the snapshot of the oldest open transaction alone tells which these are; and which rows
+//! the statements of other sessions want. Each law is a function that does no work: its contract is the law, and whoever calls it may
+//! use it. It stands on journal_fronts, status_fronts, transactions, brin_vacuum and store_parts.
 #![tactic(auto)]
 
-ghost use Rattle.store_fronts.specs.DeadToAll.{DeadToAllIsDead, DropsTheDeadByJournal};
+ghost use Rattle.store_fronts.specs.DeadToAll.{DeadToAllIsDead, DropsTheDeadByJournal, OldestSpeaksForAll};
 ghost use Rattle.store_fronts.specs.Watched.{OwnDeleteIsUnseen, SeenBeforeIsSpared, TableIsSpared, TableIsWatched};
 
 use journal_fronts::{
@@ -17,6 +17,20 @@ use journal_fronts::{
 pub fn dead_to_all_is_dead()
     ensures rows { DeadToAllIsDead }
     ensures blocks { DropsTheDeadByJournal }
+{
+    open_transactions_began();
+    numbers_rise();
+    copies_are_of_their_fronts();
+    oldest_front_stands();
+    dead_by_oldest_front();
+    dead_rows_are_unseen();
+}
+
+/// A row that stands in a table is dead by the snapshot of the oldest open transaction exactly where it is dead by those of all: each
+/// younger one has what that one has of what is done. So a vacuum's step that drops exactly the rows of a block that are dead by that
+/// snapshot drops exactly those that are dead to all.
+pub fn oldest_speaks_for_all()
+    ensures { OldestSpeaksForAll }
 {
     open_transactions_began();
     numbers_rise();

@@ -1,7 +1,8 @@
 -- what a step of an insert makes of its account, and of the summaries that are asked for
-use Rattle.std.proofs.Common.{◌≡◌, ℕ, ◌+◌, ◌/◌, ◌≤◌, Bool, true, false, List, [], ◌∷◌, ◌++◌, length, length-append, Option, Some, refl, sym, ap, subst, ◌∙◌, arith}
+use Rattle.std.proofs.Common.{◌≡◌, ℕ, ◌+◌, ◌*◌, ◌/◌, ◌≤◌, ◌<◌, Bool, true, false, List, [], ◌∷◌, ◌++◌, length, length-append, Option, Some, refl, sym, ap, subst, ◌∙◌, arith}
 use Rattle.std.specs.Prelude.{slice_get}
 use Rattle.std.proofs.lemmas.Bool.{false≢true}
+use Rattle.std.proofs.lemmas.Nat.{div-add-mod'}
 use Rattle.block_model.specs.declared.place.Spot.{Spot}
 use Rattle.page_layout.specs.PageContents.{Slot}
 use Rattle.table_coverage.specs.Accounts.{Account, AccountIs, Accounts, Asked, Asking, HasEntry, IsDropped, Joins, no_account}
@@ -19,7 +20,7 @@ use Rattle.brin_insert.specs.Inserts.{task_of, work_of}
 use Rattle.brin_insert.proofs.Asked.{shown_by_accounts}
 use Rattle.store_parts.specs.ShowsPlace.{IsPlaceOf}
 use Rattle.store_parts.specs.StoreStates.{ShownStore}
-use Rattle.store_inserts.proofs.AtIndex.{AtIndex, asked_here, number_here, task_asking, task_before, told_here}
+use Rattle.store_inserts.proofs.AtIndex.{AtIndex, asked_here, block_here, number_here, shows_here, task_asking, task_before, told_here}
 
 -- the account that the session has then, and the summaries that are asked for
 pub record ComesOf (old : ShownStore) (n : ℕ) (before after : Insert) (p : Place) (blocks : List (List Slot)) (queued : List (ℕ × ℕ)) : Type 0 where
@@ -46,6 +47,13 @@ none_goes s a c one _ (Joins few joins same) =
     let longer : length c.queue ≡ length (a.queue ++ (one ∷ [])) = ap length joins in
     omega (arith, longer, length-append a.queue (one ∷ []))
 none_goes s a c one _ (IsDropped full is) = let same : length c.queue ≡ length a.queue = ap length is.queue in omega (arith, same)
+
+-- the range before that of a block begins below it
+begins_below : (block per range limit : ℕ) → block / per ≡ range + 1 → block < limit → range * per < limit
+begins_below block per range limit ranged low =
+    let whole = div-add-mod' block per in
+    let same = ap (λ (q : ℕ). q * per) ranged in
+    omega (arith, whole, same, low)
 
 -- the session tells of nothing else
 abbrev TellsDropped : Account → Type 0
@@ -87,7 +95,12 @@ module _ (old : ShownStore) (n : ℕ) (before after : Insert) (hand : InsertHand
     one = record { table = table; at = before.at; range = range }
 
     is_one : IsRequestOf old.layout (hand.index, range) one
-    is_one = record { there = number_here old n before hand x at; range = refl }
+    is_one = record {
+      there = number_here old n before hand x at;
+      range = refl;
+      begins = begins_below x.block (index_at old.layout hand.index).pages_per_range range old.layout.sizes.heap_blocks ranged
+          (let below = block_here old n before hand x at p shown asking in let within = (shows_here old n before hand x at p shown).has.within in omega (arith, below, within));
+    }
 
     abbrev Made : Type 0
     Made = (c : Accounts) × Asking n a c one ((contents old.layout old.pages hand.index).entry range) × AreRequestsOf old.layout queued c.queue × AreRequestsOf old.layout after.dropped.items (c.of n).dropped

@@ -1,5 +1,5 @@
 -- an insert at an index, in a place that the store shows
-use Rattle.std.proofs.Common.{◌≡◌, inr, ℕ, Bool, true, false, List, [], ◌∷◌, Option, Some, refl, sym, ap, subst, ◌∙◌}
+use Rattle.std.proofs.Common.{◌≡◌, inr, ℕ, ◌<◌, Bool, true, false, List, [], ◌∷◌, length, Option, Some, refl, sym, ap, subst, ◌∙◌}
 use Rattle.std.specs.Prelude.{slice_get}
 use Rattle.block_model.specs.declared.place.Spot.{Spot}
 use Rattle.block_model.specs.declared.row.Row.{Row}
@@ -8,14 +8,16 @@ use Rattle.row_versions.specs.StoredVersions.{transaction_of}
 use Rattle.statements.specs.declared.statement.Statement.{Statement}
 use Rattle.statements.specs.declared.statement.Statement.TheVariants as statements
 use Rattle.snapshot_core.specs.declared.statuses.Status.{Status}
-use Rattle.coverage.specs.Statements.{OnIndex}
+use Rattle.coverage.specs.Knowing.{Knows}
+use Rattle.coverage.specs.Statements.{Empty, Inserting, OnIndex, Statement as AtIndexStatement}
 use Rattle.range_tuple.specs.TupleBytes.{tuple_bytes}
 use Rattle.index_contents.specs.IndexContents.{relation_of as index_relation}
 use Rattle.table_coverage.specs.Accounts.{Account, no_account}
 use Rattle.table_coverage.specs.GoingOn.{IsInserting}
 use Rattle.table_coverage.specs.Machines.{table_state}
-use Rattle.table_coverage.specs.Table.{Asks, Inserts}
-use Rattle.table_coverage.specs.TableCovered.{IsTableKept}
+use Rattle.table_coverage.specs.Table.{Asks, Inserts, index_view_at, inserting_of, seen_by}
+use Rattle.table_coverage.specs.TableCovered.{IsInTable, IsTableKept}
+use Rattle.table_coverage.proofs.Views.{on_index_here}
 use Rattle.index_steps.specs.IndexTuples.{shape_of}
 use Rattle.index_steps.specs.ShownRows.{shown_by}
 use Rattle.index_steps.specs.ShownTable.{indexes_of}
@@ -125,6 +127,17 @@ module _ (old : ShownStore) (n : ℕ) (before : Insert) (hand : InsertHand) (x :
 
     pub told_here : p.accounts n ≡ record no_account { dropped = (p.accounts n).dropped }
     told_here = (put_hand before x (p.hands n) (p.accounts n) at.placed shown_here).1
+
+    -- an insert that has to ask has put its row
+    pub block_here : before.asking ≡ true → x.block < length shows_here.blocks
+    block_here asking =
+        let w = table_state (shown_by old.layout old.pages old.locks table shows_here.blocks) shows_here.unseen in
+        let there : shows_here.unseen.task n ≡ Asks x.block x.slot before.row before.at = task_here ∙ task_asking asking in
+        let inside : before.at < w.indexes = subst (IsInTable w) there (kept_here.inside n) in
+        let seen : seen_by before.at (shows_here.unseen.task n) ≡ Inserting x.block x.slot before.row Empty =
+        ap (seen_by before.at) there ∙ ap (inserting_of x.block x.slot before.row) (on_index_here before.at Empty) in
+        let knows : Knows (index_view_at before.at w) n (Inserting x.block x.slot before.row Empty) = subst (λ (s : AtIndexStatement). Knows (index_view_at before.at w) n s) seen ((kept_here.indexes before.at inside).knows n) in
+        kept_here.rows_below x.block x.slot before.row knows.0
 
     pub asked_here : AreRequestsOf old.layout before.dropped.items (p.accounts n).dropped
     asked_here = subst (λ (h : Option Hand). HandAsked old.layout h (p.accounts n).dropped) at.was (shown.asked n)

@@ -51,6 +51,7 @@ use Rattle.store_parts.specs.PlacesAfter.{TurnsAsking, place_after, place_asking
 use Rattle.store_parts.specs.ShowsPlace.{IsOfTransaction, IsPlaceOf, IsRowOf, ShowsTable, is_put}
 use Rattle.store_parts.specs.StoreStates.{ShownStore, dropped_in, hand_in}
 use Rattle.store_parts.proofs.Asks.{asked_are_named}
+use Rattle.store_parts.proofs.Steps.{not_pruned, takes_none}
 use Rattle.store_inserts.proofs.Asking.{ComesOf, comes_so}
 use Rattle.store_inserts.proofs.AtIndex.{AtIndex, busy_before, hand_here, in_table, insert_of, kept_here, own_relation, own_row_here, put_of, relation_here, shows_here, task_here}
 use Rattle.store_inserts.proofs.Points.{IsPlain, index_point}
@@ -95,8 +96,8 @@ plain_enters points.Row p n hand c plain is = absurd plain
 plain_enters points.Mark p n hand c plain is = absurd plain
 plain_enters point p n hand c plain is = is
 
-not_pruned : (point : Point) → IsPlain point → point ≢ points.Prune
-not_pruned point plain is = subst IsPlain is plain
+no_prune : (point : Point) → IsPlain point → point ≢ points.Prune
+no_prune point plain is = subst IsPlain is plain
 
 pub is_no_work : (r : Row) → insert_of r ≢ statements.Work
 is_no_work r is = cc
@@ -185,7 +186,8 @@ module _ (old new : ShownStore) (n : ℕ) (before after : Insert) (hand : Insert
 
       turns : Turns come.queue
       turns = laws.machine p n table (insert_of before.row) w mid v point account come.queue
-          shows.shown (is_no_work before.row) refl did_so.does did_so.point_is (λ b has. did_so.adds (accounts_at p table) b (come.comes b has)) come.more (not_pruned point plain)
+          shows.shown (takes_none (insert_of before.row) (w.task n) p.queue come.queue come.more (is_no_work before.row)) refl did_so.does did_so.point_is (λ b has. did_so.adds (accounts_at p table) b (come.comes b has))
+          (not_pruned p n w mid did_so.does point did_so.point_is (no_prune point plain))
           (goes u (task_here old n before hand x step.at p shown) (kept_here old n before hand x step.at p shown)).2 (inl busy)
 
       task_then : v.task n ≡ task_of old.layout after

@@ -66,6 +66,7 @@ use Rattle.store_parts.specs.PlacesAfter.{TurnsIn, place_after, point_in}
 use Rattle.store_parts.specs.ShowsPlace.{IsOfTransaction, IsPlaceOf, IsRowOf, ShowsTable, is_put}
 use Rattle.store_parts.specs.StoreStates.{ShownStore, dropped_in, hand_in}
 use Rattle.store_inserts.proofs.AtIndex.{put_of}
+use Rattle.store_parts.proofs.Steps.{not_pruned, takes_none}
 use Rattle.store_inserts.proofs.IndexStep.{is_no_work, not_resting, put_shown}
 use Rattle.store_inserts.proofs.Opens.{open_here}
 use Rattle.store_inserts.proofs.Points.{row_point}
@@ -250,9 +251,9 @@ module _ (laws : RowLaws) (old new : ShownStore) (n table : ℕ) (values : List 
         Turns = (turns : TurnsIn p n (statements.Insert table values) table v no_account) × (point_in turns ≡ Some point) × (turns.step.between ≡ mid)
 
         turns : Turns
-        turns = laws.machine p n table (statements.Insert table values) w mid v point no_account p.queue shows.shown (is_no_work r) refl did_so.does did_so.point_is
-            (λ b has. did_so.adds (accounts_at p table) b has) (omega arith)
-            (λ is. row_isnt_prune (sym begun.1 ∙ is)) (goes u task_here kept).2 (inr begins)
+        turns = laws.machine p n table (statements.Insert table values) w mid v point no_account p.queue shows.shown
+            (takes_none (statements.Insert table values) (w.task n) p.queue p.queue (omega arith) (is_no_work r)) refl did_so.does did_so.point_is (λ b has. did_so.adds (accounts_at p table) b has)
+            (not_pruned p n w mid did_so.does point did_so.point_is (λ is. row_isnt_prune (sym begun.1 ∙ is))) (goes u task_here kept).2 (inr begins)
 
         task_then : v.task n ≡ task_of old.layout after
         task_then = pick_same n (task_of old.layout after) (u.task n)

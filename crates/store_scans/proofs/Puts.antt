@@ -1,5 +1,5 @@
 -- who has put a row in a table
-use Rattle.std.proofs.Common.{◌≡◌, inl, inr, ℕ, zero, suc, ◌<◌, Bool, true, false, List, Option, None, Some, refl, subst, ◌⊎◌, sym, ap}
+use Rattle.std.proofs.Common.{◌≡◌, inl, inr, ℕ, zero, suc, ◌<◌, Bool, true, false, List, length, Option, None, Some, refl, subst, ◌⊎◌, sym, ap}
 use Rattle.std.proofs.lemmas.Bool.{cases_eq}
 use Rattle.block_model.specs.declared.place.Spot.{Spot}
 use Rattle.block_model.specs.declared.row.Row.{Row}
@@ -35,10 +35,14 @@ use Rattle.brin_summarise.specs.declared.wish.Wish.{Wish}
 use Rattle.brin_summarise.specs.declared.wish.Wish.TheVariants as wishes
 use Rattle.brin_summarise.specs.Summarises.{SummariseState}
 use Rattle.brin_summarise.specs.TableSteps as summarises
+use Rattle.brin_vacuum.specs.declared.standing.Standing.{Standing as VacuumStanding}
+use Rattle.brin_vacuum.specs.declared.standing.Standing.TheVariants as vacuum_standings
+use Rattle.brin_vacuum.specs.TableSteps as vacuums
+use Rattle.brin_vacuum.specs.Vacuums.{VacuumState}
 use Rattle.store_parts.specs.declared.hand.Hand.{Hand}
 use Rattle.store_parts.specs.declared.hand.Hand.TheVariants as hands
 use Rattle.store_parts.specs.declared.hand.Marking.{Marking}
-use Rattle.store_parts.specs.HandsInTables.{InItsTable, IsExplainAt, IsMarkingBy, IsScanBy, IsSummariseAt, IsTaskOf, IsDesummariseAt}
+use Rattle.store_parts.specs.HandsInTables.{InItsTable, IsCompletingAt, IsExplainAt, IsMarkingBy, IsScanBy, IsSummariseAt, IsTaskOf, IsDesummariseAt}
 
 -- an insert of that row at that place, at an index or before it asks for a summary there
 abbrev pub IsInsertingAt : (b k : ℕ) → Row → (at : ℕ) → Task → Type 0
@@ -101,6 +105,16 @@ module _ (b k : ℕ) where
   desummarise_puts_none at range desummarise_stages.Lacked has = has
   desummarise_puts_none at range desummarise_stages.Cleared has = has
 
+  cleaned_puts_none : (indexes : ℕ) → HasPut b k (vacuums.task_done indexes) → ⊥
+  cleaned_puts_none zero has = has
+  cleaned_puts_none (suc more) has = has
+
+  vacuum_puts_none : (a : VacuumState) (standing : VacuumStanding) → HasPut b k (vacuums.task_at a standing) → ⊥
+  vacuum_puts_none a vacuum_standings.Begins has = has
+  vacuum_puts_none a (vacuum_standings.Prunes block) has = has
+  vacuum_puts_none a (vacuum_standings.Sweeps at page) has = has
+  vacuum_puts_none a vacuum_standings.Done has = cleaned_puts_none (length a.indexes) has
+
   module _ (layout : DiskLayout) (table : ℕ) (blocks : List (List Slot)) (tx : TxState) (stored : List Status) (transaction : Option Open) (task : Task) where
     scan_by_none : (by : Option Open) (deletes : Bool) (scan : FindHand) → IsScanBy layout blocks tx stored by deletes scan task → HasPut b k task → ⊥
     scan_by_none None deletes scan at has = at
@@ -147,6 +161,15 @@ module _ (b k : ℕ) where
     put_by (Some (hands.Desummarises a)) at has =
         absurd (in_none (index_at layout a.index).table (IsDesummariseAt layout a task)
         (λ (there : IsDesummariseAt layout a task) put. desummarise_puts_none there.0 (range_of layout a) a.stage (subst (HasPut b k) there.2 put)) at has)
+    put_by (Some (hands.Cleans c)) at has =
+        absurd (in_none c.vacuum.table (task ≡ vacuums.task_of c.vacuum) (λ there put. vacuum_puts_none c.vacuum c.vacuum.standing (subst (HasPut b k) there put)) at has)
+    put_by (Some (hands.Completes c)) at has =
+        absurd (in_none c.table (IsCompletingAt layout c task)
+        (λ (there : IsCompletingAt layout c task) put. summarise_puts_none layout c.next there.0 there.0.standing (subst (HasPut b k) there.2 put)) at has)
+    put_by (Some hands.Working) at has = absurd (subst (HasPut b k) at has)
+    put_by (Some (hands.Works requested)) at has =
+        absurd (in_none (index_at layout requested.summarise.index).table (IsSummariseAt layout requested.summarise task)
+        (λ (there : IsSummariseAt layout requested.summarise task) put. summarise_puts_none layout there.0 requested.summarise requested.summarise.standing (subst (HasPut b k) there.2 put)) at has)
 
 -- ---- in a table that is kept it stands there
 

@@ -35,7 +35,7 @@ use Rattle.store_scans.specs.LookLaws.{LookLaws}
 use Rattle.store_scans.specs.Looks.{deletes_of, hand_before, statement_for}
 use Rattle.store_scans.proofs.GoesOn.{begun_task}
 use Rattle.store_scans.proofs.Standing.{LooksThere, in_hand, scans_at, shows}
-use Rattle.store_scans.proofs.Words.{first_in_none, looks, not_work, on_table, refused_is, takes_memory}
+use Rattle.store_scans.proofs.Words.{first_in_none, may_lack, not_work, on_table, refused_is, takes_memory}
 
 -- a scan is before its first step, or has begun
 pub begun_or_not : (stage : Stage) → (stage ≡ stages.Extent) ⊎ (stage ≢ stages.Extent)
@@ -79,7 +79,7 @@ module _ (laws : LookLaws) (old : ShownStore) (n : ℕ) (looking : Looking) (bef
 
     pub first_step : (counts : ℕ → Bool) → StepsTo p n hand (Ended (replies.Refused refusals.Memory)) (place_at_once p n counts entries_then)
     first_step counts = subst (λ (l : List Entry). StepsTo p n hand (Ended (replies.Refused refusals.Memory)) (place_at_once p n counts l)) request_is
-        (lacks_memory p n hand counts (looks looking query) rests)
+        (lacks_memory p n hand counts (may_lack looking query p n) rests)
 
   module _ (begun : before.judging.stage ≢ stages.Extent) where
     abbrev its_scan : TableScan

@@ -16,7 +16,7 @@ use Rattle.brin_scan.specs.Finds.{FindHand, IsFindOf, IsScanning}
 use Rattle.line_texts.specs.Beginnings.{IsIn}
 use Rattle.line_texts.specs.Place.{Hand as HandAt, Place, new_hand}
 use Rattle.line_texts.specs.Requests.{next_request, refused_request}
-use Rattle.line_texts.specs.StatementSteps.{IsLooking, TakesMemory}
+use Rattle.line_texts.specs.StatementSteps.{MayLackMemory, TakesMemory}
 use Rattle.store_parts.specs.HandsAsk.{IsNoInsert}
 use Rattle.store_parts.specs.declared.hand.Hand.{Hand}
 use Rattle.store_parts.specs.HandFits.{IsHandFor, IsUnderWay, locks_held, right_held}
@@ -71,9 +71,9 @@ pub on_table : (looking : Looking) (query : Query) (p : Place) (n : ℕ) → IsI
 on_table lookings.Select query p n = refl
 on_table lookings.Delete query p n = refl
 
-pub looks : (looking : Looking) (query : Query) → IsLooking (statement_for looking query)
-looks lookings.Select query = tt
-looks lookings.Delete query = tt
+pub may_lack : (looking : Looking) (query : Query) (p : Place) (n : ℕ) → MayLackMemory p n (statement_for looking query)
+may_lack lookings.Select query p n = tt
+may_lack lookings.Delete query p n = tt
 
 pub takes_memory : (looking : Looking) (query : Query) → TakesMemory (statement_for looking query)
 takes_memory lookings.Select query = tt

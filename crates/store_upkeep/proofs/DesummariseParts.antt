@@ -54,7 +54,7 @@ use Rattle.store_parts.specs.StoreStates.{ShownStore, hand_in, shown_of, store_o
 use Rattle.store_parts.specs.UndoneLaws.{FitsParts, StepsSo}
 use Rattle.store_parts.proofs.HeldLocks.{holder_has_lock}
 use Rattle.store_parts.proofs.Undone.{fit_of_parts}
-use Rattle.store_upkeep.proofs.DesummariseTurns.{StepsInTable, counts_on, holds_there, is_busy, is_desummarise, is_over, left_then, made_by, right_at_work, right_left, right_same, right_taken}
+use Rattle.store_upkeep.proofs.DesummariseTurns.{StepsInTable, counts_on, holds_there, is_busy, is_desummarise, is_over, left_then, made_by, on_its, right_at_work, right_left, right_same, right_taken}
 use Rattle.store_upkeep.proofs.SummariseLocks.{OthersStay, gives_own, gives_stay, gives_there, same_stays, stays_on}
 use Rattle.store_upkeep.proofs.UpkeepAt.{IsUpkeep, at_task, counted, here, kept_here, unseen_here}
 use Rattle.store_upkeep.proofs.UpkeepParts.{PartsLeft, done_so, moved_so, new_store, old_store, refused_untold, undone_so, waits_so, with_these}
@@ -179,16 +179,16 @@ module _ {D : Type 0} (told : D → Told) (parts : Parts D) (n : ℕ) (a : Desum
         → StepsSo told parts (with_these parts pages locks righted) n was (stepped.Moved point next)
     moved law alike righted point does work own right ready =
         let stays = right_left number n parts.rights righted a.stage (did.Moved point) within right in
-        moved_so told parts pages locks righted n was a.index task (count_at a.stage) fit is_it (left_by righted stays) next next_task (count_at b.stage) is_then same_statement
+        moved_so told parts pages locks righted parts.queue n was a.index task (count_at a.stage) fit is_it (left_by righted stays) next next_task (count_at b.stage) is_then same_statement
         (left.of, left_then b.stage work) own refl ready
         (ap (λ (i : ℕ). right_in (index_at parts.pages.layout i).table b.stage) left.index ∙ right_at_work number b.stage work) alike (inl left.leaves) point (λ names hand_list has tells p shown.
-        let old = old_store told parts pages locks righted n was a.index task (count_at a.stage) fit is_it (left_by righted stays) names hand_list has in
-        let then = new_store told parts pages locks righted n was a.index task (count_at a.stage) fit is_it (left_by righted stays) names hand_list has (Some next) in
+        let old = old_store told parts pages locks righted parts.queue n was a.index task (count_at a.stage) fit is_it (left_by righted stays) names hand_list has in
+        let then = new_store told parts pages locks righted parts.queue n was a.index task (count_at a.stage) fit is_it (left_by righted stays) names hand_list has (Some next) in
         let it = at_task old n was a.index task (count_at a.stage) is_it has p shown in
         let shows = here old n was a.index task (count_at a.stage) is_it has p shown in
         let so = came law righted (did.Moved point) does tells shows.blocks it.0 it.1 in
         let taken = right_taken number n parts.rights righted a.stage (did.Moved point) right tt within (holds_there old n a is_it has p shown) fits.in_hand.1 in
-        let made = made_by old then n a b is_it has p shown fits.in_hand.1 point so.0 (Some n) so.2 (sym taken) in (
+        let made = made_by old then n a b is_it has p shown fits.in_hand.1 point so.0 (Some n) so.2 (sym taken) refl in (
           made.0,
           made.1,
           (λ rests. is_busy parts.pages.layout it.0 b work (sym made.1 ∙ rests)),
@@ -206,16 +206,16 @@ module _ {D : Type 0} (told : D → Told) (parts : Parts D) (n : ℕ) (a : Desum
         let still : number < length righted = omega (arith, within, as_many) in
         let stays = stays_on number n parts.rights righted given first (gives_stay number n righted given still gives keeps) in
         let none : held_at b.stage ≡ 0 = over_free b.stage over in
-        done_so told parts pages locks given n was a.index task (count_at a.stage) fit is_it (left_by given stays) (count_at b.stage) (omega (arith, own, none)) refl ready (gives_own number n righted given still gives keeps) alike (inl left.leaves) point
+        done_so told parts pages locks given parts.queue n was a.index task (count_at a.stage) fit is_it (left_by given stays) (count_at b.stage) (omega (arith, own, none)) refl ready (gives_own number n righted given still gives keeps) alike (inl left.leaves) point
         (replies.Desummarized (count_at b.stage)) (λ names hand_list has tells p shown.
-        let old = old_store told parts pages locks given n was a.index task (count_at a.stage) fit is_it (left_by given stays) names hand_list has in
-        let then = new_store told parts pages locks given n was a.index task (count_at a.stage) fit is_it (left_by given stays) names hand_list has None in
+        let old = old_store told parts pages locks given parts.queue n was a.index task (count_at a.stage) fit is_it (left_by given stays) names hand_list has in
+        let then = new_store told parts pages locks given parts.queue n was a.index task (count_at a.stage) fit is_it (left_by given stays) names hand_list has None in
         let it = at_task old n was a.index task (count_at a.stage) is_it has p shown in
         let shows = here old n was a.index task (count_at a.stage) is_it has p shown in
         let so = came law righted (did.Finished point) does tells shows.blocks it.0 it.1 in
         let taken = right_taken number n parts.rights righted a.stage (did.Finished point) right tt within (holds_there old n a is_it has p shown) fits.in_hand.1 in
         let free : right_of given number ≡ None = gives_there number n righted given still gives keeps taken in
-        let made = made_by old then n a b is_it has p shown fits.in_hand.1 point so.0 None so.2 (sym free) in (
+        let made = made_by old then n a b is_it has p shown fits.in_hand.1 point so.0 None so.2 (sym free) refl in (
           made.0,
           made.1 ∙ is_over parts.pages.layout it.0 b over,
           ap (λ (f : Account → Account). f (counted (count_at a.stage))) made.2 ∙ counts_on a.stage b.stage so.0 so.1,
@@ -229,9 +229,9 @@ module _ {D : Type 0} (told : D → Told) (parts : Parts D) (n : ℕ) (a : Desum
           → ((names : List (List ℕ)) (hand_list : List (Option Hand)) (has : hand_in hand_list n ≡ Some was) → Tells told parts.pages → (p : Place) (shown : IsPlaceOf (shown_of (store_of parts names hand_list)) p)
           → Steps p n (Waits (refusals.Blocked what (name_of p by))) p)
           → StepsSo told parts (with_these parts pages locks righted) n was (stepped.Blocked what by next)
-      waits what by holder_is waiting = waits_so told parts pages locks righted n was a.index task (count_at a.stage) fit is_it (left_by righted (same_stays number n parts.rights righted same_rights)) next next_task
+      waits what by holder_is waiting = waits_so told parts pages locks righted parts.queue n was a.index task (count_at a.stage) fit is_it (left_by righted (same_stays number n parts.rights righted same_rights)) next next_task
           (subst (λ (c : ℕ). IsUpkeep parts.pages.layout next a.index next_task c) (ap count_at same) is_then) same_statement (left.of, subst IsLeft (sym same) fits.in_hand.1) own refl ready (right_stays same) alike (inl left.leaves)
-          keeps same_locks same_rights what by holder_is (λ names hand_list has tells p shown. (
+          keeps same_locks same_rights refl what by holder_is (λ names hand_list has tells p shown. (
             (λ place stood. ap (λ (x : DesummariseState). task_of parts.pages.layout place x) (same_state same)),
             waiting names hand_list has tells p shown,
           ))
@@ -250,7 +250,7 @@ module _ {D : Type 0} (told : D → Told) (parts : Parts D) (n : ℕ) (a : Desum
         let shows = here old n was a.index task (count_at a.stage) is_it has p shown in
         let so = came law righted (did.Blocked held) does tells shows.blocks it.0 it.1 in
         subst (λ (x : What). Steps p n (Waits (refusals.Blocked x (name_of p held.by))) p) (sym (named number it.0 it.1))
-        (waits_for_page old n was a.index task (count_at a.stage) is_it has p shown fits.entries held.page held.by
+        (waits_for_page old n was a.index task (count_at a.stage) is_it has p shown fits.entries (on_its p n parts.pages.layout a shown.layout) held.page held.by
         (so.0 shows.unseen it.2 shows.lock (kept_here old n was a.index task (count_at a.stage) is_it has p shown)) blocked.0.0 blocked.0.1))
 
     -- another session has its table's summarise lock
@@ -266,7 +266,7 @@ module _ {D : Type 0} (told : D → Told) (parts : Parts D) (n : ℕ) (a : Desum
         let shows = here old n was a.index task (count_at a.stage) is_it has p shown in
         let so = came law righted (did.NoRight by) does tells shows.blocks it.0 it.1 in
         subst (λ (x : What). Steps p n (Waits (refusals.Blocked x (name_of p by))) p) (sym named)
-        (waits_for_lock old n was a.index task (count_at a.stage) is_it has p shown fits.entries by
+        (waits_for_lock old n was a.index task (count_at a.stage) is_it has p shown fits.entries (on_its p n parts.pages.layout a shown.layout) by
         (so.0 shows.unseen it.2 shows.lock (kept_here old n was a.index task (count_at a.stage) is_it has p shown)) told_so.0))
 
   -- the pages refuse it, and its session gives its locks
@@ -275,7 +275,7 @@ module _ {D : Type 0} (told : D → Told) (parts : Parts D) (n : ℕ) (a : Desum
       → (error : StoreError) → Refused told (Tells told parts.pages → DamageIn parts.pages.layout parts.pages.pages a) parts.pages pages error
       → StepsSo told parts (with_these parts pages given parts.rights) n (hands.Desummarises a) (stepped.Undone (fault_of error) (hands.Desummarises b))
   refused shown law pages locks given b left same limit none others error refusal =
-      undone_so told parts pages given parts.rights n (hands.Desummarises a) a.index (λ at. task_of parts.pages.layout at a) (count_at a.stage) fit is_it (record {
+      undone_so told parts pages given parts.rights parts.queue n (hands.Desummarises a) a.index (λ at. task_of parts.pages.layout at a) (count_at a.stage) fit is_it (record {
         others = left.others;
         order = left.order;
         limit = limit ∙ left.counts.limit;

@@ -1,5 +1,5 @@
 -- a step of a desummarise, in a place that the store shows
-use Rattle.std.proofs.Common.{◌≡◌, ◌≢◌, ◌⊎◌, inl, inr, ℕ, ◌/◌, ◌<◌, List, length, Option, None, Some, refl, sym, ap, subst, ◌∙◌}
+use Rattle.std.proofs.Common.{◌≡◌, ◌≢◌, ◌⊎◌, inl, inr, ℕ, ◌/◌, ◌<◌, List, length, Option, None, Some, refl, sym, ap, subst, ◌∙◌, arith}
 use Rattle.std.specs.Prelude.{slice_get}
 use Rattle.std.proofs.lemmas.Option.{none-some, same_Some}
 use Rattle.block_model.specs.declared.reply.Point.{Point}
@@ -26,12 +26,14 @@ use Rattle.brin_desummarise.specs.declared.stage.Stage.{Stage}
 use Rattle.brin_desummarise.specs.declared.stage.Stage.TheVariants as stages
 use Rattle.brin_desummarise.specs.Desummarises.{DesummariseDoes, DesummariseState, IsAtWork, IsDone, IsLeft, RightAnswers, StoreStep, count_at, phase_at, range_of, table_of}
 use Rattle.brin_desummarise.specs.TableSteps.{DesummariseGoes, DoesInTable, HasCounted, IsFirstWithin, LeavesTheRest, account_by, first_task, task_at, task_of}
-use Rattle.line_texts.specs.Beginnings.{Begins, StandsAt}
-use Rattle.line_texts.specs.Place.{Place}
+use Rattle.brin_insert.specs.AskedFor.{AreRequestsOf}
+use Rattle.line_texts.specs.Beginnings.{Begins, IsIn, StandsAt}
+use Rattle.line_texts.specs.Place.{Place, accounts_at}
 use Rattle.store_parts.specs.declared.hand.Hand.TheVariants as hands
 use Rattle.store_parts.specs.HandFits.{right_in}
 use Rattle.store_parts.specs.ShowsPlace.{IsLeftToMark, IsPlaceOf}
 use Rattle.store_parts.specs.StoreStates.{ShownStore, hand_in}
+use Rattle.store_parts.proofs.Steps.{takes_none}
 use Rattle.store_upkeep.proofs.SummariseLocks.{OthersStay, same_stays, set_stays, set_there}
 use Rattle.store_upkeep.proofs.UpkeepAt.{IsUpkeep, IsUpkeepAt, at_task, counted, here, kept_here, pages_show, table, unseen_here, w}
 use Rattle.store_upkeep.proofs.UpkeepPoints.{IsPlain, first_point, maintain_point}
@@ -68,8 +70,6 @@ pub is_desummarise : (layout : DiskLayout) (a : DesummariseState) → a.index < 
 is_desummarise layout a within below = record {
   within = within;
   below = below;
-  on = λ p n same. ap (λ (l : DiskLayout). (index_at l a.index).table) (sym same);
-  no_work = not_work a.index a.block;
   lock = refl;
   asks = λ n answers. refl;
   answers = λ answers is. is;
@@ -77,13 +77,17 @@ is_desummarise layout a within below = record {
   tells = λ account is. is;
   told = refl;
   own = λ transaction copy. of_any_copy copy a;
-  in_table = refl;
+  in_table = λ table has. sym (same_Some (index_at layout a.index).table table has);
   no_insert = tt;
   asked = λ asked. tt;
   right = λ table has. right_of_its (index_at layout a.index).table table a.stage has;
   task_is = λ table blocks tx stored transaction now is. is;
   is_task = λ table blocks tx stored transaction now is. is;
 }
+
+-- it is in its index's table
+pub on_its : (p : Place) (n : ℕ) (layout : DiskLayout) (a : DesummariseState) → p.layout ≡ layout → IsIn p n (statements.Desummarize a.index a.block) (index_at layout a.index).table
+on_its p n layout a same = ap (λ (l : DiskLayout). (index_at l a.index).table) (sym same)
 
 -- ---- what its first step begins with
 
@@ -242,9 +246,9 @@ module _ (old new : ShownStore) (n : ℕ) (a b : DesummariseState) (is : IsUpkee
   pub made_by : (point : Point) (count : ℕ) (held_then : Option ℕ)
       → DesummariseGoes n (pages_show old n (hands.Desummarises a) a.index (λ at. task_of old.layout at a) (count_at a.stage) is had p shown) shown_then (right_of old.rights number) held_then (task_of old.layout there.0 a) (task_of old.layout there.0 b) point
       (account_by a.stage count) a.stage (first_task old.layout there.0 a)
-      → held_then ≡ right_of new.rights number
+      → held_then ≡ right_of new.rights number → new.queue ≡ old.queue
       → (made : MadeIn old new n (hands.Desummarises a) a.index (λ at. task_of old.layout at a) (count_at a.stage) is had p shown point) × (made.after ≡ task_of old.layout there.0 b) × (made.account ≡ account_by a.stage count)
-  made_by point count held_then goes right =
+  made_by point count held_then goes right same_queue =
       let kept = kept_here old n (hands.Desummarises a) a.index (λ at. task_of old.layout at a) (count_at a.stage) is had p shown in
       let lock = (here old n (hands.Desummarises a) a.index (λ at. task_of old.layout at a) (count_at a.stage) is had p shown).lock in
       let it = goes.0 u there.2 lock kept in
@@ -255,7 +259,18 @@ module _ (old new : ShownStore) (n : ℕ) (a b : DesummariseState) (is : IsUpkee
           after = task_of old.layout there.0 b;
           held = held_then;
           unnamed = u.unnamed;
-          turns = record { does = it.1; settles = it.2; own = so.0; plain = so.1 };
+          queue = p.queue;
+          requests = subst (λ (l : List (ℕ × ℕ)). AreRequestsOf old.layout l p.queue) (sym same_queue) shown.queue;
+          turns = record {
+            on = on_its p n old.layout a shown.layout;
+            takes = takes_none (statements.Desummarize a.index a.block) (u.task n) p.queue p.queue (omega arith) (not_work a.index a.block);
+            does = it.1.does;
+            point_is = it.1.point_is;
+            adds = λ b has. it.1.adds (accounts_at p number) b has;
+            settles = it.2;
+            own = so.0;
+            plain = so.1;
+          };
           right = right;
         },
         refl,

@@ -13,3 +13,9 @@ pub mod SummariseParts
 pub mod SummariseFull
 pub mod DesummariseTurns
 pub mod DesummariseParts
+pub mod SummaryReplies
+pub mod WorkEnds
+pub mod WorkAsked
+pub mod WorkAtOnce
+pub mod WorkBegins
+pub mod WorkParts

@@ -1,4 +1,4 @@
--- an index that is full for a summarise
+-- an index that is full for a summarise, or for work
 use Rattle.std.proofs.Common.{◌≡◌, ◌≢◌, inr, ℕ, ◌<◌, ◌≤◌, Bool, true, false, List, [], ◌++◌, length, Option, None, Some, refl, sym, ap, subst, ◌∙◌}
 use Rattle.std.specs.Prelude.{slice_get, slice_set}
 use Rattle.std.proofs.lemmas.Bool.{false≢true}
@@ -20,9 +20,11 @@ use Rattle.page_locks.specs.LockChanges.{GivesAll}
 use Rattle.page_locks.specs.LockCounts.{locks_of}
 use Rattle.page_locks.specs.LockHolders.{LockState, holder}
 use Rattle.page_locks.specs.RightHolders.{right_of}
+use Rattle.row_versions.specs.declared.sessions.Open.{Open}
+use Rattle.row_versions.specs.StoredVersions.{transaction_of}
+use Rattle.brin_insert.specs.AskedFor.{AreRequestsOf}
 use Rattle.statements.specs.declared.limits.TheConstants.{MAX_ENTRIES}
 use Rattle.statements.specs.declared.statement.Statement.{Statement}
-use Rattle.statements.specs.declared.statement.Statement.TheVariants as statements
 use Rattle.transactions.specs.CountedRows.{counts as counts_of}
 use Rattle.transactions.specs.Laws.{ShowAlike}
 use Rattle.transactions.specs.TransactionsState.{TransactionsState}
@@ -39,13 +41,14 @@ use Rattle.brin_summarise.specs.Summarises.{FullAt, SummariseState, count_of}
 use Rattle.brin_summarise.specs.TableSteps.{IsSummariseFull, task_of}
 use Rattle.line_texts.specs.Names.{index_name}
 use Rattle.line_texts.specs.Place.{Place, new_hand}
+use Rattle.line_texts.specs.Requests.{refused_request}
 use Rattle.line_texts.specs.StatementSteps.{Ended, IndexIsFull, Steps, StepsTo}
 use Rattle.store_parts.specs.declared.hand.Hand.{Hand}
-use Rattle.store_parts.specs.declared.hand.Hand.TheVariants as hands
 use Rattle.store_parts.specs.declared.hand.Stepped.TheVariants as stepped
 use Rattle.store_parts.specs.declared.parts.Parts.{Parts}
-use Rattle.store_parts.specs.Hands.{HandShows, block_of}
+use Rattle.store_parts.specs.Hands.{HandShows, statement_of}
 use Rattle.store_parts.specs.HandsAsk.{IsNoInsert}
+use Rattle.store_parts.specs.HandFits.{IsHandFor}
 use Rattle.store_parts.specs.HandsInTables.{table_in}
 use Rattle.store_parts.specs.PlacesAfter.{place_after}
 use Rattle.store_parts.specs.RefusalLaws.{IsMaintenanceShown}
@@ -57,8 +60,8 @@ use Rattle.store_parts.specs.UndoneLaws.{StepsSo}
 use Rattle.store_parts.proofs.Maintenance.{maintenance_refusal_is_shown}
 use Rattle.store_parts.proofs.Steps.{turn_is_refused}
 use Rattle.store_upkeep.proofs.SummariseLocks.{gives_own, gives_stay, gives_there}
-use Rattle.store_upkeep.proofs.SummariseParts.{MachineLeft, is_it, within}
-use Rattle.store_upkeep.proofs.SummariseTurns.{at_range, holds_there}
+use Rattle.store_upkeep.proofs.SummariseParts.{MachineLeft, fits, is_it, within}
+use Rattle.store_upkeep.proofs.SummariseTurns.{IsBySummarise, at_range, holds_there}
 use Rattle.store_upkeep.proofs.UpkeepAt.{IsUpkeep, IsUpkeepAt, UpkeepLeft, at_task, hand_is, here, kept_here}
 use Rattle.store_upkeep.proofs.UpkeepParts.{refused_so, with_these}
 use Rattle.store_upkeep.proofs.UpkeepSteps.{behind}
@@ -84,9 +87,9 @@ refused_there w s _ _ _ (InsertFull b k r task at number refused why) is = absur
 refused_there w s _ _ _ (MaintainFull job at range number phase refused why) is = record { job = job; range = range; phase = phase; is = refl; refused = refused; why = why }
 
 -- its session gave its page locks and its table's summarise lock
-module _ (old new : ShownStore) (n : ℕ) (a : SummariseState) (is : IsUpkeep old.layout (hands.Summarises a) a.index (λ at. task_of old.layout at a) (count_of a)) (left : UpkeepLeft old new n (hands.Summarises a) a.index)
+module _ (old new : ShownStore) (n : ℕ) (own : Option Open) (hand : SummariseState → Hand) (by : IsBySummarise old.layout own hand) (a : SummariseState) (fit : IsHandFor old.layout own (hand a)) (is : IsUpkeep old.layout (hand a) a.index (λ at. task_of old.layout at a) (count_of a)) (left : UpkeepLeft old new n (hand a) a.index)
     (p : Place) (shown : IsPlaceOf old p) (alike : ShowAlike) (pages : (place : PagePlace) → page_at new.pages place ≡ page_at old.pages place) (gives : GivesAll (holder old.locks) (holder new.locks) n)
-    (free : right_of new.rights (index_at old.layout a.index).table ≡ None) (now : hand_in new.hands n ≡ None) (number : ℕ) (at_a_range : a.standing ≡ standings.AtRange) where
+    (free : right_of new.rights (index_at old.layout a.index).table ≡ None) (now : hand_in new.hands n ≡ None) (same_queue : new.queue ≡ old.queue) (number : ℕ) (at_a_range : a.standing ≡ standings.AtRange) where
   abbrev its_task : ℕ → Task
   its_task at = task_of old.layout at a
 
@@ -94,44 +97,47 @@ module _ (old new : ShownStore) (n : ℕ) (a : SummariseState) (is : IsUpkeep ol
   its_table = (index_at old.layout a.index).table
 
   abbrev statement : Statement
-  statement = statements.Summarize a.index (block_of a.wish)
+  statement = statement_of (hand a)
 
   abbrev at_here : ShowsTable old shown.database.stored its_table (p.tables its_table)
-  at_here = here old n (hands.Summarises a) a.index its_task (count_of a) is left.had p shown
+  at_here = here old n (hand a) a.index its_task (count_of a) is left.had p shown
 
   abbrev its_at : IsUpkeepAt old.layout a.index its_task (at_here.unseen.task n)
-  its_at = at_task old n (hands.Summarises a) a.index its_task (count_of a) is left.had p shown
+  its_at = at_task old n (hand a) a.index its_task (count_of a) is left.had p shown
 
   module _ (full : IsSummariseFull n its_at.0 (shown_by old.layout old.pages old.locks its_table at_here.blocks) (its_task its_at.0) number) where
     there : RefusedThere (p.tables its_table) n (its_task its_at.0) its_at.0 number
     there = subst (λ (x : TableState). RefusedThere x n (its_task its_at.0) its_at.0 number) (sym at_here.shown)
         (refused_there _ n (its_task its_at.0) its_at.0 number
-        (full at_here.unseen its_at.2 (kept_here old n (hands.Summarises a) a.index its_task (count_of a) is left.had p shown)) (ap is_maintaining (at_range old.layout its_at.0 a at_a_range)))
+        (full at_here.unseen its_at.2 (kept_here old n (hand a) a.index its_task (count_of a) is left.had p shown)) (ap is_maintaining (at_range old.layout its_at.0 a at_a_range)))
 
     counts_same : (t : ℕ) → counts_of new.transactions shown.database.stored t ≡ counts_of old.transactions shown.database.stored t
     counts_same t = ap (λ (s : TransactionsState). counts_of s shown.database.stored t) left.transactions
 
+    at_its_task : (p.tables its_table).task n ≡ its_task its_at.0
+    at_its_task = ap (λ (x : TableState). x.task n) at_here.shown ∙ its_at.2
+
     it : IsMaintenanceShown new shown.database.stored p n its_table statement (maintain_refusal its_at.0 there.refused)
     it = maintenance_refusal_is_shown old new shown.database.stored p n its_table its_at.0 there.range statement (p.tables its_table) there.job there.phase at_here left.others pages gives free counts_same
-        (λ in_it. none-some its_table (ap (table_in old.layout) (sym now) ∙ in_it)) refl (is.on p n shown.layout)
-        (ap (λ (x : TableState). x.task n) at_here.shown ∙ its_at.2 ∙ there.is) there.refused
+        (λ in_it. none-some its_table (ap (table_in old.layout) (sym now) ∙ in_it)) refl (by.on a fit is.below p n its_at.0 shown.layout at_its_task)
+        (at_its_task ∙ there.is) there.refused
 
     told : Some (maintain_refusal its_at.0 there.refused) ≡ Some (IsFull (IndexNumber its_at.0) number)
     told = ap Some there.why
 
-    entries_are : p.journal ++ [] ≡ new.entries
-    entries_are = append-nil p.journal ∙ shown.journal ∙ sym left.entries
+    entries_are : p.journal ++ refused_request n tags.Full statement ≡ new.entries
+    entries_are = ap (λ (l : List Entry). p.journal ++ l) (by.enters a n tags.Full) ∙ append-nil p.journal ∙ shown.journal ∙ sym left.entries
 
     pub is_refused : (q : Place) × IsPlaceOf new q × Steps p n (Ended (replies.Refused (refusals.Full (index_name old.layout its_table its_at.0) number))) q
     is_refused = (
       place_after p n its_table None it.after (p.accounts n) (counts_of new.transactions shown.database.stored) new.entries,
-      behind old new n (hands.Summarises a) a.index its_task (count_of a) is left p shown alike None it.after (p.accounts n)
+      behind old new n (hand a) a.index its_task (count_of a) is left p shown alike None it.after (p.accounts n) p.queue (subst (λ (l : List (ℕ × ℕ)). AreRequestsOf old.layout l p.queue) (sym same_queue) shown.queue)
           (subst (λ (h : Option Hand). HandShows h None (p.accounts n)) (sym now) refl)
           (λ h in_it. absurd (none-some h (sym now ∙ in_it)))
           (λ other in_it. absurd (none-some other (ap (table_in old.layout) (sym now) ∙ in_it))) it.shows refl (subst IsNoInsert (sym now) tt),
       record {
         hand = new_hand statement;
-        in_hand = hand_is old n (hands.Summarises a) a.index its_task (count_of a) is left.had p shown;
+        in_hand = hand_is old n (hand a) a.index its_task (count_of a) is left.had p shown;
         steps = subst (λ (l : DiskLayout). StepsTo p n (new_hand statement) (Ended (replies.Refused (refusals.Full (index_name l its_table its_at.0) number)))
             (place_after p n its_table None it.after (p.accounts n) (counts_of new.transactions shown.database.stored) new.entries)) shown.layout
             (subst (λ (e : List Entry). StepsTo p n (new_hand statement) (Ended (replies.Refused (refusals.Full (index_name p.layout its_table its_at.0) number)))
@@ -148,24 +154,25 @@ FullInTable = (layout : DiskLayout) (pages : PageMap) (locks : LockState) (block
     → FullAt layout pages locks s a number → IsSummariseFull s at (shown_by layout pages locks (table_of layout a.index) blocks) (task_of layout at a) number
 
 -- over the parts of a store
-module _ {D : Type 0} (told : D → Told) (parts : Parts D) (n : ℕ) (a : SummariseState) (fit : IsFit told parts n (hands.Summarises a)) (below : (index_at parts.pages.layout a.index).table < length parts.pages.layout.schema.tables) where
+module _ {D : Type 0} (told : D → Told) (parts : Parts D) (n : ℕ) (hand : SummariseState → Hand) (by : IsBySummarise parts.pages.layout (transaction_of parts.transactions.opens n) hand) (a : SummariseState)
+    (fit : IsFit told parts n (hand a)) (below : (index_at parts.pages.layout a.index).table < length parts.pages.layout.schema.tables) where
   abbrev number : ℕ
   number = (index_at parts.pages.layout a.index).table
 
-  abbrev is_there : IsUpkeep parts.pages.layout (hands.Summarises a) a.index (λ at. task_of parts.pages.layout at a) (count_of a)
-  is_there = is_it told parts n a fit below
+  abbrev is_there : IsUpkeep parts.pages.layout (hand a) a.index (λ at. task_of parts.pages.layout at a) (count_of a)
+  is_there = is_it told parts n hand by a fit below
 
-  pub full_so : FullInTable → ShowAlike → (pages : View D) (locks given : LockState) (b : SummariseState) (left : MachineLeft told parts n a fit below pages locks b)
+  pub full_so : FullInTable → ShowAlike → (pages : View D) (locks given : LockState) (b : SummariseState) (left : MachineLeft told parts n a pages locks b)
       → (room : ℕ) → (Tells told parts.pages → FullAt parts.pages.layout parts.pages.pages parts.locks n a room) → locks ≡ parts.locks → Keeps told parts.pages pages → StaysReady parts.pages pages
       → GivesAll (holder locks) (holder given) n → given.limit ≡ locks.limit → locks_of given n ≡ 0 → ((m : ℕ) → m ≢ n → locks_of given m ≡ locks_of locks m)
       → (rights : List (Option ℕ)) → (right_of parts.rights number ≡ Some n → rights ≡ slice_set parts.rights number None) → (right_of parts.rights number ≢ Some n → rights ≡ parts.rights)
       → (reply : Reply) → ((table at : ℕ) → slice_get (indexes_of parts.pages.layout table) at ≡ Some a.index → reply ≡ replies.Refused (refusals.Full (index_name parts.pages.layout table at) room))
-      → StepsSo told parts (with_these parts pages given rights) n (hands.Summarises a) (stepped.Done reply)
+      → StepsSo told parts (with_these parts pages given rights) n (hand a) (stepped.Done reply)
   full_so law alike pages locks given b left room full same_locks keeps ready gives limit none others rights gave kept reply named =
-      let inside = within told parts n a fit below in
+      let inside = within told parts n hand by a fit below in
       let stays = gives_stay number n parts.rights rights inside gave kept in
       let all_given : GivesAll (holder parts.locks) (holder given) n = subst (λ (l : LockState). GivesAll (holder l) (holder given) n) same_locks gives in
-      refused_so told parts pages given rights n (hands.Summarises a) a.index (λ at. task_of parts.pages.layout at a) (count_of a) fit is_there (record {
+      refused_so told parts pages given rights parts.queue n (hand a) a.index (λ at. task_of parts.pages.layout at a) (count_of a) fit is_there (record {
         others = left.others;
         order = left.order;
         limit = limit ∙ left.counts.limit;
@@ -173,13 +180,13 @@ module _ {D : Type 0} (told : D → Told) (parts : Parts D) (n : ℕ) (a : Summa
         tables = stays.tables;
         apart = stays.apart;
         theirs = stays.theirs;
-      }) none refl ready (inr all_given) (gives_own number n parts.rights rights inside gave kept) reply (λ names hand_list has tells p shown so now.
+      }) none (by.share a) ready (inr all_given) (gives_own number n parts.rights rights inside gave kept) reply (λ names hand_list has tells p shown so now.
       let old = shown_of (store_of parts names hand_list) in
-      let it = at_task old n (hands.Summarises a) a.index (λ at. task_of parts.pages.layout at a) (count_of a) is_there so.had p shown in
-      let shows = here old n (hands.Summarises a) a.index (λ at. task_of parts.pages.layout at a) (count_of a) is_there so.had p shown in
+      let it = at_task old n (hand a) a.index (λ at. task_of parts.pages.layout at a) (count_of a) is_there so.had p shown in
+      let shows = here old n (hand a) a.index (λ at. task_of parts.pages.layout at a) (count_of a) is_there so.had p shown in
       let at = (full tells).0 in
-      let held : right_of parts.rights number ≡ Some n = holds_there old n a is_there so.had p shown at in
-      let made = is_refused old _ n a is_there so p shown alike (λ place. ap (λ (m : PageMap). page_at m place) (keeps.pages tells)) all_given
-      (gives_there number n parts.rights rights inside gave kept held) now room at
+      let held : right_of parts.rights number ≡ Some n = holds_there old n (hand a) a is_there so.had p shown at in
+      let made = is_refused old _ n (transaction_of parts.transactions.opens n) hand by a (fits told parts n hand by a fit below).in_hand is_there so p shown alike (λ place. ap (λ (m : PageMap). page_at m place) (keeps.pages tells)) all_given
+      (gives_there number n parts.rights rights inside gave kept held) now refl room at
       (law parts.pages.layout parts.pages.pages parts.locks shows.blocks n it.0 room a it.1 (full tells)) in
       (made.0, made.1, subst (λ (r : Reply). Steps p n (Ended r) made.0) (sym (named number it.0 it.1)) made.2))

@@ -1,8 +1,9 @@
--- a step of a summarise, in a place that the store shows
-use Rattle.std.proofs.Common.{◌≡◌, ◌≢◌, ◌⊎◌, inl, inr, ℕ, ◌/◌, ◌<◌, Bool, List, length, Option, None, Some, refl, sym, ap, subst, ◌∙◌}
+-- a step of a summarise, in a place that the store shows: of the statement itself, or of work
+use Rattle.std.proofs.Common.{◌≡◌, ◌≢◌, ◌⊎◌, inl, inr, ℕ, ◌/◌, ◌<◌, Bool, List, [], length, Option, None, Some, refl, sym, ap, subst, ◌∙◌, arith}
 use Rattle.std.specs.Prelude.{slice_get}
 use Rattle.std.proofs.lemmas.Option.{none-some, same_Some}
 use Rattle.block_model.specs.declared.reply.Point.{Point}
+use Rattle.block_model.specs.declared.request.Tag.{Tag}
 use Rattle.block_model.specs.DatabaseState.{OpenTransaction}
 use Rattle.block_model.specs.declared.place.Spot.{Spot}
 use Rattle.store_layout.specs.DiskLayout.{DiskLayout}
@@ -12,12 +13,13 @@ use Rattle.page_locks.specs.declared.did.Did.{Did}
 use Rattle.page_locks.specs.declared.did.Did.TheVariants as did
 use Rattle.page_locks.specs.LockHolders.{LockState}
 use Rattle.page_locks.specs.RightHolders.{right_of}
+use Rattle.row_versions.specs.declared.sessions.Open.{Open}
 use Rattle.statements.specs.declared.statement.Statement.TheVariants as statements
 use Rattle.coverage.specs.Statements.{Phase}
 use Rattle.index_steps.specs.IndexTuples.{index_at, shape_of}
 use Rattle.index_steps.specs.ShownRows.{shown_by}
 use Rattle.index_steps.specs.ShownTable.{indexes_of, shown_at}
-use Rattle.table_coverage.specs.Accounts.{Account, no_account}
+use Rattle.table_coverage.specs.Accounts.{Account, Asked, no_account}
 use Rattle.table_coverage.specs.InOneIndex.{DoesAt}
 use Rattle.table_coverage.specs.Machines.{ShownTable, Unseen, table_state}
 use Rattle.table_coverage.specs.Table.{Considers, Job, Maintains, OneRange, Resting, TableState, Task}
@@ -29,15 +31,20 @@ use Rattle.brin_summarise.specs.declared.course.Standing.{Standing}
 use Rattle.brin_summarise.specs.declared.course.Standing.TheVariants as standings
 use Rattle.brin_summarise.specs.declared.wish.Wish.{Wish}
 use Rattle.brin_summarise.specs.declared.wish.Wish.TheVariants as wishes
-use Rattle.brin_summarise.specs.Summarises.{IsSummariseOf, RightAnswers, StoreStep, SummariseDoes, SummariseState, count_of, first_of, in_range_of}
+use Rattle.brin_summarise.specs.Summarises.{IsSummariseOf, RightAnswers, StoreStep, SummariseDoes, SummariseState, count_of, first_of, held_by, in_range_of}
 use Rattle.brin_summarise.specs.TableSteps.{DoesInTable, HasCounted, IsFirstWithin, LeavesTheRest, SummariseGoes, account_by, before_first, behind_last, first_task, held_behind, indexes_left, job_of, task_at, task_of}
-use Rattle.line_texts.specs.Beginnings.{Begins, StandsAt}
-use Rattle.line_texts.specs.Place.{Place}
+use Rattle.brin_insert.specs.AskedFor.{AreRequestsOf}
+use Rattle.line_texts.specs.Beginnings.{Begins, IsIn, StandsAt, TakesUp}
+use Rattle.line_texts.specs.Place.{Place, accounts_at}
+use Rattle.line_texts.specs.Requests.{refused_request}
+use Rattle.store_parts.specs.declared.hand.Hand.{Hand}
 use Rattle.store_parts.specs.declared.hand.Hand.TheVariants as hands
-use Rattle.store_parts.specs.Hands.{block_of}
-use Rattle.store_parts.specs.HandFits.{right_at}
+use Rattle.store_parts.specs.Hands.{block_of, statement_of}
+use Rattle.store_parts.specs.HandFits.{IsHandFor, locks_held, right_at, right_held}
+use Rattle.store_parts.specs.Shares.{hand_share}
 use Rattle.store_parts.specs.ShowsPlace.{IsLeftToMark, IsPlaceOf}
 use Rattle.store_parts.specs.StoreStates.{ShownStore, hand_in}
+use Rattle.store_parts.proofs.Steps.{takes_none}
 use Rattle.store_upkeep.proofs.SummariseLocks.{OthersStay, same_stays, set_stays, set_there}
 use Rattle.store_upkeep.proofs.UpkeepAt.{IsUpkeep, IsUpkeepAt, at_task, counted, here, kept_here, pages_show, table, unseen_here, w}
 use Rattle.store_upkeep.proofs.UpkeepPoints.{IsPlain, first_point, maintain_point}
@@ -52,7 +59,7 @@ of_any_copy : (copy : Option OpenTransaction) (a : SummariseState) → IsLeftToM
 of_any_copy None a = tt
 of_any_copy (Some x) a = tt
 
-right_of_its : (own table : ℕ) (standing : Standing) → right_at own standing ≡ Some table → table ≡ own
+pub right_of_its : (own table : ℕ) (standing : Standing) → right_at own standing ≡ Some table → table ≡ own
 right_of_its own table standings.Begins has = absurd (none-some table has)
 right_of_its own table standings.AtRange has = sym (same_Some own table has)
 right_of_its own table standings.Done has = absurd (none-some table has)
@@ -62,8 +69,6 @@ pub is_summarise : (layout : DiskLayout) (a : SummariseState) → a.index < leng
 is_summarise layout a within below = record {
   within = within;
   below = below;
-  on = λ p n same. ap (λ (l : DiskLayout). (index_at l a.index).table) (sym same);
-  no_work = not_work a.index (block_of a.wish);
   lock = refl;
   asks = λ n answers. refl;
   answers = λ answers is. is;
@@ -71,7 +76,7 @@ is_summarise layout a within below = record {
   tells = λ account is. is;
   told = refl;
   own = λ transaction copy. of_any_copy copy a;
-  in_table = refl;
+  in_table = λ table has. sym (same_Some (index_at layout a.index).table table has);
   no_insert = tt;
   asked = λ asked. tt;
   right = λ table has. right_of_its (index_at layout a.index).table table a.standing has;
@@ -135,8 +140,56 @@ pub is_over : (layout : DiskLayout) (at : ℕ) (a : SummariseState) → a.wish �
 is_over layout at a other is = ap (λ (q : Standing). task_at layout at a q) is ∙ last_rests a.wish at (indexes_left layout a.index at) other
 
 -- before its first step it is at nothing
-is_new : (layout : DiskLayout) (at : ℕ) (a : SummariseState) → a.wish ≢ wishes.Complete → a.standing ≡ standings.Begins → task_of layout at a ≡ Resting
+pub is_new : (layout : DiskLayout) (at : ℕ) (a : SummariseState) → a.wish ≢ wishes.Complete → a.standing ≡ standings.Begins → task_of layout at a ≡ Resting
 is_new layout at a other is = ap (λ (q : Standing). task_at layout at a q) is ∙ first_rests a.wish at other
+
+-- ---- the statements that make its steps
+
+-- A statement that makes the steps of a summarise, with it in hand: a summarise itself, or work at the range of its request.
+pub record IsBySummarise (layout : DiskLayout) (own : Option Open) (hand : SummariseState → Hand) : Type 0 where
+  pub of : (a : SummariseState) → IsHandFor layout own (hand a) → IsSummariseOf layout a
+  pub left : (a : SummariseState) → IsHandFor layout own (hand a) → a.standing ≢ standings.Done
+  pub wish : (a : SummariseState) → IsHandFor layout own (hand a) → a.wish ≢ wishes.Complete
+  -- it stays fit where the summarise is at a range then, or stands where it stood
+  pub goes : (a b : SummariseState) → IsHandFor layout own (hand a) → IsSummariseOf layout b → b.index ≡ a.index → b.wish ≡ a.wish → (b.standing ≡ standings.AtRange) ⊎ (b.standing ≡ a.standing) → IsHandFor layout own (hand b)
+  pub upkeep : (a : SummariseState) → IsHandFor layout own (hand a) → (index_at layout a.index).table < length layout.schema.tables
+      → IsUpkeep layout (hand a) a.index (λ at. task_of layout at a) (count_of a)
+  pub same : (a b : SummariseState) → b.index ≡ a.index → b.wish ≡ a.wish → statement_of (hand b) ≡ statement_of (hand a)
+  pub locks : (a : SummariseState) → locks_held (Some (hand a)) ≡ held_by a
+  pub right : (a : SummariseState) → right_held layout (Some (hand a)) ≡ right_at (index_at layout a.index).table a.standing
+  pub share : (a : SummariseState) → hand_share (Some (hand a)) ≡ 0
+  pub enters : (a : SummariseState) (n : ℕ) (tag : Tag) → refused_request n tag (statement_of (hand a)) ≡ []
+  pub begins : (a : SummariseState) → IsHandFor layout own (hand a) → a.standing ≡ standings.Begins → (pages : PageMap) (locks : LockState) (blocks : List (List Slot)) (u : Unseen) (p : Place) (n at : ℕ) → p.layout ≡ layout
+      → StandsAt layout a.index at → Begins p n (table_state (shown_by layout pages locks (index_at layout a.index).table blocks) u) (statement_of (hand a)) (first_task layout at (length blocks) a)
+  pub on : (a : SummariseState) → IsHandFor layout own (hand a) → (index_at layout a.index).table < length layout.schema.tables → (p : Place) (n at : ℕ) → p.layout ≡ layout
+      → (p.tables (index_at layout a.index).table).task n ≡ task_of layout at a → IsIn p n (statement_of (hand a)) (index_at layout a.index).table
+  pub takes : (a : SummariseState) → IsHandFor layout own (hand a) → (at : ℕ) (queue : List Asked) → TakesUp (statement_of (hand a)) (task_of layout at a) queue queue
+
+not_done : standings.AtRange ≢ standings.Done
+not_done is = cc
+
+goes_left : (a b : SummariseState) → a.standing ≢ standings.Done → (b.standing ≡ standings.AtRange) ⊎ (b.standing ≡ a.standing) → b.standing ≢ standings.Done
+goes_left a b left stands done = elim stands [
+  | inl at ↦ not_done (sym at ∙ done)
+  | inr same ↦ left (sym same ∙ done)
+]
+
+pub by_summarise : (layout : DiskLayout) (own : Option Open) → IsBySummarise layout own (λ a. hands.Summarises a)
+by_summarise layout own = record {
+  of = λ a fit. fit.0;
+  left = λ a fit. fit.1;
+  wish = λ a fit. fit.2;
+  goes = λ a b fit of index wish stands. (of, goes_left a b fit.1 stands, λ complete. fit.2 (sym wish ∙ complete));
+  upkeep = λ a fit below. is_summarise layout a fit.0.index below;
+  same = λ a b index wish. λ j. statements.Summarize (index j) (block_of (wish j));
+  locks = λ a. refl;
+  right = λ a. refl;
+  share = λ a. refl;
+  enters = λ a n tag. refl;
+  begins = λ a fit begins pages locks blocks u p n at same stands. begins_there layout pages locks blocks u p n at a same fit.2 stands;
+  on = λ a fit below p n at same is. ap (λ (l : DiskLayout). (index_at l a.index).table) (sym same);
+  takes = λ a fit at queue. takes_none (statements.Summarize a.index (block_of a.wish)) (task_of layout at a) queue queue (omega arith) (not_work a.index (block_of a.wish));
+}
 
 -- ---- the summarise lock behind its step
 
@@ -171,62 +224,63 @@ StepsInTable = (step : StoreStep) (at : ℕ) (a b : SummariseState) (answer : Di
     → LeavesTheRest step a.index → SummariseDoes step a b answer → DoesInTable step at a b answer
 
 -- at a range it holds the summarise lock of its table
-pub holds_there : (old : ShownStore) (n : ℕ) (a : SummariseState) (is : IsUpkeep old.layout (hands.Summarises a) a.index (λ at. task_of old.layout at a) (count_of a)) (had : hand_in old.hands n ≡ Some (hands.Summarises a))
+pub holds_there : (old : ShownStore) (n : ℕ) (was : Hand) (a : SummariseState) (is : IsUpkeep old.layout was a.index (λ at. task_of old.layout at a) (count_of a)) (had : hand_in old.hands n ≡ Some was)
     → (p : Place) (shown : IsPlaceOf old p) → a.standing ≡ standings.AtRange → right_of old.rights (index_at old.layout a.index).table ≡ Some n
-holds_there old n a is had p shown at =
-    let shows = here old n (hands.Summarises a) a.index (λ at. task_of old.layout at a) (count_of a) is had p shown in
-    let it = at_task old n (hands.Summarises a) a.index (λ at. task_of old.layout at a) (count_of a) is had p shown in
-    let kept = kept_here old n (hands.Summarises a) a.index (λ at. task_of old.layout at a) (count_of a) is had p shown in
+holds_there old n was a is had p shown at =
+    let shows = here old n was a.index (λ at. task_of old.layout at a) (count_of a) is had p shown in
+    let it = at_task old n was a.index (λ at. task_of old.layout at a) (count_of a) is had p shown in
+    let kept = kept_here old n was a.index (λ at. task_of old.layout at a) (count_of a) is had p shown in
     sym shows.lock ∙ (kept.summarise_lock n).1 (subst (λ (t : Task). IsMaintenance t) (sym (it.2 ∙ at_range old.layout it.0 a at)) tt)
 
-module _ (old new : ShownStore) (n : ℕ) (a b : SummariseState) (is : IsUpkeep old.layout (hands.Summarises a) a.index (λ at. task_of old.layout at a) (count_of a)) (had : hand_in old.hands n ≡ Some (hands.Summarises a))
-    (p : Place) (shown : IsPlaceOf old p) (left : a.standing ≢ standings.Done) (wish : a.wish ≢ wishes.Complete) where
+module _ (old new : ShownStore) (n : ℕ) (own : Option Open) (hand : SummariseState → Hand) (by : IsBySummarise old.layout own hand) (a b : SummariseState) (fit : IsHandFor old.layout own (hand a)) (is : IsUpkeep old.layout (hand a) a.index (λ at. task_of old.layout at a) (count_of a)) (had : hand_in old.hands n ≡ Some (hand a))
+    (p : Place) (shown : IsPlaceOf old p) where
   abbrev number : ℕ
-  number = table old n (hands.Summarises a) a.index (λ at. task_of old.layout at a) (count_of a) is had p shown
+  number = table old n (hand a) a.index (λ at. task_of old.layout at a) (count_of a) is had p shown
 
   abbrev blocks : List (List Slot)
-  blocks = (here old n (hands.Summarises a) a.index (λ at. task_of old.layout at a) (count_of a) is had p shown).blocks
+  blocks = (here old n (hand a) a.index (λ at. task_of old.layout at a) (count_of a) is had p shown).blocks
 
   abbrev u : Unseen
-  u = unseen_here old n (hands.Summarises a) a.index (λ at. task_of old.layout at a) (count_of a) is had p shown
+  u = unseen_here old n (hand a) a.index (λ at. task_of old.layout at a) (count_of a) is had p shown
 
   abbrev there : IsUpkeepAt old.layout a.index (λ at. task_of old.layout at a) (u.task n)
-  there = at_task old n (hands.Summarises a) a.index (λ at. task_of old.layout at a) (count_of a) is had p shown
+  there = at_task old n (hand a) a.index (λ at. task_of old.layout at a) (count_of a) is had p shown
 
   abbrev shown_then : ShownTable
   shown_then = shown_by old.layout new.pages new.locks number blocks
 
   module _ (point : Point) (account : Account → Account) (between : Task) (unnamed : ℕ → Spot → Bool)
-      (does : DoesAt n (w old n (hands.Summarises a) a.index (λ at. task_of old.layout at a) (count_of a) is had p shown) (table_state shown_then (turned n (Some n) between unnamed u)) point account)
+      (does : DoesAt n (w old n (hand a) a.index (λ at. task_of old.layout at a) (count_of a) is had p shown) (table_state shown_then (turned n (Some n) between unnamed u)) point account)
       (first : IsFirstWithin a.standing (first_task old.layout there.0 (length blocks) a) between) where
     abbrev Own : Type 0
-    Own = (u.task n ≢ Resting) ⊎ Begins p n (w old n (hands.Summarises a) a.index (λ at. task_of old.layout at a) (count_of a) is had p shown) (statements.Summarize a.index (block_of a.wish)) between
+    Own = (u.task n ≢ Resting) ⊎ Begins p n (w old n (hand a) a.index (λ at. task_of old.layout at a) (count_of a) is had p shown) (statement_of (hand a)) between
 
     own_by : (standing : Standing) → a.standing ≡ standing → Own × IsPlain point
     own_by standings.Begins at =
         let between_is : between ≡ first_task old.layout there.0 (length blocks) a = subst (λ (q : Standing). IsFirstWithin q (first_task old.layout there.0 (length blocks) a) between) at first in (
-          inr (subst (λ (t : Task). Begins p n (w old n (hands.Summarises a) a.index (λ at. task_of old.layout at a) (count_of a) is had p shown) (statements.Summarize a.index (block_of a.wish)) t) (sym between_is)
-              (begins_there old.layout old.pages old.locks blocks u p n there.0 a shown.layout wish there.1)),
-          first_point n _ _ point _ _ _ (there.2 ∙ is_new old.layout there.0 a wish at) (pick_same n between (u.task n) ∙ between_is) does.does does.point_is,
+          inr (subst (λ (t : Task). Begins p n (w old n (hand a) a.index (λ at. task_of old.layout at a) (count_of a) is had p shown) (statement_of (hand a)) t) (sym between_is)
+              (by.begins a fit at old.pages old.locks blocks u p n there.0 shown.layout there.1)),
+          first_point n _ _ point _ _ _ (there.2 ∙ is_new old.layout there.0 a (by.wish a fit) at) (pick_same n between (u.task n) ∙ between_is) does.does does.point_is,
         )
     own_by standings.AtRange at = (
       inl (λ rests. is_busy old.layout there.0 a at (sym there.2 ∙ rests)),
       maintain_point n _ _ point _ _ _ _ (there.2 ∙ at_range old.layout there.0 a at) does.does does.point_is,
     )
-    own_by standings.Done at = absurd (left at)
+    own_by standings.Done at = absurd (by.left a fit at)
 
     pub own_so : Own × IsPlain point
     own_so = own_by a.standing refl
 
   -- a step that goes on, or replies
   pub made_by : (point : Point) (count : ℕ) (held_then : Option ℕ)
-      → SummariseGoes n (pages_show old n (hands.Summarises a) a.index (λ at. task_of old.layout at a) (count_of a) is had p shown) shown_then (right_of old.rights number) held_then (task_of old.layout there.0 a) (task_of old.layout there.0 b) point
+      → SummariseGoes n (pages_show old n (hand a) a.index (λ at. task_of old.layout at a) (count_of a) is had p shown) shown_then (right_of old.rights number) held_then (task_of old.layout there.0 a) (task_of old.layout there.0 b) point
       (account_by a.wish a.standing count) a.standing (first_task old.layout there.0 (length blocks) a)
-      → held_then ≡ right_of new.rights number
-      → (made : MadeIn old new n (hands.Summarises a) a.index (λ at. task_of old.layout at a) (count_of a) is had p shown point) × (made.after ≡ task_of old.layout there.0 b) × (made.account ≡ account_by a.wish a.standing count)
-  made_by point count held_then goes right =
-      let kept = kept_here old n (hands.Summarises a) a.index (λ at. task_of old.layout at a) (count_of a) is had p shown in
-      let lock = (here old n (hands.Summarises a) a.index (λ at. task_of old.layout at a) (count_of a) is had p shown).lock in
+      → held_then ≡ right_of new.rights number → new.queue ≡ old.queue
+      → (made : MadeIn old new n (hand a) a.index (λ at. task_of old.layout at a) (count_of a) is had p shown point) × (made.after ≡ task_of old.layout there.0 b) × (made.account ≡ account_by a.wish a.standing count)
+  made_by point count held_then goes right same_queue =
+      let kept = kept_here old n (hand a) a.index (λ at. task_of old.layout at a) (count_of a) is had p shown in
+      let shows = here old n (hand a) a.index (λ at. task_of old.layout at a) (count_of a) is had p shown in
+      let lock = shows.lock in
       let it = goes.0 u there.2 lock kept in
       let so = own_so point (account_by a.wish a.standing count) it.2 it.0 it.3 (goes.1 u there.2 lock kept) in (
         record {
@@ -235,7 +289,18 @@ module _ (old new : ShownStore) (n : ℕ) (a b : SummariseState) (is : IsUpkeep 
           after = task_of old.layout there.0 b;
           held = held_then;
           unnamed = it.0;
-          turns = record { does = it.3; settles = it.4; own = so.0; plain = so.1 };
+          queue = p.queue;
+          requests = subst (λ (l : List (ℕ × ℕ)). AreRequestsOf old.layout l p.queue) (sym same_queue) shown.queue;
+          turns = record {
+            on = by.on a fit is.below p n there.0 shown.layout (ap (λ (x : TableState). x.task n) shows.shown ∙ there.2);
+            takes = subst (λ (t : Task). TakesUp (statement_of (hand a)) t p.queue p.queue) (sym there.2) (by.takes a fit there.0 p.queue);
+            does = it.3.does;
+            point_is = it.3.point_is;
+            adds = λ b has. it.3.adds (accounts_at p number) b has;
+            settles = it.4;
+            own = so.0;
+            plain = so.1;
+          };
           right = right;
         },
         refl,

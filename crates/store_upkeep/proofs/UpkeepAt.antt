@@ -13,7 +13,6 @@ use Rattle.snapshot_core.specs.declared.statuses.Status.{Status}
 use Rattle.row_versions.specs.declared.sessions.Open.{Open}
 use Rattle.row_versions.specs.StoredVersions.{transaction_of}
 use Rattle.statements.specs.declared.limits.TheConstants.{MAX_ENTRIES}
-use Rattle.statements.specs.declared.statement.Statement.TheVariants as statements
 use Rattle.tx_table.specs.TxState.{TxState}
 use Rattle.index_contents.specs.IndexContents.{index_page, relation_of as index_relation}
 use Rattle.table_coverage.specs.Accounts.{Account, Asked, no_account}
@@ -22,7 +21,7 @@ use Rattle.table_coverage.specs.Table.{TableState, Task}
 use Rattle.table_coverage.specs.TableCovered.{IsTableKept}
 use Rattle.index_steps.specs.IndexTuples.{index_at}
 use Rattle.index_steps.specs.ShownRows.{shown_by}
-use Rattle.line_texts.specs.Beginnings.{IsIn, StandsAt, takes_lock}
+use Rattle.line_texts.specs.Beginnings.{StandsAt, takes_lock}
 use Rattle.line_texts.specs.Place.{Hand as HandAt, Place, new_hand}
 use Rattle.line_texts.specs.Requests.{next_request}
 use Rattle.store_parts.specs.declared.hand.Hand.{Hand}
@@ -43,12 +42,10 @@ abbrev pub IsUpkeepAt : DiskLayout → (index : ℕ) → (ℕ → Task) → Task
 IsUpkeepAt layout index task now = (at : ℕ) × StandsAt layout index at × (now ≡ task at)
 
 -- What a maintenance statement in hand is: one of this index of a table, at this task by the index's place there, and with so many ranges counted. It makes no
--- request, and needs the summarise lock.
+-- request, and needs the summarise lock. It is in no other table; work is in none before its first step.
 pub record IsUpkeep (layout : DiskLayout) (hand : Hand) (index : ℕ) (task : ℕ → Task) (count : ℕ) : Type 0 where
   pub within : index < length layout.schema.indexes
   pub below : (index_at layout index).table < length layout.schema.tables
-  pub on : (p : Place) (n : ℕ) → p.layout ≡ layout → IsIn p n (statement_of hand) (index_at layout index).table
-  pub no_work : statement_of hand ≢ statements.Work
   pub lock : IsTrue (takes_lock (statement_of hand))
   pub asks : (n : ℕ) (answers : List Answer) → next_request n (statement_of hand) answers ≡ None
   pub answers : (answers : List Answer) → AnswersAre hand answers → answers ≡ []
@@ -56,7 +53,7 @@ pub record IsUpkeep (layout : DiskLayout) (hand : Hand) (index : ℕ) (task : �
   pub tells : (account : Account) → TellsSo hand account → account ≡ counted count
   pub told : TellsSo hand (counted count)
   pub own : (transaction : Option Open) (copy : Option OpenTransaction) → IsOfTransaction transaction copy hand
-  pub in_table : table_in layout (Some hand) ≡ Some (index_at layout index).table
+  pub in_table : (table : ℕ) → table_in layout (Some hand) ≡ Some table → table ≡ (index_at layout index).table
   pub no_insert : IsNoInsert (Some hand)
   pub asked : (asked : List Asked) → HandAsked layout (Some hand) asked
   pub right : (table : ℕ) → right_held layout (Some hand) ≡ Some table → table ≡ (index_at layout index).table
@@ -65,7 +62,8 @@ pub record IsUpkeep (layout : DiskLayout) (hand : Hand) (index : ℕ) (task : �
   pub is_task : (table : ℕ) (blocks : List (List Slot)) (tx : TxState) (stored : List Status) (transaction : Option Open) (now : Task)
       → InItsTable (index_at layout index).table table (IsUpkeepAt layout index task now) now → IsTaskOf layout table blocks tx stored transaction (Some hand) now
 
--- what a step of its machine left of the store: pages of the index alone changed, and locks of them, and the table's summarise lock
+-- what a step of its machine left of the store: pages of the index alone changed, and locks of them, and the table's summarise lock; and perhaps the requests
+-- for summaries
 pub record UpkeepLeft (old new : ShownStore) (n : ℕ) (was : Hand) (index : ℕ) : Type 0 where
   pub had : hand_in old.hands n ≡ Some was
   pub others : LeavesOthers n old new
@@ -76,7 +74,6 @@ pub record UpkeepLeft (old new : ShownStore) (n : ℕ) (was : Hand) (index : ℕ
       → IsIndexInOrder old.layout.sizes.index_blocks (index_page old.layout new.pages i)
   pub transactions : new.transactions ≡ old.transactions
   pub entries : new.entries ≡ old.entries
-  pub queue : new.queue ≡ old.queue
   pub dropped : new.dropped ≡ old.dropped
   pub few : length old.entries ≤ MAX_ENTRIES
 

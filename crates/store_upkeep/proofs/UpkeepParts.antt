@@ -71,6 +71,10 @@ LocksLeft layout old new n index = LeavesLocks (holder old) (holder new) (index_
 abbrev pub with_these : {D : Type 0} → Parts D → View D → LockState → List (Option ℕ) → Parts D
 with_these parts pages locks rights = record parts { pages = pages; locks = locks; rights = rights }
 
+-- and with these requests for summaries
+abbrev pub with_queue : {D : Type 0} → Parts D → View D → LockState → List (Option ℕ) → List (ℕ × ℕ) → Parts D
+with_queue parts pages locks rights queue = record parts { pages = pages; locks = locks; rights = rights; queue = queue }
+
 -- ---- a fault that comes from pages
 
 pub leaves_same : {D : Type 0} (told : D → Told) (store : View D) → Leaves told store store
@@ -98,10 +102,10 @@ refused_untold told Cause old now errors.Disk untold refused = refused
 refused_untold told Cause old now (errors.Reopen faults) untold refused = refused
 refused_untold told Cause old now (errors.Damaged at) untold refused = (refused.0, refused.1, refused.2, untold refused.0 refused.3)
 
-module _ {D : Type 0} (told : D → Told) (parts : Parts D) (pages : View D) (locks : LockState) (rights : List (Option ℕ)) (n : ℕ) (was : Hand) (index : ℕ) (task : ℕ → Task) (count : ℕ)
+module _ {D : Type 0} (told : D → Told) (parts : Parts D) (pages : View D) (locks : LockState) (rights : List (Option ℕ)) (queue : List (ℕ × ℕ)) (n : ℕ) (was : Hand) (index : ℕ) (task : ℕ → Task) (count : ℕ)
     (fit : IsFit told parts n was) (is : IsUpkeep parts.pages.layout was index task count) (left : PartsLeft told parts pages locks rights n index) where
   abbrev pub new : Parts D
-  new = with_these parts pages locks rights
+  new = with_queue parts pages locks rights queue
 
   pub fits : FitsParts told parts n (Some was)
   fits = fit_of_parts told parts n was fit
@@ -202,7 +206,6 @@ module _ {D : Type 0} (told : D → Told) (parts : Parts D) (pages : View D) (lo
       order = λ i below ordered. order_so tells i ordered;
       transactions = refl;
       entries = refl;
-      queue = refl;
       dropped = refl;
       few = fits.entries;
     }
@@ -276,10 +279,10 @@ module _ {D : Type 0} (told : D → Told) (parts : Parts D) (pages : View D) (lo
     IsWaiting what by = (names : List (List ℕ)) (hand_list : List (Option Hand)) (has : hand_in hand_list n ≡ Some was) → Tells told parts.pages → (p : Place) (shown : IsPlaceOf (old_store names hand_list has) p)
         → ((place : ℕ) → StandsAt parts.pages.layout index place → next_task place ≡ task place) × Steps p n (Waits (refusals.Blocked what (name_of p by))) p
 
-    pub waits_so : ShowAlike → LocksLeft parts.pages.layout parts.locks locks n index → Keeps told parts.pages pages → locks ≡ parts.locks → rights ≡ parts.rights → (what : What) (by : ℕ)
+    pub waits_so : ShowAlike → LocksLeft parts.pages.layout parts.locks locks n index → Keeps told parts.pages pages → locks ≡ parts.locks → rights ≡ parts.rights → queue ≡ parts.queue → (what : What) (by : ℕ)
         → (by ≢ n) × ((1 ≤ locks_of parts.locks by) ⊎ ((t : ℕ) × (right_of parts.rights t ≡ Some by))) → IsWaiting what by → StepsSo told parts new n was (stepped.Blocked what by next)
     unfolding left_so
-    waits_so alike leaves keeps same_locks same_rights what by holder_is waits = record {
+    waits_so alike leaves keeps same_locks same_rights same_queue what by holder_is waits = record {
       steps = λ names hand_list has tells first then p shown. (
         p,
         stays_shown (old_store names hand_list has) (new_store names hand_list has (Some next)) n was next index task next_task count is (record {
@@ -291,12 +294,13 @@ module _ {D : Type 0} (told : D → Told) (parts : Parts D) (pages : View D) (lo
           pages = λ place. ap (λ (m : PageMap). page_at m place) (keeps.pages tells);
           locks = same_locks;
           rights = same_rights;
+          queue = same_queue;
         }) p shown alike,
         (waits names hand_list has tells p shown).1,
       );
       fit = stays_fit (stepped.Blocked what by next) (fits_then (Some next) in_hand own share (held_same (Some next) right same_rights));
       others = leaves_others (stepped.Blocked what by next) share;
-      stays = λ names hand_list has. (record { pages = keeps; transactions = refl; locks = same_locks; rights = same_rights; journal = refl; queue = refl; dropped = refl }, same, holder_is);
+      stays = λ names hand_list has. (record { pages = keeps; transactions = refl; locks = same_locks; rights = same_rights; journal = refl; queue = same_queue; dropped = refl }, same, holder_is);
       cause = ready;
     }
 

@@ -20,8 +20,9 @@ use Rattle.index_contents.specs.IndexContents.{relation_of as index_relation}
 use Rattle.table_coverage.specs.Table.{Task}
 use Rattle.table_coverage.specs.TablePoints.{IsHeldBy, PageLock, SummariseLock, WaitedFor, waits_for}
 use Rattle.table_coverage.specs.TableSteps.{IsBlocked}
+use Rattle.index_steps.specs.IndexTuples.{index_at}
 use Rattle.index_steps.specs.ShownTable.{shown_at}
-use Rattle.line_texts.specs.Beginnings.{StandsAt}
+use Rattle.line_texts.specs.Beginnings.{IsIn, StandsAt}
 use Rattle.line_texts.specs.Names.{name_of}
 use Rattle.line_texts.specs.Place.{Hand as HandAt, Place, database_at, new_hand}
 use Rattle.line_texts.specs.StatementSteps.{Steps, StepsTo, Waits, what_of}
@@ -46,6 +47,7 @@ pub record UpkeepStays (old new : ShownStore) (n : ℕ) (was next : Hand) (index
   pub pages : (place : PagePlace) → page_at new.pages place ≡ page_at old.pages place
   pub locks : new.locks ≡ old.locks
   pub rights : new.rights ≡ old.rights
+  pub queue : new.queue ≡ old.queue
 
 module _ (old new : ShownStore) (n : ℕ) (was next : Hand) (index : ℕ) (task next_task : ℕ → Task) (count : ℕ) (is : IsUpkeep old.layout was index task count) (so : UpkeepStays old new n was next index task next_task count)
     (p : Place) (shown : IsPlaceOf old p) (alike : ShowAlike) where
@@ -76,7 +78,7 @@ module _ (old new : ShownStore) (n : ℕ) (was next : Hand) (index : ℕ) (task 
     locks = so.locks;
     rights = so.rights;
     entries = so.left.entries;
-    queue = so.left.queue;
+    queue = so.queue;
     dropped = so.left.dropped;
     asked = subst (λ (h : Option Hand). HandAsked old.layout h (p.accounts n).dropped) (sym so.now) (so.stays.asked (p.accounts n).dropped);
     hand = leads_so old new n was index task count is so.left p shown alike (p.hands n) (p.accounts n) next_shows own_then;
@@ -85,7 +87,7 @@ module _ (old new : ShownStore) (n : ℕ) (was next : Hand) (index : ℕ) (task 
 
 -- it waits in its table, for what another session holds
 module _ (old : ShownStore) (n : ℕ) (was : Hand) (index : ℕ) (task : ℕ → Task) (count : ℕ) (is : IsUpkeep old.layout was index task count) (had : hand_in old.hands n ≡ Some was) (p : Place) (shown : IsPlaceOf old p)
-    (few : length old.entries ≤ MAX_ENTRIES) where
+    (few : length old.entries ≤ MAX_ENTRIES) (on : IsIn p n (statement_of was) (index_at old.layout index).table) where
   abbrev at : ℕ
   at = (at_task old n was index task count is had p shown).0
 
@@ -99,7 +101,7 @@ module _ (old : ShownStore) (n : ℕ) (was : Hand) (index : ℕ) (task : ℕ →
     in_hand = hand_is old n was index task count is had p shown;
     steps = subst (λ (l : DiskLayout). StepsTo p n (new_hand (statement_of was)) (Waits (refusals.Blocked (what_of l (table old n was index task count is had p shown) waited) (name_of p by))) p) shown.layout
         (turn_waits p n (table old n was index task count is had p shown) (new_hand (statement_of was)) (w old n was index task count is had p shown) (task at) waited by
-        (here old n was index task count is had p shown).shown (is.on p n shown.layout) (at_task old n was index task count is had p shown).2 (inr is.lock) blocked.0 blocked.1 held);
+        (here old n was index task count is had p shown).shown on (at_task old n was index task count is had p shown).2 (inr is.lock) blocked.0 blocked.1 held);
     fits = subst (λ (l : List Entry). length l ≤ MAX_ENTRIES) (sym shown.journal) few;
   }
 

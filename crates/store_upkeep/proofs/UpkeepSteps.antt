@@ -20,35 +20,39 @@ use Rattle.transactions.specs.CountedRows.{counts as counts_of}
 use Rattle.transactions.specs.Laws.{ShowAlike}
 use Rattle.transactions.specs.TransactionsState.{TransactionsState}
 use Rattle.index_contents.specs.IndexContents.{relation_of as index_relation}
-use Rattle.table_coverage.specs.Accounts.{Account}
-use Rattle.table_coverage.specs.InOneIndex.{DoesAt}
+use Rattle.reply_texts.specs.declared.dropped.Dropped.{Dropped}
+use Rattle.table_coverage.specs.Accounts.{Account, AccountIs, Accounts, Adds, Asked}
 use Rattle.table_coverage.specs.Machines.{ShownTable, Unseen, table_state, task_turned}
 use Rattle.table_coverage.specs.Table.{Resting, TableState, Task}
-use Rattle.table_coverage.specs.TableSteps.{Settles}
+use Rattle.table_coverage.specs.TablePoints.{does_point}
+use Rattle.table_coverage.specs.TableSteps.{Does, Settles}
 use Rattle.table_coverage.proofs.Views.{pick_other, pick_same}
 use Rattle.index_steps.specs.IndexTuples.{index_at}
 use Rattle.index_steps.specs.ShownRows.{shown_by}
-use Rattle.line_texts.specs.Beginnings.{Begins}
-use Rattle.line_texts.specs.Place.{Hand as HandAt, Place, database_at, new_hand}
-use Rattle.line_texts.specs.Requests.{NoneLeft}
-use Rattle.line_texts.specs.StatementSteps.{Ended, MakesAt, Moved, Steps, StepsTo, course_of, reply_after}
+use Rattle.brin_insert.specs.AskedFor.{AreRequestsOf}
+use Rattle.line_texts.specs.Beginnings.{Begins, IsIn, TakesUp}
+use Rattle.line_texts.specs.Names.{dropped_of}
+use Rattle.line_texts.specs.Place.{Hand as HandAt, Place, accounts_at, database_at, new_hand}
+use Rattle.line_texts.specs.Requests.{Course, MakesAll, NoneLeft}
+use Rattle.line_texts.specs.StatementSteps.{Ended, MakesAt, Moved, Replies, Steps, StepsTo, course_of, reply_after}
 use Rattle.store_parts.specs.declared.hand.Hand.{Hand}
 use Rattle.store_parts.specs.Hands.{HandShows, statement_of}
 use Rattle.store_parts.specs.HandsAsk.{IsNoInsert}
 use Rattle.store_parts.specs.HandsInTables.{IsTaskOf, table_in}
 use Rattle.store_parts.specs.Leaving.{LeadsTo, StepsInTable}
-use Rattle.store_parts.specs.PlacesAfter.{TurnsIn, place_after, point_in}
+use Rattle.store_parts.specs.PlacesAfter.{TurnsAsking, place_asking, point_in}
 use Rattle.store_parts.specs.ShowsPlace.{IsOfTransaction, IsPlaceOf, ShowsTable}
-use Rattle.store_parts.specs.StoreStates.{ShownStore, hand_in}
+use Rattle.store_parts.specs.StoreStates.{ShownStore, dropped_in, hand_in}
 use Rattle.store_parts.proofs.Leads.{no_request_leads, nothing_leaves_slots, same_counts_few}
-use Rattle.store_parts.proofs.Places.{table_step_is_shown}
-use Rattle.store_parts.proofs.Steps.{machine_turns, turn_goes_on, turn_replies}
+use Rattle.store_parts.proofs.Asks.{none_asked}
+use Rattle.store_parts.proofs.Places.{asking_step_is_shown}
+use Rattle.store_parts.proofs.Steps.{asking_leads, led, machine_asks, not_pruned, table_after, turn_asks, turned as turn_made, updated_here}
 use Rattle.store_parts.proofs.Tables.{own_table_goes_on, same_blocks}
 use Rattle.store_upkeep.proofs.UpkeepAt.{IsUpkeep, UpkeepLeft, at_task, counted, hand_is, here, pages_show, table, told_is, unseen_here, upkeep_shows, w}
 use Rattle.store_upkeep.proofs.UpkeepPoints.{IsPlain}
 
-pub not_pruned : (point : Point) → IsPlain point → point ≢ points.Prune
-not_pruned point plain is = subst IsPlain is plain
+pub no_prune : (point : Point) → IsPlain point → point ≢ points.Prune
+no_prune point plain is = subst IsPlain is plain
 
 -- a step under a plain name enters nothing
 pub plain_enters : (point : Point) (p : Place) (n : ℕ) (hand : HandAt) → IsPlain point → MakesAt point p n hand (course_of p hand)
@@ -56,14 +60,30 @@ plain_enters points.Row p n hand plain = absurd plain
 plain_enters points.Mark p n hand plain = absurd plain
 plain_enters point p n hand plain = refl
 
+-- it replies, and may have taken up the summary that was asked for first
+asking_replies : (p : Place) (n table : ℕ) (hand : HandAt) (v : TableState) (account : Account) (queue : List Asked) (counts : ℕ → Bool) (point : Point) (c : Course) (reply : Reply)
+    → (turns : TurnsAsking p n hand.statement table v account queue) → point_in turns ≡ Some point → v.task n ≡ Resting → MakesAll p.opening n hand.statement (course_of p hand) c
+    → Some reply ≡ reply_after p.layout table (turns.step.between.task n) account c.answers hand.statement
+    → StepsTo p n hand (Ended reply) (place_asking p n table None v account counts c.journal queue)
+asking_replies p n table hand v account queue counts point c reply turns named rests makes said =
+    Replies point c reply (led p n table hand.statement None v account queue counts c.journal turns) (turn_made p n table hand.statement None v account queue counts c.journal turns) named
+    (ap (λ (x : TableState). x.task n) (table_after p n table None v account counts c.journal) ∙ rests) makes
+    (said ∙ ap (λ (a : Account). reply_after p.layout table (turns.step.between.task n) a c.answers hand.statement) (sym (updated_here p.accounts n account)))
+    (asking_leads p n table None v account counts c.journal queue)
+
 -- with this summarise lock, at this task, and with these tuples unnamed
 abbrev pub turned : (n : ℕ) → Option ℕ → Task → (ℕ → Spot → Bool) → Unseen → Unseen
 turned n held task unnamed u = record u { summarise_lock = held; task = (task_turned n task u).task; unnamed = unnamed }
 
--- what the machine's step is in the table: under this point, with this made of the account; the session is at these within the step and behind it, and holds the
--- summarise lock behind it so
-pub record TurnsSo (n : ℕ) (statement : Statement) (p : Place) (shown then : ShownTable) (u : Unseen) (point : Point) (account : Account → Account) (between after : Task) (held : Option ℕ) (unnamed : ℕ → Spot → Bool) : Type 0 where
-  pub does : DoesAt n (table_state shown u) (table_state then (turned n (Some n) between unnamed u)) point account
+-- what the machine's step is in the table: under this point, with this made of the account, and with these summaries asked for behind it; the session is at
+-- these within the step and behind it, and holds the summarise lock behind it so
+pub record TurnsSo (n table : ℕ) (statement : Statement) (p : Place) (shown then : ShownTable) (u : Unseen) (point : Point) (account : Account) (between after : Task) (held : Option ℕ) (unnamed : ℕ → Spot → Bool)
+    (queue : List Asked) : Type 0 where
+  pub on : IsIn p n statement table
+  pub takes : TakesUp statement (u.task n) p.queue queue
+  pub does : Does n (table_state shown u) (table_state then (turned n (Some n) between unnamed u))
+  pub point_is : does_point n (table_state shown u) (table_state then (turned n (Some n) between unnamed u)) does ≡ Some point
+  pub adds : (b : Accounts) → AccountIs n (record (accounts_at p table) { queue = queue }) b account → Adds n (table_state shown u) (table_state then (turned n (Some n) between unnamed u)) does (accounts_at p table) b
   pub settles : Settles n (table_state then (turned n (Some n) between unnamed u)) (table_state then (turned n held after unnamed u))
   pub own : (u.task n ≢ Resting) ⊎ Begins p n (table_state shown u) statement between
   pub plain : IsPlain point
@@ -75,8 +95,10 @@ pub record MadeIn (old new : ShownStore) (n : ℕ) (was : Hand) (index : ℕ) (t
   pub after : Task
   pub held : Option ℕ
   pub unnamed : ℕ → Spot → Bool
-  pub turns : TurnsSo n (statement_of was) p (pages_show old n was index task count is had p shown)
-      (shown_by old.layout new.pages new.locks (index_at old.layout index).table (here old n was index task count is had p shown).blocks) (unseen_here old n was index task count is had p shown) point account between after held unnamed
+  pub queue : List Asked
+  pub requests : AreRequestsOf old.layout new.queue queue
+  pub turns : TurnsSo n (index_at old.layout index).table (statement_of was) p (pages_show old n was index task count is had p shown)
+      (shown_by old.layout new.pages new.locks (index_at old.layout index).table (here old n was index task count is had p shown).blocks) (unseen_here old n was index task count is had p shown) point (account (p.accounts n)) between after held unnamed queue
   pub right : held ≡ right_of new.rights (index_at old.layout index).table
 
 module _ (old new : ShownStore) (n : ℕ) (was : Hand) (index : ℕ) (task : ℕ → Task) (count : ℕ) (is : IsUpkeep old.layout was index task count) (left : UpkeepLeft old new n was index) (p : Place) (shown : IsPlaceOf old p) (alike : ShowAlike) where
@@ -118,7 +140,7 @@ module _ (old new : ShownStore) (n : ℕ) (was : Hand) (index : ℕ) (task : ℕ
     pages = λ place apart. left.pages place (λ same. apart (inr (index, is.within, refl, same)));
     locks = left.locks;
     rights = left.rights;
-    was_in = λ other there. same_Some other number (sym there ∙ ap (table_in old.layout) left.had ∙ is.in_table);
+    was_in = λ other there. is.in_table other (ap (table_in old.layout) (sym left.had) ∙ there);
     is_in = then;
   }
 
@@ -131,14 +153,19 @@ module _ (old new : ShownStore) (n : ℕ) (was : Hand) (index : ℕ) (task : ℕ
   journal_is : new.entries ≡ p.journal
   journal_is = left.entries ∙ sym shown.journal
 
-  -- behind a step whose table is shown then, the store shows this place, whatever the session has in hand
-  pub behind : (at : Option HandAt) (v : TableState) (account : Account) → HandShows (hand_in new.hands n) at account
+  -- behind a step whose table is shown then, and with these summaries asked for, the store shows this place, whatever the session has in hand
+  pub behind : (at : Option HandAt) (v : TableState) (account : Account) (queue : List Asked) → AreRequestsOf old.layout new.queue queue → HandShows (hand_in new.hands n) at account
       → ((hand : Hand) → hand_in new.hands n ≡ Some hand → IsOfTransaction (transaction_of new.transactions.opens n) (finite.get (database_at p).sessions n) hand)
       → ((other : ℕ) → table_in old.layout (hand_in new.hands n) ≡ Some other → other ≡ number) → ShowsTable new stored number v
       → account.dropped ≡ (p.accounts n).dropped → IsNoInsert (hand_in new.hands n)
-      → IsPlaceOf new (place_after p n number at v account (counts_of new.transactions stored) new.entries)
-  behind at v account hand own there shows told asks = table_step_is_shown old new p n number at v account shown left.others (steps_in there) (same_counts_few old new stored stored counts_same)
-      (leads_so at account hand own) shows (record { queue = left.queue; dropped = left.dropped; told = told; hand = asks })
+      → IsPlaceOf new (place_asking p n number at v account (counts_of new.transactions stored) new.entries queue)
+  behind at v account queue requests hand own there shows told asks = asking_step_is_shown old new p n number at v account queue shown left.others (steps_in there) (same_counts_few old new stored stored counts_same)
+      (leads_so at account hand own) shows (record {
+        requests = requests;
+        told = ap (λ (l : List (List Dropped)). dropped_in l n) left.dropped ∙ shown.told n ∙ ap (dropped_of old.layout) (sym told);
+        others = λ m apart. ap (λ (l : List (List Dropped)). dropped_in l m) left.dropped;
+        hand = none_asked old.layout (hand_in new.hands n) account.dropped asks;
+      })
 
   module _ (point : Point) (made : MadeIn old new n was index task count is left.had p shown point) where
     abbrev between : Task
@@ -162,9 +189,10 @@ module _ (old new : ShownStore) (n : ℕ) (was : Hand) (index : ℕ) (task : ℕ
     abbrev account_then : Account
     account_then = made.account (p.accounts n)
 
-    turns : (turns : TurnsIn p n statement number v account_then) × (point_in turns ≡ Some point) × (turns.step.between ≡ within)
-    turns = machine_turns p n number statement (w old n was index task count is left.had p shown) within v point made.account at_here.shown is.no_work (is.on p n shown.layout) made.turns.does
-        (not_pruned point made.turns.plain) made.turns.settles own
+    turns : (turns : TurnsAsking p n statement number v account_then made.queue) × (point_in turns ≡ Some point) × (turns.step.between ≡ within)
+    turns = machine_asks p n number statement (w old n was index task count is left.had p shown) within v point account_then made.queue at_here.shown made.turns.takes made.turns.on
+        made.turns.does made.turns.point_is made.turns.adds
+        (not_pruned p n (w old n was index task count is left.had p shown) within made.turns.does point made.turns.point_is (no_prune point made.turns.plain)) made.turns.settles own
       where
         own : (u.task n ≢ Resting) ⊎ Begins p n (w old n was index task count is left.had p shown) statement (within.task n)
         own = subst (λ (t : Task). (u.task n ≢ Resting) ⊎ Begins p n (w old n was index task count is left.had p shown) statement t) (sym within_is) made.turns.own
@@ -179,8 +207,8 @@ module _ (old new : ShownStore) (n : ℕ) (was : Hand) (index : ℕ) (task : ℕ
     told_then = ap made.account (told_is old n was index task count is left.had p shown)
 
     -- it asks for no summary
-    none_asked : (next_count : ℕ) → made.account (counted count) ≡ counted next_count → account_then.dropped ≡ (p.accounts n).dropped
-    none_asked next_count counts_on = ap (λ (a : Account). a.dropped) (told_then ∙ counts_on) ∙ sym (ap (λ (a : Account). a.dropped) (told_is old n was index task count is left.had p shown))
+    asks_none : (next_count : ℕ) → made.account (counted count) ≡ counted next_count → account_then.dropped ≡ (p.accounts n).dropped
+    asks_none next_count counts_on = ap (λ (a : Account). a.dropped) (told_then ∙ counts_on) ∙ sym (ap (λ (a : Account). a.dropped) (told_is old n was index task count is left.had p shown))
 
     -- it goes on
     module _ (next : Hand) (next_task : ℕ → Task) (next_count : ℕ) (stays : IsUpkeep old.layout next index next_task next_count) (same : statement_of next ≡ statement_of was) (now : hand_in new.hands n ≡ Some next)
@@ -196,15 +224,15 @@ module _ (old new : ShownStore) (n : ℕ) (was : Hand) (index : ℕ) (task : ℕ
 
       pub goes_on : (q : Place) × IsPlaceOf new q × Steps p n (Moved point) q
       goes_on = (
-        place_after p n number (Some (new_hand statement)) v account_then (counts_of new.transactions stored) new.entries,
-        behind (Some (new_hand statement)) v account_then next_shows
+        place_asking p n number (Some (new_hand statement)) v account_then (counts_of new.transactions stored) new.entries made.queue,
+        behind (Some (new_hand statement)) v account_then made.queue made.requests next_shows
             (λ h there. subst (λ (x : Hand). IsOfTransaction (transaction_of new.transactions.opens n) (finite.get (database_at p).sessions n) x) (same_Some next h (sym now ∙ there)) (stays.own (transaction_of new.transactions.opens n) (finite.get (database_at p).sessions n)))
-            (λ other there. same_Some other number (sym there ∙ ap (table_in old.layout) now ∙ stays.in_table)) (table_then next_at) (none_asked next_count counts_on) (subst IsNoInsert (sym now) stays.no_insert),
+            (λ other there. stays.in_table other (ap (table_in old.layout) (sym now) ∙ there)) (table_then next_at) (asks_none next_count counts_on) (subst IsNoInsert (sym now) stays.no_insert),
         record {
           hand = new_hand statement;
           in_hand = hand_is old n was index task count is left.had p shown;
-          steps = subst (λ (l : List Entry). StepsTo p n (new_hand statement) (Moved point) (place_after p n number (Some (new_hand statement)) v account_then (counts_of new.transactions stored) l)) (sym journal_is)
-              (turn_goes_on p n number (new_hand statement) v account_then (counts_of new.transactions stored) point (course_of p (new_hand statement)) turns.0 turns.1
+          steps = subst (λ (l : List Entry). StepsTo p n (new_hand statement) (Moved point) (place_asking p n number (Some (new_hand statement)) v account_then (counts_of new.transactions stored) l made.queue)) (sym journal_is)
+              (turn_asks p n number (new_hand statement) v account_then made.queue (counts_of new.transactions stored) point (course_of p (new_hand statement)) turns.0 turns.1
               (λ rests. busy (sym v_is ∙ rests)) (plain_enters point p n (new_hand statement) made.turns.plain));
           fits = fits;
         },
@@ -215,17 +243,17 @@ module _ (old new : ShownStore) (n : ℕ) (was : Hand) (index : ℕ) (task : ℕ
         (replies : Some reply ≡ reply_after p.layout number between (counted next_count) [] statement) where
       pub is_done : (q : Place) × IsPlaceOf new q × Steps p n (Ended reply) q
       is_done = (
-        place_after p n number None v account_then (counts_of new.transactions stored) new.entries,
-        behind None v account_then
+        place_asking p n number None v account_then (counts_of new.transactions stored) new.entries made.queue,
+        behind None v account_then made.queue made.requests
             (subst (λ (h : Option Hand). HandShows h None account_then) (sym now) refl)
             (λ h there. absurd (none-some h (sym now ∙ there)))
             (λ other there. absurd (none-some other (ap (table_in old.layout) (sym now) ∙ there)))
-            (table_then (subst (λ (h : Option Hand). IsTaskOf old.layout number at_here.blocks new.transactions.tx stored (transaction_of new.transactions.opens n) h after) (sym now) rests)) (none_asked next_count counts_on) (subst IsNoInsert (sym now) tt),
+            (table_then (subst (λ (h : Option Hand). IsTaskOf old.layout number at_here.blocks new.transactions.tx stored (transaction_of new.transactions.opens n) h after) (sym now) rests)) (asks_none next_count counts_on) (subst IsNoInsert (sym now) tt),
         record {
           hand = new_hand statement;
           in_hand = hand_is old n was index task count is left.had p shown;
-          steps = subst (λ (l : List Entry). StepsTo p n (new_hand statement) (Ended reply) (place_after p n number None v account_then (counts_of new.transactions stored) l)) (sym journal_is)
-              (turn_replies p n number (new_hand statement) v account_then (counts_of new.transactions stored) point (course_of p (new_hand statement)) reply turns.0 turns.1 (v_is ∙ rests)
+          steps = subst (λ (l : List Entry). StepsTo p n (new_hand statement) (Ended reply) (place_asking p n number None v account_then (counts_of new.transactions stored) l made.queue)) (sym journal_is)
+              (asking_replies p n number (new_hand statement) v account_then made.queue (counts_of new.transactions stored) point (course_of p (new_hand statement)) reply turns.0 turns.1 (v_is ∙ rests)
               (NoneLeft (course_of p (new_hand statement)) (is.asks n [])) told);
           fits = fits;
         },

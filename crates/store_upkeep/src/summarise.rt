@@ -1,8 +1,7 @@
-//! The steps of a summarise.
+//! The steps of a summarise: of the statement itself, and of work.
 
 ghost use Rattle.std.specs.Prelude.{◌≡◌, ◌≢◌, ℕ, ◌+◌, ◌<◌, ◌≤◌, Some, None, length, slice_get, slice_set};
 ghost use Rattle.index_steps.specs.ShownTable.{indexes_of};
-ghost use Rattle.brin_summarise.specs.Summarises.{count_of as summarised_by};
 ghost use Rattle.line_texts.specs.Names.{index_name};
 ghost use Rattle.logged_pages.specs.Survives.{Survives};
 ghost use Rattle.page_locks.specs.LockChanges.{GivesAll};
@@ -12,8 +11,11 @@ ghost use Rattle.page_locks.specs.RightHolders.{right_of};
 ghost use Rattle.store_parts.specs.declared.limits.TheConstants.{LOCKS_A_SESSION, MAX_LOCKS};
 ghost use Rattle.store_parts.specs.StepAnswers.{HasCause};
 ghost use Rattle.store_parts.specs.Stepping.{IsFit, IsShown, LeavesTheOthers, MakesItsStep, StaysFit, StaysUndone};
+ghost use Rattle.store_parts.specs.UndoneLaws.{StepsSo};
+ghost use Rattle.store_upkeep.specs.Askers.{hand_for};
 
 use crate::answers::{undone, waits};
+use crate::asker::{Asker, hand_for, told};
 use block_model::{Refusal, Reply};
 use brin_summarise::{Summarise, a_kept_table_takes_a_summarise, a_summarise_steps_in_its_table};
 use disk_trait::Disk;
@@ -26,11 +28,10 @@ use transactions::other_pages_show_alike;
 /// A step of a summarise. The first one takes the summarise lock of its table, and with the last one, where no range is left, it replies and
 /// gives the lock. It waits where another session has that lock, or locks a page that the step changes. Where no page of the index is left for
 /// a tuple it is refused, and gives its locks. Enters nothing, and takes no memory.
-#[tactic(none)]
 pub fn summarise_on<D: Disk + Drop>(
     parts: &mut Parts<D>,
     session: u32,
-    mut summarise: Summarise,
+    summarise: Summarise,
 ) -> Stepped
     requires fit { IsFit D.told parts.old session (Hand.Summarises summarise) }
     requires few { count_of parts.old.locks + LOCKS_A_SESSION ≤ MAX_LOCKS }
@@ -42,12 +43,29 @@ pub fn summarise_on<D: Disk + Drop>(
     ensures cause { HasCause D.told parts.old.pages parts.new.pages result }
     ensures survives { Survives D.told (λ passed. passed ≡ parts.old.pages.pages) parts.old.pages parts.new.pages }
 {
+    summary_on(parts, session, Asker::Line, summarise)
+}
+
+/// The step, of the statement that makes the summarise for whom asked for it.
+#[tactic(none)]
+pub(crate) fn summary_on<D: Disk + Drop>(
+    parts: &mut Parts<D>,
+    session: u32,
+    asker: Asker,
+    mut summarise: Summarise,
+) -> Stepped
+    requires fit { IsFit D.told parts.old session (hand_for asker summarise) }
+    requires few { count_of parts.old.locks + LOCKS_A_SESSION ≤ MAX_LOCKS }
+    requires shown { IsShown D.told parts.old session (hand_for asker summarise) }
+    ensures so { StepsSo D.told parts.old parts.new session (hand_for asker summarise) result }
+    ensures survives { Survives D.told (λ passed. passed ≡ parts.old.pages.pages) parts.old.pages parts.new.pages }
+{
     a_summarise_steps_in_its_table();
     a_kept_table_takes_a_summarise();
     other_pages_show_alike();
     match parts.pages.ready() {
         Ok(()) => {}
-        Err(error) => return undone(Hand::Summarises(summarise), fault_of(error)),
+        Err(error) => return undone(hand_for(asker, summarise), fault_of(error)),
     }
     let index = summarise.index();
     let table = table_of(parts.pages.layout(), index);
@@ -59,42 +77,33 @@ pub fn summarise_on<D: Disk + Drop>(
     ) {
         Ok(Did::Moved(point)) => Stepped::Moved {
             point,
-            hand: Hand::Summarises(summarise),
+            hand: hand_for(asker, summarise),
         },
         Ok(Did::Finished(_)) => {
             parts.rights.give(table, session);
-            Stepped::Done(told(summarise))
+            Stepped::Done(told(asker, parts.pages.layout(), &summarise))
         }
         Ok(Did::Blocked(held)) => {
             let what = page_waited_for(parts.pages.layout(), index, &held);
-            waits(Hand::Summarises(summarise), what, held.by)
+            waits(hand_for(asker, summarise), what, held.by)
         }
         Ok(Did::NoRight { by }) => {
             let what = lock_waited_for(parts.pages.layout(), table);
-            waits(Hand::Summarises(summarise), what, by)
+            waits(hand_for(asker, summarise), what, by)
         }
         Err(MachineFault::Full { number, .. }) => {
             Stepped::Done(refused(parts, session, index, table, number))
         }
         Err(MachineFault::Store(error)) => {
             parts.locks.drop_all(session);
-            undone(Hand::Summarises(summarise), fault_of(error))
+            undone(hand_for(asker, summarise), fault_of(error))
         }
         Err(MachineFault::Memory) => unreachable!(),
     }
 }
 
-/// How many ranges the summarise gave a final tuple.
-fn told(summarise: Summarise) -> Reply
-    ensures { result ≡ Reply.Summarized (summarised_by summarise) }
-{
-    Reply::Summarized {
-        count: summarise.count(),
-    }
-}
-
 /// The index is full: the session gives its page locks and the table's summarise lock.
-fn refused<D: Disk + Drop>(
+pub(crate) fn refused<D: Disk + Drop>(
     parts: &mut Parts<D>,
     session: u32,
     index: u8,

@@ -14,7 +14,7 @@ use Rattle.line_texts.specs.Place.{Hand, Place}
 use Rattle.line_texts.specs.StatementSteps.{IsWaiting, StepsTo, Waits, what_of}
 use Rattle.text_laws.specs.Laws.{IsAlone, TellsAnotherInHand}
 use Rattle.text_laws.proofs.Calm.{calm, calmed}
-use Rattle.text_laws.proofs.Fits.{home_below, home_in}
+use Rattle.text_laws.proofs.Fits.{in_below}
 use Rattle.text_laws.proofs.Orderly.{IsOrderly}
 
 -- ---- a session that is at nothing in a table holds nothing there
@@ -54,8 +54,7 @@ module _ (holds : HoldsOther) (layout : DiskLayout) (limits : KeepsLimits layout
 
   waited_for : (p : Place) (n : ℕ) (hand : Hand) (told : Refusal) (q : Place) → IsOrderly layout p → p.hands n ≡ Some hand → StepsTo p n hand (Waits told) q → TellsAnotherInHand p n told
   waited_for p n hand _ _ o has (IsWaiting table told on own blocked waits) =
-      let below : table < length layout.schema.tables =
-      home_below layout hand.statement table limits (o.fits n hand has) (home_in layout p n table hand.statement o.same (o.fits n hand has) on) in
+      let below : table < length layout.schema.tables = in_below layout p n table o.same limits o.asked hand.statement (o.fits n hand has) on in
       let held = holds n (p.tables table) ((p.tables table).task n) blocked in
       let busy = in_hand_or (p.hands waits.0) (λ none. holds_nothing (p.tables table) (o.kept table below) waits.0 (o.idle waits.0 table none below) n ((p.tables table).task n) refl blocked waits.1) in
       record {

@@ -1,23 +1,31 @@
 -- At every place to which a script comes, each session that has nothing in hand is at nothing, and so holds nothing.
 use Rattle.std.proofs.Common.{◌≡◌, ◌≢◌, ◌⊎◌, inl, inr, ℕ, ◌<◌, eqb, true, false, List, [], ◌∷◌, length, Option, None, Some, refl, sym, ap, ◌∙◌, subst}
 use Rattle.std.proofs.lemmas.Bool.Decides.{eqb_tells}
+use Rattle.std.proofs.lemmas.List.Elements.{All-push, All-rest}
 use Rattle.std.proofs.lemmas.Option.{none-some}
+use Rattle.block_model.specs.declared.place.Spot.{Spot}
+use Rattle.block_model.specs.declared.reply.Point.{Point}
 use Rattle.block_model.specs.declared.request.Entry.{Entry}
 use Rattle.statements.specs.declared.statement.Statement.{Statement}
+use Rattle.statements.specs.declared.statement.Statement.TheVariants as statements
 use Rattle.statements.specs.StatementFits.{IsStatementFor}
 use Rattle.store_layout.specs.DiskLayout.{DiskLayout}
 use Rattle.store_layout.specs.FirstBrokenRule.{KeepsLimits}
+use Rattle.table_coverage.specs.Accounts as accounts
+use Rattle.table_coverage.specs.Accounts.{Accounts, Adds, Asked, Asking, HasEntry, IsDropped, Joins}
 use Rattle.table_coverage.specs.Refusals as causes
 use Rattle.table_coverage.specs.Refusals.{does_refusal}
 use Rattle.table_coverage.specs.Table.{Task, Resting, TableState}
 use Rattle.table_coverage.specs.TableCovered.{IsTableKept}
-use Rattle.table_coverage.specs.TableSteps.{AsksSummary, BeginsScan, Blocked, Conflicts, Does, GivesLock, GoesOn, Inserted, InsertCompletes, InsertGoes, Judges, JudgesNext, MaintainCompletes, MaintainGoes, Marked, MarksRow}
+use Rattle.table_coverage.specs.TablePoints.{does_point}
+use Rattle.table_coverage.specs.TableSteps.{AsksSummary, BeginsScan, BeginsWith, Blocked, Conflicts, Desummarize, Does, GivesLock, GoesOn, Inserted, InsertCompletes, InsertGoes, Judges, JudgesNext, MaintainCompletes, MaintainGoes, Marked, MarksRow}
 use Rattle.table_coverage.specs.TableSteps.{NextIndex, Onward, Pruned, PrunesBlock, PutsRow, ReadsBlock, RefusesInsert, RefusesMaintain, RefusesRow, RefusesScan, RefusesVacuum, RestartsIndex, Scanned, Settles, Stays, SweepsPage}
-use Rattle.table_coverage.specs.TableSteps.{Swept, TableDone, TableNext, TableRun, TableStep, TakesLock, TaskTurns, ToAsk, ToIndex, ToMarks, ToPage, ToRange, Transacts}
-use Rattle.line_texts.specs.Place.{Hand, Place}
-use Rattle.line_texts.specs.Turns.{Leads, Recounts, TablesStay, Turn}
+use Rattle.table_coverage.specs.TableSteps.{Summarize, SummarizeOne, Swept, TableDone, TableNext, TableRun, TableStep, TakesLock, TaskTurns, ToAsk, ToIndex, ToMarks, ToPage, ToRange, Transacts, Vacuum, Work}
+use Rattle.line_texts.specs.Beginnings.{IsAtRest, IsIn, IsWorkIn}
+use Rattle.line_texts.specs.Place.{Hand, Place, accounts_at}
+use Rattle.line_texts.specs.Turns.{Leads, Recounts, TablesStay, Turn, point_of, refusal_of}
 use Rattle.text_laws.proofs.Calm.{calm, steps_calm}
-use Rattle.text_laws.proofs.Fits.{IsHome, home_below, home_in, home_one}
+use Rattle.text_laws.proofs.Fits.{AreOfTables, IsHome, IsOfTables, home_in, home_one, in_below}
 
 -- ---- what a step of a table leaves to the others, and of its own statement
 
@@ -106,25 +114,63 @@ settles_rests s w v rests (GivesLock old done turns given rows indexes) = turns.
 pub step_refused : (s : ℕ) (w v : TableState) (why : causes.Refusal) (step : TableStep s w v) → does_refusal s w step.between step.does ≡ Some why → v.task s ≡ Resting
 step_refused s w v why step is = settles_rests s step.between v (refused_rests s w step.between why step.does is) step.settles
 
+-- ---- what is asked for
+
+module _ (layout : DiskLayout) where
+  same_queue : (a c : Accounts) → c.queue ≡ a.queue → AreOfTables layout a.queue → AreOfTables layout c.queue
+  same_queue a c same all = subst (AreOfTables layout) (sym same) all
+
+  asking_queue : (s : ℕ) (a c : Accounts) (asked : Asked) (entry : Option Spot) → asked.table < length layout.schema.tables → Asking s a c asked entry → AreOfTables layout a.queue
+      → AreOfTables layout c.queue
+  asking_queue s a c asked _ low (HasEntry x stays) all = same_queue a c stays.queue all
+  asking_queue s a c asked _ low (Joins room joins stays) all =
+      subst (AreOfTables layout) (sym joins) (All-push (IsOfTables layout) a.queue asked all low)
+  asking_queue s a c asked _ low (IsDropped full stays) all = same_queue a c stays.queue all
+
+  begins_queue : (s : ℕ) (w : TableState) (first : Task) (begins : BeginsWith w first) (a c : Accounts) → accounts.Begins s w first begins a c → AreOfTables layout a.queue → AreOfTables layout c.queue
+  begins_queue s w _ (Work at only below) a c adds all =
+      All-rest (IsOfTables layout) (record { table = a.table; at = at; range = only }) c.queue a.queue adds.1 all
+  begins_queue s w _ (Summarize at below) a c adds all = same_queue a c adds.queue all
+  begins_queue s w _ (SummarizeOne at only below) a c adds all = same_queue a c adds.queue all
+  begins_queue s w _ (Desummarize at only below) a c adds all = same_queue a c adds.queue all
+  begins_queue s w _ Vacuum a c adds all = same_queue a c adds.queue all
+
+  -- a step that has a name, or refuses, asks for nothing of another table
+  queue_then : (s : ℕ) (w v : TableState) (does : Does s w v) (a c : Accounts) → a.table < length layout.schema.tables
+      → ((point : Point) × (does_point s w v does ≡ Some point)) ⊎ ((why : causes.Refusal) × (does_refusal s w v does ≡ Some why))
+      → Adds s w v does a c → AreOfTables layout a.queue → AreOfTables layout c.queue
+  queue_then s w v (AsksSummary b k r at turns only) a c low tells adds all =
+      asking_queue s a c (record { table = a.table; at = at; range = adds.0 }) ((w.index at).entry adds.0) low adds.2 all
+  queue_then s w v (TakesLock first begins turns free held rows indexes) a c low tells adds all = begins_queue s w first begins a c adds all
+  queue_then s w v (PrunesBlock extent next dropped inside spared turns drops) a c low tells adds all = same_queue a c adds.2.queue all
+  queue_then s w v (SweepsPage at page turns stepped sweeps) a c low tells adds all = same_queue a c adds.2.queue all
+  queue_then s w v (Transacts counts resting few same) a c low tells adds all =
+      elim tells [ inl told ↦ absurd (none-some _ told.1) | inr refused ↦ absurd (none-some _ refused.1) ]
+  queue_then s w v does a c low tells adds all = same_queue a c adds.queue all
+
 -- ---- places
 
 abbrev pub AreKept : Type 0
 AreKept = (steps : List ℕ) (w v : TableState) → IsTableKept w → TableRun steps w v → IsTableKept v
 
 -- Each table is kept, as one without scans. A session that has nothing in hand is at nothing; a statement in hand is one of the schema, and
--- is at something in its own table alone.
+-- is at something in its own table alone; of two tables work is at nothing in one. What is asked for is of tables of the layout.
 pub record IsOrderly (layout : DiskLayout) (p : Place) : Type 0 where
   pub same : p.layout ≡ layout
   pub kept : (i : ℕ) → i < length layout.schema.tables → IsTableKept (calm (p.tables i))
   pub idle : (n i : ℕ) → p.hands n ≡ None → i < length layout.schema.tables → (p.tables i).task n ≡ Resting
   pub fits : (n : ℕ) (hand : Hand) → p.hands n ≡ Some hand → IsStatementFor layout.schema hand.statement
   pub home : (n i : ℕ) (hand : Hand) → p.hands n ≡ Some hand → i < length layout.schema.tables → ((p.tables i).task n ≡ Resting) ⊎ IsHome layout hand.statement i
+  pub alone : (n i j : ℕ) → i < length layout.schema.tables → j < length layout.schema.tables → ((p.tables i).task n ≡ Resting) ⊎ ((p.tables j).task n ≡ Resting) ⊎ (i ≡ j)
+  pub asked : AreOfTables layout p.queue
 
--- what a step of session n's statement leaves of the tables
+-- what a step of session n's statement leaves of the tables, and of what is asked for
 pub record Goes (layout : DiskLayout) (p : Place) (n : ℕ) (statement : Statement) (q : Place) : Type 0 where
   pub kept : (i : ℕ) → i < length layout.schema.tables → IsTableKept (calm (q.tables i))
   pub others : (m i : ℕ) → m ≢ n → (q.tables i).task m ≡ (p.tables i).task m
   pub own : (i : ℕ) → ((q.tables i).task n ≡ (p.tables i).task n) ⊎ IsHome layout statement i
+  pub alone : (i j : ℕ) → i < length layout.schema.tables → j < length layout.schema.tables → ((q.tables i).task n ≡ Resting) ⊎ ((q.tables j).task n ≡ Resting) ⊎ (i ≡ j)
+  pub asked : AreOfTables layout q.queue
 
 recounted : (w v : TableState) → Recounts w v → IsTableKept (calm w) → IsTableKept (calm v)
 recounted w v again kept = subst (λ (x : TableState). IsTableKept (calm x)) (sym again.1) kept
@@ -132,23 +178,60 @@ recounted w v again kept = subst (λ (x : TableState). IsTableKept (calm x)) (sy
 recounted_task : (w v : TableState) (n : ℕ) → Recounts w v → v.task n ≡ w.task n
 recounted_task w v n again = ap (λ (x : TableState). x.task n) again.1
 
+-- a step that has a name, or refuses
+abbrev pub Tells : {p q : Place} {n : ℕ} {statement : Statement} → Turn p n statement q → Type 0
+Tells turn = ((point : Point) × (point_of turn ≡ Some point)) ⊎ ((why : causes.Refusal) × (refusal_of turn ≡ Some why))
+
 module _ (keeps : AreKept) (layout : DiskLayout) (limits : KeepsLimits layout.schema layout.sizes) where
   module _ (p q : Place) (n : ℕ) (hand : Hand) (o : IsOrderly layout p) (in_hand : p.hands n ≡ Some hand) where
+    alone_still : TablesStay p q → (i j : ℕ) → ((p.tables i).task n ≡ Resting) ⊎ ((p.tables j).task n ≡ Resting) ⊎ (i ≡ j)
+        → ((q.tables i).task n ≡ Resting) ⊎ ((q.tables j).task n ≡ Resting) ⊎ (i ≡ j)
+    alone_still stay i j (inl rests) = inl (recounted_task (p.tables i) (q.tables i) n (stay.tables i) ∙ rests)
+    alone_still stay i j (inr (inl rests)) = inr (inl (recounted_task (p.tables j) (q.tables j) n (stay.tables j) ∙ rests))
+    alone_still stay i j (inr (inr is)) = inr (inr is)
+
     pub stays : TablesStay p q → Goes layout p n hand.statement q
     stays stay = record {
       kept = λ i below. recounted (p.tables i) (q.tables i) (stay.tables i) (o.kept i below);
       others = λ m i _. recounted_task (p.tables i) (q.tables i) m (stay.tables i);
       own = λ i. inl (recounted_task (p.tables i) (q.tables i) n (stay.tables i));
+      alone = λ i j low less. alone_still stay i j (o.alone n i j low less);
+      asked = subst (AreOfTables layout) (sym stay.queue) o.asked;
     }
+
+    -- ---- a turn is in one table, and in the others its statement is at nothing
+
+    -- work that has begun is in a table where it isn't at nothing
+    work_elsewhere : (table i : ℕ) → table < length layout.schema.tables → i < length layout.schema.tables → IsWorkIn p n table → ((p.tables i).task n ≡ Resting) ⊎ (i ≡ table)
+    work_elsewhere table i within low (inl busy) = by (o.alone n i table low within)
+      where
+        by : ((p.tables i).task n ≡ Resting) ⊎ ((p.tables table).task n ≡ Resting) ⊎ (i ≡ table) → ((p.tables i).task n ≡ Resting) ⊎ (i ≡ table)
+        by (inl rests) = inl rests
+        by (inr (inl rests)) = absurd (busy.1 rests)
+        by (inr (inr is)) = inr is
+    work_elsewhere table i within low (inr first) = inl (first.0 i (subst (λ (l : DiskLayout). i < length l.schema.tables) (sym o.same) low))
+
+    elsewhere : (table i : ℕ) → table < length layout.schema.tables → i < length layout.schema.tables → IsIn p n hand.statement table → ((p.tables i).task n ≡ Resting) ⊎ (i ≡ table)
+    elsewhere table i within low on = by (o.home n i hand in_hand low)
+      where
+        of_homes : (hand.statement ≡ statements.Work) ⊎ (i ≡ table) → ((p.tables i).task n ≡ Resting) ⊎ (i ≡ table)
+        of_homes (inl work) = work_elsewhere table i within low (subst (λ st. IsIn p n st table) work on)
+        of_homes (inr is) = inr is
+
+        by : ((p.tables i).task n ≡ Resting) ⊎ IsHome layout hand.statement i → ((p.tables i).task n ≡ Resting) ⊎ (i ≡ table)
+        by (inl rests) = inl rests
+        by (inr home) = of_homes (home_one layout hand.statement i table home (home_in layout p n table hand.statement o.same on))
 
     module _ (turn : Turn p n hand.statement q) where
       home_here : IsHome layout hand.statement turn.table
-      home_here = home_in layout p n turn.table hand.statement o.same (o.fits n hand in_hand) turn.on
+      home_here = home_in layout p n turn.table hand.statement o.same turn.on
+
+      below_here : turn.table < length layout.schema.tables
+      below_here = in_below layout p n turn.table o.same limits o.asked hand.statement (o.fits n hand in_hand) turn.on
 
       kept_here : IsTableKept (calm (q.tables turn.table))
       kept_here =
-          keeps (n ∷ []) (calm (p.tables turn.table)) (calm (q.tables turn.table))
-          (o.kept turn.table (home_below layout hand.statement turn.table limits (o.fits n hand in_hand) home_here))
+          keeps (n ∷ []) (calm (p.tables turn.table)) (calm (q.tables turn.table)) (o.kept turn.table below_here)
           (TableNext n [] (calm (p.tables turn.table)) (calm (q.tables turn.table)) (calm (q.tables turn.table)) (steps_calm n (p.tables turn.table) (q.tables turn.table) turn.step) (TableDone (calm (q.tables turn.table))))
 
       kept_at : (i : ℕ) → i < length layout.schema.tables → (i ≡ turn.table) ⊎ Recounts (p.tables i) (q.tables i) → IsTableKept (calm (q.tables i))
@@ -163,20 +246,37 @@ module _ (keeps : AreKept) (layout : DiskLayout) (limits : KeepsLimits layout.sc
       own_at i (inl is) = inr (subst (IsHome layout hand.statement) (sym is) home_here)
       own_at i (inr again) = inl (recounted_task (p.tables i) (q.tables i) n again)
 
-      pub goes : Goes layout p n hand.statement q
-      goes = record { kept = λ i below. kept_at i below (turn.others i); others = λ m i apart. others_at m i apart (turn.others i); own = λ i. own_at i (turn.others i) }
+      -- in each other table it is at nothing behind the turn too
+      elsewhere_then : (i : ℕ) → i < length layout.schema.tables → ((q.tables i).task n ≡ Resting) ⊎ (i ≡ turn.table)
+      elsewhere_then i low = by (turn.others i) (elsewhere turn.table i below_here low turn.on)
+        where
+          by : (i ≡ turn.table) ⊎ Recounts (p.tables i) (q.tables i) → ((p.tables i).task n ≡ Resting) ⊎ (i ≡ turn.table) → ((q.tables i).task n ≡ Resting) ⊎ (i ≡ turn.table)
+          by (inl is) was = inr is
+          by (inr again) (inl rests) = inl (recounted_task (p.tables i) (q.tables i) n again ∙ rests)
+          by (inr again) (inr is) = inr is
+
+      alone_then : (i j : ℕ) → ((q.tables i).task n ≡ Resting) ⊎ (i ≡ turn.table) → ((q.tables j).task n ≡ Resting) ⊎ (j ≡ turn.table)
+          → ((q.tables i).task n ≡ Resting) ⊎ ((q.tables j).task n ≡ Resting) ⊎ (i ≡ j)
+      alone_then i j (inl rests) other = inl rests
+      alone_then i j (inr is) (inl rests) = inr (inl rests)
+      alone_then i j (inr is) (inr too) = inr (inr (is ∙ sym too))
+
+      pub goes : Tells turn → Goes layout p n hand.statement q
+      goes tells = record {
+        kept = λ i below. kept_at i below (turn.others i);
+        others = λ m i apart. others_at m i apart (turn.others i);
+        own = λ i. own_at i (turn.others i);
+        alone = λ i j low less. alone_then i j (elsewhere_then i low) (elsewhere_then j less);
+        asked = queue_then layout n (p.tables turn.table) turn.step.between turn.step.does (accounts_at p turn.table) (accounts_at q turn.table) below_here tells turn.accounts.adds o.asked;
+      }
 
       -- where it is at nothing in its table, it is at nothing anywhere
-      rests_at : (q.tables turn.table).task n ≡ Resting → (i : ℕ) → i < length layout.schema.tables → (i ≡ turn.table) ⊎ Recounts (p.tables i) (q.tables i) → (q.tables i).task n ≡ Resting
-      rests_at here i below (inl is) = subst (λ j. (q.tables j).task n ≡ Resting) (sym is) here
-      rests_at here i below (inr again) = by (o.home n i hand in_hand below)
-        where
-          by : ((p.tables i).task n ≡ Resting) ⊎ IsHome layout hand.statement i → (q.tables i).task n ≡ Resting
-          by (inl rests) = recounted_task (p.tables i) (q.tables i) n again ∙ rests
-          by (inr home) = subst (λ j. (q.tables j).task n ≡ Resting) (home_one layout hand.statement turn.table i home_here home) here
-
       pub rests : (q.tables turn.table).task n ≡ Resting → (i : ℕ) → i < length layout.schema.tables → (q.tables i).task n ≡ Resting
-      rests here i below = rests_at here i below (turn.others i)
+      rests here i low = by (elsewhere_then i low)
+        where
+          by : ((q.tables i).task n ≡ Resting) ⊎ (i ≡ turn.table) → (q.tables i).task n ≡ Resting
+          by (inl rests_there) = rests_there
+          by (inr is) = subst (λ j. (q.tables j).task n ≡ Resting) (sym is) here
 
     module _ (now : Option Hand) (entries : List Entry) (moves : Goes layout p n hand.statement q) (leads : Leads p n now entries q) (statement_stays : (h : Hand) → now ≡ Some h → h.statement ≡ hand.statement)
         (rests_then : now ≡ None → (i : ℕ) → i < length layout.schema.tables → (q.tables i).task n ≡ Resting) where
@@ -213,6 +313,12 @@ module _ (keeps : AreKept) (layout : DiskLayout) (limits : KeepsLimits layout.sc
       home_by m i h has below (inr apart) =
           subst (λ task. (task ≡ Resting) ⊎ IsHome layout h.statement i) (sym (moves.others m i apart)) (o.home m i h (sym (other_hand m apart) ∙ has) below)
 
+      alone_by : (m i j : ℕ) → i < length layout.schema.tables → j < length layout.schema.tables → (m ≡ n) ⊎ (m ≢ n) → ((q.tables i).task m ≡ Resting) ⊎ ((q.tables j).task m ≡ Resting) ⊎ (i ≡ j)
+      alone_by m i j low less (inl is) = subst (λ k. ((q.tables i).task k ≡ Resting) ⊎ ((q.tables j).task k ≡ Resting) ⊎ (i ≡ j)) (sym is) (moves.alone i j low less)
+      alone_by m i j low less (inr apart) =
+          subst (λ task. (task ≡ Resting) ⊎ ((q.tables j).task m ≡ Resting) ⊎ (i ≡ j)) (sym (moves.others m i apart))
+          (subst (λ task. ((p.tables i).task m ≡ Resting) ⊎ (task ≡ Resting) ⊎ (i ≡ j)) (sym (moves.others m j apart)) (o.alone m i j low less))
+
       which : (m : ℕ) → (m ≡ n) ⊎ (m ≢ n)
       which m = by (eqb_tells m n)
         where
@@ -227,6 +333,8 @@ module _ (keeps : AreKept) (layout : DiskLayout) (limits : KeepsLimits layout.sc
         idle = λ m i none below. idle_by m i none below (which m);
         fits = λ m h has. fits_by m h has (which m);
         home = λ m i h has below. home_by m i h has below (which m);
+        alone = λ m i j low less. alone_by m i j low less (which m);
+        asked = moves.asked;
       }
 
     -- a statement that is over
@@ -240,3 +348,7 @@ module _ (keeps : AreKept) (layout : DiskLayout) (limits : KeepsLimits layout.sc
         by : ((p.tables i).task n ≡ Resting) ⊎ IsHome layout hand.statement i → (q.tables i).task n ≡ Resting
         by (inl rests_now) = recounted_task (p.tables i) (q.tables i) n (stay.tables i) ∙ rests_now
         by (inr home) = absurd (homeless i home)
+
+    -- one that was at rest still is
+    pub rests_still : IsAtRest p n → TablesStay p q → (i : ℕ) → i < length layout.schema.tables → (q.tables i).task n ≡ Resting
+    rests_still rest stay i low = recounted_task (p.tables i) (q.tables i) n (stay.tables i) ∙ rest i (subst (λ (l : DiskLayout). i < length l.schema.tables) (sym o.same) low)

@@ -2,6 +2,7 @@
 use Rattle.std.proofs.Common.{◌≡◌, ◌≢◌, ◌⊎◌, inl, inr, ℕ, ◌<◌, eqb, true, false, List, [], ◌∷◌, length, Option, None, Some, Ok, if◌then◌else◌, refl, sym, ap, ◌∙◌, subst}
 use Rattle.std.specs.Prelude.{Result}
 use Rattle.std.proofs.lemmas.Bool.Decides.{eqb_tells}
+use Rattle.std.proofs.lemmas.List.Elements.{All-nil}
 use Rattle.std.proofs.lemmas.Option.{none-some, same_Some}
 use Rattle.block_model.specs.declared.reply.Refusal.{Refusal}
 use Rattle.query_words.specs.declared.line.Line.{Line}
@@ -27,8 +28,8 @@ use Rattle.line_texts.specs.StatementSteps.{AtOnce, Begin, Commit, GoesOn, IsAtO
 use Rattle.line_texts.specs.Stops.{Begun, ComesTo, LineComesTo, MovedTo, OfFinish, OfPlain, OfStep, OnTo, Still}
 use Rattle.text_laws.specs.Reached.{AtStart, BehindLine, IsReached, WithinLine}
 use Rattle.text_laws.proofs.Calm.{calm, calmed}
-use Rattle.text_laws.proofs.Fits.{IsHome, read_fits}
-use Rattle.text_laws.proofs.Orderly.{AreKept, IsOrderly, goes, orderly_then, over, rests, rests_nowhere, stays, step_refused}
+use Rattle.text_laws.proofs.Fits.{AreOfTables, IsHome, IsOfTables, read_fits}
+use Rattle.text_laws.proofs.Orderly.{AreKept, IsOrderly, goes, orderly_then, over, rests, rests_nowhere, rests_still, stays, step_refused}
 
 -- ---- steps
 
@@ -43,23 +44,23 @@ begin_homeless layout statement is i home = subst (λ st. IsHome layout st i) is
 module _ (keeps : AreKept) (layout : DiskLayout) (limits : KeepsLimits layout.schema layout.sizes) where
   orderly_step : (p : Place) (n : ℕ) (hand : Hand) (outcome : Outcome) (q : Place) → IsOrderly layout p → p.hands n ≡ Some hand → StepsTo p n hand outcome q → IsOrderly layout q
   orderly_step p n hand _ _ o has (GoesOn point c q turn is more makes leads) =
-      orderly_then keeps layout limits p q n hand o has (Some (record hand { answers = c.answers })) c.journal (goes keeps layout limits p q n hand o has turn) leads
+      orderly_then keeps layout limits p q n hand o has (Some (record hand { answers = c.answers })) c.journal (goes keeps layout limits p q n hand o has turn (inl (point, is))) leads
       (λ h same. ap (λ (x : Hand). x.statement) (sym (same_Some _ _ same))) (λ none. absurd (none-some _ (sym none)))
   orderly_step p n hand _ _ o has (Replies point c reply q turn is rest makes says leads) =
-      over keeps layout limits p q n hand o has c.journal (goes keeps layout limits p q n hand o has turn) leads (rests keeps layout limits p q n hand o has turn rest)
+      over keeps layout limits p q n hand o has c.journal (goes keeps layout limits p q n hand o has turn (inl (point, is))) leads (rests keeps layout limits p q n hand o has turn rest)
   orderly_step p n hand _ _ o has (MeetsConflict id c q turn is makes says leads) =
-      over keeps layout limits p q n hand o has c.journal (goes keeps layout limits p q n hand o has turn) leads
+      over keeps layout limits p q n hand o has c.journal (goes keeps layout limits p q n hand o has turn (inr (_, is))) leads
       (rests keeps layout limits p q n hand o has turn (step_refused n (p.tables turn.table) (q.tables turn.table) _ turn.step is))
   orderly_step p n hand _ _ o has (IsRefused why tag told q turn is so leads) =
-      over keeps layout limits p q n hand o has _ (goes keeps layout limits p q n hand o has turn) leads
+      over keeps layout limits p q n hand o has _ (goes keeps layout limits p q n hand o has turn (inr (why, is))) leads
       (rests keeps layout limits p q n hand o has turn (step_refused n (p.tables turn.table) (q.tables turn.table) why turn.step is))
   orderly_step p n hand _ _ o has (AtOnce c reply q once makes says stay leads) =
       over keeps layout limits p q n hand o has c.journal (stays keeps layout limits p q n hand o has stay) leads
       (rests_nowhere keeps layout limits p q n hand o has (at_once_homeless layout p hand.statement once) stay)
-  orderly_step p n hand _ _ o has (NothingAsked q work rest none stay leads) = absurd (subst (IsStatementFor layout.schema) work (o.fits n hand has))
+  orderly_step p n hand _ _ o has (NothingAsked q work rest none stay leads) =
+      over keeps layout limits p q n hand o has _ (stays keeps layout limits p q n hand o has stay) leads (rests_still keeps layout limits p q n hand o has rest stay)
   orderly_step p n hand _ _ o has (LacksMemoryAtOnce q looking rest stay leads) =
-      over keeps layout limits p q n hand o has _ (stays keeps layout limits p q n hand o has stay) leads
-      (λ i below. ap (λ (w : TableState). w.task n) (stay.tables i).1 ∙ rest i (subst (λ (l : DiskLayout). i < length l.schema.tables) (sym o.same) below))
+      over keeps layout limits p q n hand o has _ (stays keeps layout limits p q n hand o has stay) leads (rests_still keeps layout limits p q n hand o has rest stay)
   orderly_step p n hand _ _ o has (NoNumber q begin full stay leads) =
       over keeps layout limits p q n hand o has _ (stays keeps layout limits p q n hand o has stay) leads
       (rests_nowhere keeps layout limits p q n hand o has (begin_homeless layout hand.statement begin) stay)
@@ -97,6 +98,8 @@ module _ (keeps : AreKept) (layout : DiskLayout) (limits : KeepsLimits layout.sc
       idle = λ m i none below. idle_by m i none below (hand_of m);
       fits = λ m h has. fits_by m h has (hand_of m);
       home = λ m i h has below. home_by m i h has below (hand_of m);
+      alone = o.alone;
+      asked = o.asked;
     }
       where
         idle_by : (m i : ℕ) → (with_statement p n statement).hands m ≡ None → i < length layout.schema.tables
@@ -137,7 +140,7 @@ module _ (keeps : AreKept) (layout : DiskLayout) (limits : KeepsLimits layout.sc
   -- ---- lines
 
   orderly_named : (p : Place) (name : List ℕ) → IsOrderly layout p → IsOrderly layout (named p name)
-  orderly_named p name o = record { same = o.same; kept = o.kept; idle = o.idle; fits = o.fits; home = o.home }
+  orderly_named p name o = record { same = o.same; kept = o.kept; idle = o.idle; fits = o.fits; home = o.home; alone = o.alone; asked = o.asked }
 
   -- what is read of a line fits
   abbrev FitsRead : Result Line LineFault → Type 0
@@ -175,6 +178,8 @@ module _ (keeps : AreKept) (layout : DiskLayout) (limits : KeepsLimits layout.sc
     idle = λ n i none below. (start.new i below).resting n;
     fits = λ n hand has. absurd (none-some _ (sym (start.hands n) ∙ has));
     home = λ n i hand has below. absurd (none-some _ (sym (start.hands n) ∙ has));
+    alone = λ n i j low less. inl ((start.new i low).resting n);
+    asked = subst (AreOfTables layout) (sym start.queue) (All-nil (IsOfTables layout));
   }
 
   pub reached_is_orderly : ((w : TableState) → IsNewTable w → IsTableKept w) → KnowsValues → (p : Place) → IsReached layout p → IsOrderly layout p

@@ -19,9 +19,9 @@ fn declared(alloc: Global, declarations: &[&str]) -> Result<Schema, DeclFault> {
     read_declarations(alloc, &words_of(alloc, declarations)?)
 }
 
-/// The same where ` autosummarize` is answered.
-fn declared_with_autos(alloc: Global, declarations: &[&str]) -> Result<Schema, DeclFault> {
-    read_declarations_with(alloc, true, &words_of(alloc, declarations)?)
+/// The same where ` autosummarize` isn't answered.
+fn declared_without_autos(alloc: Global, declarations: &[&str]) -> Result<Schema, DeclFault> {
+    read_declarations_with(alloc, false, &words_of(alloc, declarations)?)
 }
 
 fn is_table(
@@ -222,7 +222,6 @@ fn faults_name_their_word_and_byte(rt: HostRuntime) {
         ("index i on t(a bloom 64)", 23),
         ("index i on t(a bloom 64 2 3)", 25),
         ("index i on t(a inclusion 2)", 24),
-        ("index i on t(a minmax) autosummarize", 23),
         ("index i on t(a minmax) pages_per_range", 38),
     ];
     for (word, at) in cases {
@@ -244,7 +243,7 @@ fn summarised_indexes_say_so_last(rt: HostRuntime) -> Result<(), Fail> {
         ),
     ];
     for (word, pages_per_range, auto) in cases {
-        let schema = declared_with_autos(rt.alloc(), &["table t(a int8)", word])?;
+        let schema = declared(rt.alloc(), &["table t(a int8)", word])?;
         let found = schema.indexes.as_slice().first();
         let same = |index: &Index| index.pages_per_range == pages_per_range && index.auto == auto;
         assert!(rt; found.is_some_and(same));
@@ -265,12 +264,17 @@ fn faults_behind_the_columns_name_their_byte(rt: HostRuntime) {
         ("table t(a int8) autosummarize", 16),
     ];
     for (word, at) in cases {
-        let read = declared_with_autos(rt.alloc(), &["table t(a int8)", word]);
+        let read = declared(rt.alloc(), &["table t(a int8)", word]);
         assert_eq!(rt; read.err(), Some(DeclFault::Form { word: 1, at }));
     }
-    let unanswered = "index i on t(a minmax) pages_per_range 4 autosummarize";
-    let read = declared(rt.alloc(), &["table t(a int8)", unanswered]);
-    assert_eq!(rt; read.err(), Some(DeclFault::Form { word: 1, at: 40 }));
+    let unanswered = [
+        ("index i on t(a minmax) autosummarize", 23),
+        ("index i on t(a minmax) pages_per_range 4 autosummarize", 40),
+    ];
+    for (word, at) in unanswered {
+        let read = declared_without_autos(rt.alloc(), &["table t(a int8)", word]);
+        assert_eq!(rt; read.err(), Some(DeclFault::Form { word: 1, at }));
+    }
 }
 
 #[test]

@@ -3,7 +3,7 @@
 use crate::lines::{Case, SIZES, refusal};
 use block_model::Words;
 use query_words::{Verb, print_line, read_line, read_line_in};
-use schema_words::read_declarations_with;
+use schema_words::read_declarations;
 use std::alloc::Global;
 use std::test::Fail;
 use store_layout::Layout;
@@ -98,7 +98,7 @@ const REFUSED: [Case; 28] = [
     ("m finish 1", (1, 9)),
 ];
 
-/// Lines in the language of the engine, which has every verb but two.
+/// Lines in the language of the engine, which has every verb.
 const OF_THE_ENGINE: [Case; 16] = [
     ("m summarize i", (0, 0)),
     ("m summarize i 4294967295", (0, 0)),
@@ -112,10 +112,10 @@ const OF_THE_ENGINE: [Case; 16] = [
     ("s1 step", (0, 0)),
     ("s1 step 1", (1, 8)),
     ("s1 finish", (0, 0)),
-    ("m vacuum t", (1, 2)),
-    ("m work", (1, 2)),
-    ("m start vacuum t", (1, 8)),
-    ("m start work", (1, 8)),
+    ("m vacuum t", (0, 0)),
+    ("m work", (0, 0)),
+    ("m start vacuum t", (0, 0)),
+    ("m start work", (0, 0)),
 ];
 
 /// Two tables and an index that is summarized by itself.
@@ -124,7 +124,7 @@ fn layout_of(alloc: Global) -> Result<Layout, Fail> {
     words.push(b"table t(a int8)")?;
     words.push(b"table u(b int8range,c inet)")?;
     words.push(b"index i on t(a minmax) pages_per_range 1 autosummarize")?;
-    let schema = read_declarations_with(alloc, true, &words)?;
+    let schema = read_declarations(alloc, &words)?;
     Ok(Layout::new(schema, SIZES)?)
 }
 
@@ -159,7 +159,7 @@ fn every_verb_refuses_at_the_word_at_fault(rt: HostRuntime) -> Result<(), Fail> 
 }
 
 #[test]
-fn the_engine_answers_every_verb_but_two(rt: HostRuntime) -> Result<(), Fail> {
+fn the_engine_answers_every_verb(rt: HostRuntime) -> Result<(), Fail> {
     let layout = layout_of(rt.alloc())?;
     for (line, expected) in &OF_THE_ENGINE {
         let read = read_line(rt.alloc(), line.as_bytes(), &layout);

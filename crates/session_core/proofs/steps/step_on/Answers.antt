@@ -79,6 +79,30 @@ returns-in-Desummarises-clause-so g c =
     subst (λ (hand : Hand). StepsSo g.D.Disk.told c.args.parts.now c.desummarise_on.new.parts c.args.session hand c.desummarise_on.result) (sym c.in-Desummarises.is)
     (record { steps = is.steps; fit = is.fit; others = is.others; stays = is.stays; cause = is.cause })
 
+pub returns-in-Cleans-clause-so : goal.returns-in-Cleans-clause-so
+returns-in-Cleans-clause-so g c =
+    let is = c.clean_on.ensures in
+    subst (λ (hand : Hand). StepsSo g.D.Disk.told c.args.parts.now c.clean_on.new.parts c.args.session hand c.clean_on.result) (sym c.in-Cleans.is)
+    (record { steps = is.steps; fit = is.fit; others = is.others; stays = is.stays; cause = is.cause })
+
+pub returns-in-Completes-clause-so : goal.returns-in-Completes-clause-so
+returns-in-Completes-clause-so g c =
+    let is = c.complete_on.ensures in
+    subst (λ (hand : Hand). StepsSo g.D.Disk.told c.args.parts.now c.complete_on.new.parts c.args.session hand c.complete_on.result) (sym c.in-Completes.is)
+    (record { steps = is.steps; fit = is.fit; others = is.others; stays = is.stays; cause = is.cause })
+
+pub returns-in-Working-clause-so : goal.returns-in-Working-clause-so
+returns-in-Working-clause-so g c =
+    let is = c.begin_work.ensures in
+    subst (λ (hand : Hand). StepsSo g.D.Disk.told c.args.parts.now c.begin_work.new.parts c.args.session hand c.begin_work.result) (sym c.in-Working.is)
+    (record { steps = is.steps; fit = is.fit; others = is.others; stays = is.stays; cause = is.cause })
+
+pub returns-in-Works-clause-so : goal.returns-in-Works-clause-so
+returns-in-Works-clause-so g c =
+    let is = c.work_on.ensures in
+    subst (λ (hand : Hand). StepsSo g.D.Disk.told c.args.parts.now c.work_on.new.parts c.args.session hand c.work_on.result) (sym c.in-Works.is)
+    (record { steps = is.steps; fit = is.fit; others = is.others; stays = is.stays; cause = is.cause })
+
 pub returns-in-Begins-clause-survives : goal.returns-in-Begins-clause-survives
 returns-in-Begins-clause-survives g c =
     let old = c.args.parts.now in
@@ -150,6 +174,30 @@ returns-in-Desummarises-clause-survives g c =
     let old = c.args.parts.now in
     let new = c.desummarise_on.new.parts in
     subst (λ (hand : Hand). StopsSo g.D.Disk.told old.transactions c.args.session old.pages new.pages hand (answer_of c.desummarise_on.result)) (sym c.in-Desummarises.is) c.desummarise_on.ensures.survives
+
+pub returns-in-Cleans-clause-survives : goal.returns-in-Cleans-clause-survives
+returns-in-Cleans-clause-survives g c =
+    let old = c.args.parts.now in
+    let new = c.clean_on.new.parts in
+    subst (λ (hand : Hand). StopsSo g.D.Disk.told old.transactions c.args.session old.pages new.pages hand (answer_of c.clean_on.result)) (sym c.in-Cleans.is) c.clean_on.ensures.survives
+
+pub returns-in-Completes-clause-survives : goal.returns-in-Completes-clause-survives
+returns-in-Completes-clause-survives g c =
+    let old = c.args.parts.now in
+    let new = c.complete_on.new.parts in
+    subst (λ (hand : Hand). StopsSo g.D.Disk.told old.transactions c.args.session old.pages new.pages hand (answer_of c.complete_on.result)) (sym c.in-Completes.is) c.complete_on.ensures.survives
+
+pub returns-in-Working-clause-survives : goal.returns-in-Working-clause-survives
+returns-in-Working-clause-survives g c =
+    let old = c.args.parts.now in
+    let new = c.begin_work.new.parts in
+    subst (λ (hand : Hand). StopsSo g.D.Disk.told old.transactions c.args.session old.pages new.pages hand (answer_of c.begin_work.result)) (sym c.in-Working.is) c.begin_work.ensures.survives
+
+pub returns-in-Works-clause-survives : goal.returns-in-Works-clause-survives
+returns-in-Works-clause-survives g c =
+    let old = c.args.parts.now in
+    let new = c.work_on.new.parts in
+    subst (λ (hand : Hand). StopsSo g.D.Disk.told old.transactions c.args.session old.pages new.pages hand (answer_of c.work_on.result)) (sym c.in-Works.is) c.work_on.ensures.survives
 
 pub unreachable-requires : goal.unreachable-requires
 unreachable-requires g c = subst (λ (hand : Hand). IsNoPut hand) c.in-Puts.is c.requires.other

@@ -3,7 +3,7 @@ use Rattle.index_steps.specs.IndexTuples.{index_at}
 use Rattle.query_words.proofs.FitLemmas.{KnowsValues}
 use Rattle.statements.specs.declared.statement.Statement.TheVariants as statements
 use Rattle.store_layout.proofs.FirstBroken.{keeps_limits}
-use Rattle.text_laws.proofs.Fits.{home_below, home_in}
+use Rattle.text_laws.proofs.Fits.{in_below}
 use Rattle.text_laws.proofs.Reaching.{reached_is_orderly}
 use Rattle.text_laws.proofs.Summing.{summarize_counts}
 use Rattle.text_laws.proofs.maintaining.a_summarize_leaves_no_range_out.Goals as goal
@@ -14,5 +14,5 @@ returns c = λ layout p q n index count within reached has rests finishes.
     let knows : KnowsValues = record { denoted = c.value_of_is_denoted.ensures; of_kind = c.denoted_is_of_kind.ensures } in
     let o = reached_is_orderly c.table_stays_covered.ensures.kept layout limits c.table_stays_covered.ensures.new knows p reached in
     let fits = o.fits n _ has in
-    let below = home_below layout (statements.Summarize index None) _ limits fits (home_in layout p n (index_at p.layout index).table (statements.Summarize index None) o.same fits refl) in
+    let below = in_below layout p n (index_at p.layout index).table o.same limits o.asked (statements.Summarize index None) fits refl in
     summarize_counts p q n index count has rests (o.kept (index_at p.layout index).table below) finishes

@@ -1,4 +1,6 @@
-//! A run of the program in memory.
+//! Worked scripts and command lines as data, and their run in memory: what is written and the status are those of the row, whether bytes come and
+//! go one by one or in large pieces. Tests of scripts stand on it; it stands on brin_app.
+#![tactic(auto)]
 
 ghost use Rattle.std.specs.Prelude.{◌<◌};
 
@@ -103,7 +105,7 @@ pub fn check_words<R: Abort + AllocGlobal>(
 }
 
 /// The script of these lines, and what is written for it.
-fn parted(alloc: Global, lines: &str) -> Result<(Vec<u8>, Vec<u8>), Fail> {
+pub fn parted(alloc: Global, lines: &str) -> Result<(Vec<u8>, Vec<u8>), Fail> {
     let mut script = Vec::new(alloc);
     let mut output = Vec::new(alloc);
     for line in lines.split('\n') {

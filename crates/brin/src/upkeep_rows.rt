@@ -1,0 +1,153 @@
+//! Scripts of vacuum, and of the summaries that inserts ask for.
+
+use script_rows::{Script, check, check_scripts, parted};
+use std::string::String;
+use std::test::Fail;
+
+/// The first words of a small store.
+const SMALL: &str = "run|--heap-blocks|8|--index-blocks|4|--status-blocks|1|--log-pages|16";
+
+/// The same with a heap of one block.
+const ONE_BLOCK: &str = "run|--heap-blocks|1|--index-blocks|4|--status-blocks|1|--log-pages|16";
+
+/// Pages of two rows, and ranges of one page.
+const PAIRS: &str = "table t(a int8) rows_per_page 2|index i on t(a minmax) pages_per_range 1";
+
+/// The same, whose inserts ask for summaries.
+const ASKING: &str =
+    "table t(a int8) rows_per_page 2|index i on t(a minmax) pages_per_range 1 autosummarize";
+
+/// A block is full until a vacuum drops its dead row.
+const FULL_HEAP: [Script; 1] = [(
+    "full_heap_is_refused_then_vacuumed",
+    PAIRS,
+    "s1 begin -> s1 begun 1
+s1 insert t 1 -> s1 inserted 1.0
+s1 insert t 2 -> s1 inserted 1.1
+s1 commit -> s1 committed
+s1 begin -> s1 begun 2
+s1 insert t 3 -> s1 error 8 t 2
+s1 rollback -> s1 rolled back
+s1 begin -> s1 begun 3
+s1 delete t where a = 1 -> s1 deleted 1
+s1 commit -> s1 committed
+m vacuum t -> m vacuumed rows 1 orphans 0 ranges 1
+s1 begin -> s1 begun 4
+s1 insert t 6 -> s1 inserted 4.0
+s1 commit -> s1 committed",
+)];
+
+/// Vacuums, and work.
+const UPKEEP: [Script; 5] = [
+    (
+        "autosummarise_queues_the_range_before",
+        ASKING,
+        "s1 begin -> s1 begun 1
+s1 insert t 1 -> s1 inserted 1.0
+s1 insert t 2 -> s1 inserted 1.1
+s1 insert t 3 -> s1 inserted 1.2
+s1 commit -> s1 committed
+m work -> m worked i 0 1
+m work -> m worked none
+s1 explain t where a = 9 -> s1 blocks 1",
+    ),
+    (
+        "vacuum_keeps_rows_of_old_snapshots",
+        PAIRS,
+        "s1 begin -> s1 begun 1
+s1 insert t 5 -> s1 inserted 1.0
+s1 commit -> s1 committed
+s2 begin -> s2 begun 2
+s1 begin -> s1 begun 3
+s1 delete t where a = 5 -> s1 deleted 1
+s1 commit -> s1 committed
+m vacuum t -> m vacuumed rows 0 orphans 0 ranges 1
+s2 select t -> s2 row 1.0 5 | s2 rows 1
+s2 commit -> s2 committed
+m vacuum t -> m vacuumed rows 1 orphans 0 ranges 0",
+    ),
+    (
+        "vacuum_waits_for_the_summarise_lock",
+        PAIRS,
+        "s1 begin -> s1 begun 1
+s1 insert t 5 -> s1 inserted 1.0
+s1 commit -> s1 committed
+m start summarize i -> m started
+m step -> m moved right
+n vacuum t -> n error 11 work t m
+m finish -> m summarized 1
+n finish -> n vacuumed rows 0 orphans 0 ranges 0",
+    ),
+    (
+        "a_vacuum_goes_by_its_steps",
+        PAIRS,
+        "m vacuum t -> m vacuumed rows 0 orphans 0 ranges 0
+s1 begin -> s1 begun 1
+s1 insert t 5 -> s1 inserted 1.0
+s1 rollback -> s1 rolled back
+m start vacuum t -> m started
+m step -> m moved right
+n start vacuum t -> n started
+n step -> n error 11 work t m
+m step -> m moved prune
+m step -> m moved right
+m step -> m moved map
+m step -> m moved put
+m step -> m moved set
+m step -> m moved extent
+m step -> m moved pass
+m step -> m moved map
+m step -> m moved copy
+m step -> m vacuumed rows 1 orphans 0 ranges 1
+n step -> n moved right
+n step -> n moved prune
+n step -> n moved sweep
+n finish -> n vacuumed rows 0 orphans 0 ranges 0",
+    ),
+    (
+        "work_leaves_its_request_where_it_waits",
+        ASKING,
+        "s1 begin -> s1 begun 1
+s1 insert t 1 -> s1 inserted 1.0
+s1 insert t 2 -> s1 inserted 1.1
+s1 insert t 3 -> s1 inserted 1.2
+m start desummarize i 0 -> m started
+m step -> m moved right
+n start work -> n started
+n step -> n error 11 work t m
+m finish -> m desummarized 0
+o work -> o worked i 0 1
+n finish -> n worked none",
+    ),
+];
+
+#[test]
+fn a_full_heap_has_room_behind_a_vacuum(rt: HostRuntime) -> Result<(), Fail> {
+    check_scripts(&rt, ONE_BLOCK, &FULL_HEAP)
+}
+
+#[test]
+fn vacuums_and_work_keep_indexes(rt: HostRuntime) -> Result<(), Fail> {
+    check_scripts(&rt, SMALL, &UPKEEP)
+}
+
+/// The queue is full behind 64 requests, so the insert into the 66th range asks in vain.
+#[test]
+fn a_full_queue_drops_a_request(rt: HostRuntime) -> Result<(), Fail> {
+    let alloc = rt.alloc();
+    let mut lines = String::from_str(alloc, "s1 begin -> s1 begun 1")?;
+    for n in 0..65 {
+        lines.push_str(&format!(in alloc; "\ns1 insert t {n} -> s1 inserted 1.{n}")?)?;
+    }
+    lines.push_str("\ns1 insert t 65 -> - dropped i 64 | s1 inserted 1.65")?;
+    let words =
+        "run|--heap-blocks|100|table t(a int8) rows_per_page 1|index i on t(a minmax) pages_per_range 1 autosummarize";
+    let (script, output) = parted(alloc, lines.as_str())?;
+    check(
+        &rt,
+        "full_queue",
+        words,
+        script.as_slice(),
+        output.as_slice(),
+    )
+}
