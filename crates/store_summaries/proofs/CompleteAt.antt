@@ -26,6 +26,7 @@ use Rattle.store_parts.specs.HandsInTables.{InItsTable, IsTaskOf, table_in}
 use Rattle.store_parts.specs.Shares.{hand_share}
 use Rattle.store_parts.specs.ShowsPlace.{IsOfTransaction, IsPlaceOf, ShowsTable}
 use Rattle.store_parts.specs.StoreStates.{ShownStore, hand_in}
+use Rattle.store_upkeep.proofs.UpkeepAt.{UpkeepLeft}
 
 -- What a statement in hand is that has its table's summarise lock: it is at a task of this kind there, and has this to tell. It makes no request, and asks for no
 -- summary.
@@ -50,6 +51,11 @@ pub record IsAtWorkIn (layout : DiskLayout) (hand : Hand) (table : ℕ) (Here : 
       → IsTaskOf layout number blocks tx stored transaction (Some hand) now → InItsTable table number (Here now) now
   pub is_task : (number : ℕ) (blocks : List (List Slot)) (tx : TxState) (stored : List Status) (transaction : Option Open) (now : Task)
       → InItsTable table number (Here now) now → IsTaskOf layout number blocks tx stored transaction (Some hand) now
+
+-- what a step of its machine left of the store: pages of this index alone changed, and the session's locks; and no summary was asked for
+pub record IndexLeft (old new : ShownStore) (n : ℕ) (was : Hand) (index : ℕ) : Type 0 where
+  pub step : UpkeepLeft old new n was index
+  pub queue : new.queue ≡ old.queue
 
 -- what the definition has in hand of it
 hand_there : (layout : DiskLayout) (hand : Hand) (table : ℕ) (Here : Task → Type 0) (account : Account) → IsAtWorkIn layout hand table Here account → (at : Option HandAt) (so_far : Account) → HandShows (Some hand) at so_far

@@ -1,5 +1,5 @@
 -- an index that is full for a vacuum's summary
-use Rattle.std.proofs.Common.{◌≡◌, ◌≢◌, inr, ℕ, ◌<◌, ◌≤◌, Bool, List, [], ◌++◌, length, Option, None, Some, refl, sym, ap, subst, ◌∙◌}
+use Rattle.std.proofs.Common.{◌≡◌, ◌≢◌, inr, ℕ, ◌<◌, ◌≤◌, List, [], ◌++◌, length, Option, None, Some, refl, sym, ap, subst, ◌∙◌}
 use Rattle.std.specs.Prelude.{slice_get, slice_set}
 use Rattle.std.proofs.lemmas.List.{append-nil}
 use Rattle.std.proofs.lemmas.Option.{none-some}
@@ -54,9 +54,8 @@ use Rattle.store_parts.proofs.Steps.{turn_is_refused}
 use Rattle.store_upkeep.proofs.SummariseFull.{FullInTable, RefusedThere, is_maintaining, refused_there}
 use Rattle.store_upkeep.proofs.SummariseLocks.{gives_own, gives_stay, gives_there}
 use Rattle.store_upkeep.proofs.SummariseTurns.{at_range}
-use Rattle.store_upkeep.proofs.UpkeepAt.{UpkeepLeft}
 use Rattle.store_upkeep.proofs.UpkeepParts.{with_these}
-use Rattle.store_summaries.proofs.CompleteAt.{IsAtWorkIn, hand_is, here, kept_here}
+use Rattle.store_summaries.proofs.CompleteAt.{IndexLeft, IsAtWorkIn, hand_is, here, kept_here}
 use Rattle.store_summaries.proofs.CompleteParts.{refused_so}
 use Rattle.store_summaries.proofs.CompleteSteps.{behind, table_at}
 use Rattle.store_summaries.proofs.CompleteTurns.{holds_there, there}
@@ -64,7 +63,7 @@ use Rattle.store_summaries.proofs.SummarySteps.{SummaryLeft, is_it, of_it, stand
 
 -- its session gave its page locks and its table's summarise lock
 module _ (old new : ShownStore) (n : ℕ) (c : Completing) (a : SummariseState) (got : summary_now c ≡ Some a) (inside : a.index < length old.layout.schema.indexes) (is : IsAtWorkIn old.layout (hands.Completes c) (table_at old a.index) (IsCompletingAt old.layout c) (completed_by c))
-    (left : UpkeepLeft old new n (hands.Completes c) a.index) (p : Place) (shown : IsPlaceOf old p) (alike : ShowAlike) (pages : (place : PagePlace) → page_at new.pages place ≡ page_at old.pages place)
+    (left : IndexLeft old new n (hands.Completes c) a.index) (p : Place) (shown : IsPlaceOf old p) (alike : ShowAlike) (pages : (place : PagePlace) → page_at new.pages place ≡ page_at old.pages place)
     (gives : GivesAll (holder old.locks) (holder new.locks) n) (free : right_of new.rights (table_at old a.index) ≡ None) (now : hand_in new.hands n ≡ None) (number : ℕ) (at_a_range : a.standing ≡ standings.AtRange) where
   abbrev its_table : ℕ
   its_table = table_at old a.index
@@ -76,22 +75,22 @@ module _ (old new : ShownStore) (n : ℕ) (c : Completing) (a : SummariseState) 
   statement = statements.Vacuum c.table
 
   abbrev at_here : ShowsTable old shown.database.stored its_table (p.tables its_table)
-  at_here = here old n (hands.Completes c) its_table (IsCompletingAt old.layout c) (completed_by c) is left.had p shown
+  at_here = here old n (hands.Completes c) its_table (IsCompletingAt old.layout c) (completed_by c) is left.step.had p shown
 
   its_at : at_here.unseen.task n ≡ its_task
-  its_at = there old n c a got is left.had p shown
+  its_at = there old n c a got is left.step.had p shown
 
   module _ (full : IsSummariseFull n c.next (shown_by old.layout old.pages old.locks its_table at_here.blocks) its_task number) where
     found : RefusedThere (p.tables its_table) n its_task c.next number
     found = subst (λ (x : TableState). RefusedThere x n its_task c.next number) (sym at_here.shown)
         (refused_there _ n its_task c.next number
-        (full at_here.unseen its_at (kept_here old n (hands.Completes c) its_table (IsCompletingAt old.layout c) (completed_by c) is left.had p shown)) (ap is_maintaining (at_range old.layout c.next a at_a_range)))
+        (full at_here.unseen its_at (kept_here old n (hands.Completes c) its_table (IsCompletingAt old.layout c) (completed_by c) is left.step.had p shown)) (ap is_maintaining (at_range old.layout c.next a at_a_range)))
 
     counts_same : (t : ℕ) → counts_of new.transactions shown.database.stored t ≡ counts_of old.transactions shown.database.stored t
-    counts_same t = ap (λ (s : TransactionsState). counts_of s shown.database.stored t) left.transactions
+    counts_same t = ap (λ (s : TransactionsState). counts_of s shown.database.stored t) left.step.transactions
 
     it : IsMaintenanceShown new shown.database.stored p n its_table statement (maintain_refusal c.next found.refused)
-    it = maintenance_refusal_is_shown old new shown.database.stored p n its_table c.next found.range statement (p.tables its_table) found.job found.phase at_here left.others pages gives free counts_same
+    it = maintenance_refusal_is_shown old new shown.database.stored p n its_table c.next found.range statement (p.tables its_table) found.job found.phase at_here left.step.others pages gives free counts_same
         (λ in_it. none-some its_table (ap (table_in old.layout) (sym now) ∙ in_it)) refl (is.on p n shown.layout)
         (ap (λ (x : TableState). x.task n) at_here.shown ∙ its_at ∙ found.is) found.refused
 
@@ -99,7 +98,7 @@ module _ (old new : ShownStore) (n : ℕ) (c : Completing) (a : SummariseState) 
     told = ap Some found.why
 
     entries_are : p.journal ++ [] ≡ new.entries
-    entries_are = append-nil p.journal ∙ shown.journal ∙ sym left.entries
+    entries_are = append-nil p.journal ∙ shown.journal ∙ sym left.step.entries
 
     pub is_refused : (q : Place) × IsPlaceOf new q × Steps p n (Ended (replies.Refused (refusals.Full (index_name old.layout its_table c.next) number))) q
     is_refused = (
@@ -110,14 +109,14 @@ module _ (old new : ShownStore) (n : ℕ) (c : Completing) (a : SummariseState) 
           (λ other in_it. absurd (none-some other (ap (table_in old.layout) (sym now) ∙ in_it))) it.shows refl (subst IsNoInsert (sym now) tt),
       record {
         hand = new_hand statement;
-        in_hand = hand_is old n (hands.Completes c) its_table (IsCompletingAt old.layout c) (completed_by c) is left.had p shown;
+        in_hand = hand_is old n (hands.Completes c) its_table (IsCompletingAt old.layout c) (completed_by c) is left.step.had p shown;
         steps = subst (λ (l : DiskLayout). StepsTo p n (new_hand statement) (Ended (replies.Refused (refusals.Full (index_name l its_table c.next) number)))
             (place_after p n its_table None it.after (p.accounts n) (counts_of new.transactions shown.database.stored) new.entries)) shown.layout
             (subst (λ (e : List Entry). StepsTo p n (new_hand statement) (Ended (replies.Refused (refusals.Full (index_name p.layout its_table c.next) number)))
             (place_after p n its_table None it.after (p.accounts n) (counts_of new.transactions shown.database.stored) e)) entries_are
             (turn_is_refused p n its_table (new_hand statement) it.after (p.accounts n) (counts_of new.transactions shown.database.stored) (IsFull (IndexNumber c.next) number) tags.Full
             (refusals.Full (index_name p.layout its_table c.next) number) it.turns (it.refused ∙ told) (IndexIsFull c.next number)));
-        fits = subst (λ (e : List Entry). length e ≤ MAX_ENTRIES) (sym left.entries) left.few;
+        fits = subst (λ (e : List Entry). length e ≤ MAX_ENTRIES) (sym left.step.entries) left.step.few;
       },
     )
 
@@ -150,9 +149,9 @@ module _ {D : Type 0} (told : D → Told) (parts : Parts D) (n : ℕ) (c : Compl
         theirs = stays.theirs;
       }) none ready (inr all_given) (gives_own number n parts.rights rights inside gave kept) reply (λ names hand_list has tells p shown so now.
       let old = shown_of (store_of parts names hand_list) in
-      let shows = here old n (hands.Completes c) number (IsCompletingAt parts.pages.layout c) (completed_by c) is_there so.had p shown in
+      let shows = here old n (hands.Completes c) number (IsCompletingAt parts.pages.layout c) (completed_by c) is_there so.step.had p shown in
       let at = (full tells).0 in
-      let held : right_of parts.rights number ≡ Some n = holds_there old n c a got is_there so.had p shown at in
+      let held : right_of parts.rights number ≡ Some n = holds_there old n c a got is_there so.step.had p shown at in
       let at_it = stands told parts n c a got fit same_table in
       let made = is_refused old _ n c a got below is_there so p shown alike (λ place. ap (λ (m : PageMap). page_at m place) (keeps.pages tells)) all_given
       (gives_there number n parts.rights rights inside gave kept held) now room at

@@ -47,9 +47,8 @@ use Rattle.store_parts.specs.StoreStates.{ShownStore, hand_in, shown_of, store_o
 use Rattle.store_parts.specs.UndoneLaws.{FitsParts, StepsSo}
 use Rattle.store_parts.proofs.Stores.{hand_changes}
 use Rattle.store_parts.proofs.Undone.{fit_of_parts, fit_of_stores}
-use Rattle.store_upkeep.proofs.UpkeepAt.{UpkeepLeft}
 use Rattle.store_upkeep.proofs.UpkeepParts.{LocksLeft, PartsLeft, enters_none, has_cause, never_shown, with_these}
-use Rattle.store_summaries.proofs.CompleteAt.{IsAtWorkIn}
+use Rattle.store_summaries.proofs.CompleteAt.{IndexLeft, IsAtWorkIn}
 use Rattle.store_summaries.proofs.CompleteStays.{stays_shown}
 use Rattle.store_summaries.proofs.CompleteSteps.{MadeIn, goes_on, is_done}
 
@@ -137,25 +136,27 @@ module _ {D : Type 0} (told : D → Told) (parts : Parts D) (pages : View D) (lo
       | inr other ↦ subst (IsIndexInOrder parts.pages.layout.sizes.index_blocks) (sym (page_is tells i other)) ordered
     ]
 
-    pub left_so : LocksLeft parts.pages.layout parts.locks locks n index → Tells told parts.pages → (h : Option Hand) → UpkeepLeft old_store (new_store h) n was index
+    pub left_so : LocksLeft parts.pages.layout parts.locks locks n index → Tells told parts.pages → (h : Option Hand) → IndexLeft old_store (new_store h) n was index
     left_so leaves tells h = record {
-      had = has;
-      others = record {
-        layout = left.others.leaves.layout;
-        names = refl;
-        first = refl;
-        hands = (hand_changes hand_list n was h has).others;
-        opens = λ m apart. refl;
+      step = record {
+        had = has;
+        others = record {
+          layout = left.others.leaves.layout;
+          names = refl;
+          first = refl;
+          hands = (hand_changes hand_list n was h has).others;
+          opens = λ m apart. refl;
+        };
+        pages = left.others.pages tells;
+        locks = locks_so leaves h;
+        rights = left.apart;
+        order = λ i below ordered. order_so tells i ordered;
+        transactions = refl;
+        entries = refl;
+        dropped = refl;
+        few = fits.entries;
       };
-      pages = left.others.pages tells;
-      locks = locks_so leaves h;
-      rights = left.apart;
-      order = λ i below ordered. order_so tells i ordered;
-      transactions = refl;
-      entries = refl;
       queue = refl;
-      dropped = refl;
-      few = fits.entries;
     }
 
   -- it goes on
@@ -235,7 +236,7 @@ module _ {D : Type 0} (told : D → Told) (parts : Parts D) (pages : View D) (lo
       (lacks : right_of rights (index_at parts.pages.layout index).table ≢ Some n) where
     abbrev pub IsRefusal : Reply → Type 0
     IsRefusal reply = (names : List (List ℕ)) (hand_list : List (Option Hand)) (has : hand_in hand_list n ≡ Some was) → Tells told parts.pages → (p : Place) (shown : IsPlaceOf (old_store names hand_list has) p)
-        → UpkeepLeft (old_store names hand_list has) (new_store names hand_list has None) n was index → hand_in (with_hand hand_list n None) n ≡ None
+        → IndexLeft (old_store names hand_list has) (new_store names hand_list has None) n was index → hand_in (with_hand hand_list n None) n ≡ None
         → (q : Place) × IsPlaceOf (new_store names hand_list has None) q × Steps p n (Ended reply) q
 
     pub refused_so : (reply : Reply) → IsRefusal reply → StepsSo told parts new n was (stepped.Done reply)

@@ -34,13 +34,12 @@ use Rattle.store_parts.specs.ShowsPlace.{IsOfTransaction, IsPlaceOf}
 use Rattle.store_parts.specs.StoreStates.{ShownStore, hand_in}
 use Rattle.store_parts.proofs.Places.{place_stays_shown}
 use Rattle.store_parts.proofs.Steps.{turn_waits}
-use Rattle.store_upkeep.proofs.UpkeepAt.{UpkeepLeft}
-use Rattle.store_summaries.proofs.CompleteAt.{IsAtWorkIn, hand_is, here, shows_so, told_is, unseen_here, w}
+use Rattle.store_summaries.proofs.CompleteAt.{IndexLeft, IsAtWorkIn, hand_is, here, shows_so, told_is, unseen_here, w}
 use Rattle.store_summaries.proofs.CompleteSteps.{leads_so, table_at}
 
 -- nothing changed, but that the statement is kept anew, at the same task
 pub record WorkStays (old new : ShownStore) (n : ℕ) (was next : Hand) (index : ℕ) (Here HereNext : Task → Type 0) (account : Account) : Type 0 where
-  pub left : UpkeepLeft old new n was index
+  pub left : IndexLeft old new n was index
   pub stays : IsAtWorkIn old.layout next (table_at old index) HereNext account
   pub same : statement_of next ≡ statement_of was
   pub at : (task : Task) → Here task → HereNext task
@@ -52,9 +51,9 @@ pub record WorkStays (old new : ShownStore) (n : ℕ) (was next : Hand) (index :
 module _ (old new : ShownStore) (n : ℕ) (was next : Hand) (index : ℕ) (within : index < length old.layout.schema.indexes) (Here HereNext : Task → Type 0) (account : Account) (is : IsAtWorkIn old.layout was (table_at old index) Here account)
     (so : WorkStays old new n was next index Here HereNext account) (p : Place) (shown : IsPlaceOf old p) (alike : ShowAlike) where
   next_shows : HandShows (hand_in new.hands n) (p.hands n) (p.accounts n)
-  next_shows = subst (λ (h : Option HandAt). HandShows (hand_in new.hands n) h (p.accounts n)) (sym (hand_is old n was (table_at old index) Here account is so.left.had p shown))
+  next_shows = subst (λ (h : Option HandAt). HandShows (hand_in new.hands n) h (p.accounts n)) (sym (hand_is old n was (table_at old index) Here account is so.left.step.had p shown))
       (subst (λ (s : Statement). HandShows (hand_in new.hands n) (Some (new_hand s)) (p.accounts n)) so.same
-      (shows_so old.layout next (table_at old index) HereNext account so.stays (hand_in new.hands n) so.now (p.accounts n) (told_is old n was (table_at old index) Here account is so.left.had p shown)))
+      (shows_so old.layout next (table_at old index) HereNext account so.stays (hand_in new.hands n) so.now (p.accounts n) (told_is old n was (table_at old index) Here account is so.left.step.had p shown)))
 
   own_then : (h : Hand) → hand_in new.hands n ≡ Some h → IsOfTransaction (transaction_of new.transactions.opens n) (finite.get (database_at p).sessions n) h
   own_then h there = subst (λ (x : Hand). IsOfTransaction (transaction_of new.transactions.opens n) (finite.get (database_at p).sessions n) x) (same_Some next h (sym so.now ∙ there))
@@ -65,20 +64,20 @@ module _ (old new : ShownStore) (n : ℕ) (was next : Hand) (index : ℕ) (withi
       → IsTaskOf old.layout number blocks old.transactions.tx stored (transaction_of old.transactions.opens n) (hand_in new.hands n) now
   tasks_then number stored blocks now at =
       let before = is.task_is number blocks old.transactions.tx stored (transaction_of old.transactions.opens n) now
-      (subst (λ (h : Option Hand). IsTaskOf old.layout number blocks old.transactions.tx stored (transaction_of old.transactions.opens n) h now) so.left.had at) in
+      (subst (λ (h : Option Hand). IsTaskOf old.layout number blocks old.transactions.tx stored (transaction_of old.transactions.opens n) h now) so.left.step.had at) in
       subst (λ (h : Option Hand). IsTaskOf old.layout number blocks old.transactions.tx stored (transaction_of old.transactions.opens n) h now) (sym so.now)
       (so.stays.is_task number blocks old.transactions.tx stored (transaction_of old.transactions.opens n) now ((λ own. so.at now (before.0 own)), before.1))
 
   pub stays_shown : IsPlaceOf new p
   stays_shown = place_stays_shown old new p n shown (record {
-    others = so.left.others;
+    others = so.left.step.others;
     pages = so.pages;
-    transactions = so.left.transactions;
+    transactions = so.left.step.transactions;
     locks = so.locks;
     rights = so.rights;
-    entries = so.left.entries;
+    entries = so.left.step.entries;
     queue = so.left.queue;
-    dropped = so.left.dropped;
+    dropped = so.left.step.dropped;
     asked = subst (λ (h : Option Hand). HandAsked old.layout h (p.accounts n).dropped) (sym so.now) (so.stays.asked (p.accounts n).dropped);
     hand = leads_so old new n was index within Here account is so.left p shown alike (p.hands n) (p.accounts n) next_shows own_then;
     tasks = tasks_then;

@@ -1,5 +1,5 @@
 -- a step of a vacuum's summary, over the parts of a store
-use Rattle.std.proofs.Common.{◌≡◌, ◌≢◌, inl, inr, ℕ, ◌+◌, ◌-◌, ◌<◌, ◌≤◌, Bool, List, length, set, get_or, Option, None, Some, refl, sym, ap, subst, ◌∙◌, arith}
+use Rattle.std.proofs.Common.{◌≡◌, ◌≢◌, inl, inr, ℕ, ◌+◌, ◌-◌, ◌<◌, ◌≤◌, List, length, set, get_or, Option, None, Some, refl, sym, ap, subst, ◌∙◌, arith}
 use Rattle.std.specs.Prelude.{slice_get, slice_set}
 use Rattle.disk_trait.specs.Told.{Told}
 use Rattle.block_model.specs.declared.reply.Point.{Point}
@@ -20,7 +20,6 @@ use Rattle.page_locks.specs.LockCounts.{locks_of}
 use Rattle.page_locks.specs.LockHolders.{LockState, holder}
 use Rattle.page_locks.specs.RightHolders.{right_of}
 use Rattle.heap_rows.specs.HeapBlocks.{HasBlocks, OfBlocks}
-use Rattle.row_versions.specs.StoredVersions.{transaction_of}
 use Rattle.transactions.specs.Laws.{ShowAlike}
 use Rattle.index_contents.specs.IndexChanges.{LeavesOthers as LeavesOtherIndexes}
 use Rattle.index_contents.specs.IndexContents.{relation_of as index_relation}
@@ -30,12 +29,11 @@ use Rattle.index_steps.specs.ShownTable.{indexes_of}
 use Rattle.index_steps.specs.SwapAnswers.{LeavesLocks, NamesHeld, TakesAtMost}
 use Rattle.table_coverage.specs.Accounts.{Account}
 use Rattle.table_coverage.specs.Table.{Restarts, Resting, Task}
-use Rattle.range_summarise.specs.SummariseSteps.{RestsAt}
 use Rattle.brin_summarise.specs.declared.course.Standing.{Standing}
 use Rattle.brin_summarise.specs.declared.course.Standing.TheVariants as standings
 use Rattle.brin_summarise.specs.declared.wish.Wish.TheVariants as wishes
 use Rattle.brin_summarise.specs.Summarises.{DamageIn, IsSummariseOf, ReadyAt, RightAnswers, StandsThen, SummariseDoes, SummariseState, count_of, held_by, held_in, step_of, taken_by}
-use Rattle.brin_summarise.specs.TableSteps.{DoesInTable, behind_last, held_behind, indexes_left, task_at, task_of}
+use Rattle.brin_summarise.specs.TableSteps.{DoesInTable, held_behind, indexes_left, task_at, task_of}
 use Rattle.line_texts.specs.Names.{index_name, name_of, table_name}
 use Rattle.line_texts.specs.Place.{Place}
 use Rattle.line_texts.specs.StatementSteps.{Steps, Waits}
@@ -64,7 +62,7 @@ use Rattle.store_summaries.proofs.CompleteAt.{IsAtWorkIn, here, kept_here, unsee
 use Rattle.store_summaries.proofs.CompleteParts.{done_so, moved_so, new_store, old_store, undone_so, waits_so}
 use Rattle.store_summaries.proofs.CompleteStays.{waits_for_lock, waits_for_page}
 use Rattle.store_summaries.proofs.CompleteTurns.{holds_there, made_by, restarts_apart, there}
-use Rattle.store_summaries.proofs.Summaries.{adds_now, as_many, behind_all, behind_one, completing_next, completing_on, got_now, held_next_one, held_no_more, held_now, held_on, index_there, is_completing, is_left, is_of, new_task, next_summary, now_then, task_now, telling, tells_next, tells_now}
+use Rattle.store_summaries.proofs.Summaries.{adds_now, as_many, behind_all, behind_one, completing_next, completing_on, got_now, held_no_more, held_now, held_on, index_there, is_completing, is_left, is_of, new_task, next_summary, now_then, task_now, telling, tells_next, tells_now}
 
 -- what its machine's step told of the pages, the locks and the summary
 pub record SummaryLeft {D : Type 0} (told : D → Told) (parts : Parts D) (n : ℕ) (a : SummariseState) (pages : View D) (locks : LockState) (b : SummariseState) : Type 0 where
