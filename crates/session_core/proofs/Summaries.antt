@@ -37,6 +37,7 @@ module _ (table number at : ℕ) (indexes : List Index) (item : Index) (within :
       ∙ ap (λ (n : ℕ). numbers_of summaries ++ n ∷ rest) named
       ∙ ap (λ (l : List ℕ). numbers_of summaries ++ l) (sym (ap (numbers_from table number) next ∙ ap (λ (b : Bool). cond b (number ∷ rest) rest) (eq-eqb item.table table its)))
       ∙ before)
+
   pub so_far_skipped : (summaries : List SummariseState) → item.table ≢ table → AreSoFar table number at indexes summaries → AreSoFar table (number + 1) (at + 1) indexes summaries
   so_far_skipped summaries other before = subst (λ (n : ℕ). AreSoFar table (number + 1) n indexes summaries) one_on (
       ap (λ (l : List ℕ). numbers_of summaries ++ l) (sym (ap (numbers_from table number) next ∙ ap (λ (b : Bool). cond b (number ∷ rest) rest) (ne_eqb item.table table other)))

@@ -27,11 +27,7 @@ pub(crate) fn vacuum_hand<D: Disk + Drop>(parts: &Parts<D>, table: u8) -> Result
 }
 
 /// A summary of each index of the table, in their order, over its complete ranges.
-fn summaries_of(
-    alloc: Global,
-    layout: &Layout,
-    table: u8,
-) -> Result<Vec<Summarise>, NoMemory>
+fn summaries_of(alloc: Global, layout: &Layout, table: u8) -> Result<Vec<Summarise>, NoMemory>
     ensures of { IfOk result (λ summaries. AreSummariesOf layout.now table summaries.items) }
     ensures new { IfOk result (λ summaries. All (λ a. a.standing ≡ standings.Begins) summaries.items) }
 {
