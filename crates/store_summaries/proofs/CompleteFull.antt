@@ -51,7 +51,8 @@ use Rattle.store_parts.specs.StoreStates.{ShownStore, hand_in, shown_of, store_o
 use Rattle.store_parts.specs.UndoneLaws.{StepsSo}
 use Rattle.store_parts.proofs.Maintenance.{maintenance_refusal_is_shown}
 use Rattle.store_parts.proofs.Steps.{turn_is_refused}
-use Rattle.store_upkeep.proofs.SummariseFull.{FullInTable, RefusedThere, is_maintaining, refused_there}
+use Rattle.store_upkeep.proofs.SummariseFull.{FullInTable, RefusedThere, refused_there}
+use Rattle.store_upkeep.proofs.UpkeepPoints.{is_maintaining}
 use Rattle.store_upkeep.proofs.SummariseLocks.{gives_own, gives_stay, gives_there}
 use Rattle.store_upkeep.proofs.SummariseTurns.{at_range}
 use Rattle.store_upkeep.proofs.UpkeepParts.{with_these}

@@ -1,5 +1,5 @@
 -- an index that is full for a summarise, or for work
-use Rattle.std.proofs.Common.{◌≡◌, ◌≢◌, inr, ℕ, ◌<◌, ◌≤◌, Bool, true, false, List, [], ◌++◌, length, Option, None, Some, refl, sym, ap, subst, ◌∙◌}
+use Rattle.std.proofs.Common.{◌≡◌, ◌≢◌, inr, ℕ, ◌<◌, ◌≤◌, true, false, List, ◌++◌, length, Option, None, Some, refl, sym, ap, subst, ◌∙◌}
 use Rattle.std.specs.Prelude.{slice_get, slice_set}
 use Rattle.std.proofs.lemmas.Bool.{false≢true}
 use Rattle.std.proofs.lemmas.List.{append-nil}
@@ -64,11 +64,8 @@ use Rattle.store_upkeep.proofs.SummariseParts.{MachineLeft, fits, is_it, within}
 use Rattle.store_upkeep.proofs.SummariseTurns.{IsBySummarise, at_range, holds_there}
 use Rattle.store_upkeep.proofs.UpkeepAt.{IsUpkeep, IsUpkeepAt, UpkeepLeft, at_task, hand_is, here, kept_here}
 use Rattle.store_upkeep.proofs.UpkeepParts.{refused_so, with_these}
+use Rattle.store_upkeep.proofs.UpkeepPoints.{is_maintaining}
 use Rattle.store_upkeep.proofs.UpkeepSteps.{behind}
-
-abbrev pub is_maintaining : Task → Bool
-is_maintaining (Maintains job at range phase) = true
-is_maintaining task = false
 
 not_insert : (w : TableState) (s b k : ℕ) (r : Row) (task : Task) → IsInsertRefused w s b k r task → is_maintaining task ≡ true → ⊥
 not_insert w s b k r _ (IndexFull number i x old new verdict) is = false≢true is

@@ -1,5 +1,5 @@
 -- a summarise of the statement itself and that of work, and what each replies
-use Rattle.std.proofs.Common.{◌≡◌, ◌≢◌, ◌⊎◌, inl, inr, ℕ, suc, ◌/◌, ◌<◌, List, [], length, Option, None, Some, refl, sym, ap, subst, ◌∙◌}
+use Rattle.std.proofs.Common.{◌≡◌, ◌≢◌, ◌⊎◌, inl, inr, ℕ, suc, ◌/◌, ◌<◌, [], length, Option, None, Some, refl, sym, ap, subst, ◌∙◌}
 use Rattle.std.specs.Prelude.{slice_get}
 use Rattle.std.proofs.lemmas.Option.{same_Some}
 use Rattle.disk_trait.specs.Told.{Told}
@@ -32,7 +32,7 @@ use Rattle.store_parts.specs.declared.hand.Hand.TheVariants as hands
 use Rattle.store_parts.specs.declared.hand.Requested.{Requested}
 use Rattle.store_parts.specs.declared.parts.Parts.{Parts}
 use Rattle.store_parts.specs.Hands.{statement_of}
-use Rattle.store_parts.specs.HandFits.{IsHandFor, IsRequestedFor}
+use Rattle.store_parts.specs.HandFits.{IsHandFor}
 use Rattle.store_parts.specs.ShowsPlace.{IsLeftToMark}
 use Rattle.store_parts.specs.Stepping.{IsFit}
 use Rattle.store_parts.specs.StoreStates.{ShownStore, shown_of, store_of}
@@ -42,7 +42,7 @@ use Rattle.store_upkeep.specs.declared.asker.Asker.TheVariants as askers
 use Rattle.store_upkeep.specs.Askers.{hand_for, reply_for}
 use Rattle.store_upkeep.proofs.SummariseParts.{MachineLeft, RepliesSo, fits, is_it}
 use Rattle.store_upkeep.proofs.SummariseTurns.{IsBySummarise, at_range, by_summarise, is_busy, right_of_its}
-use Rattle.store_upkeep.proofs.UpkeepAt.{IsUpkeep, at_task, counted, here, unseen_here}
+use Rattle.store_upkeep.proofs.UpkeepAt.{IsUpkeep, at_task, counted, unseen_here}
 use Rattle.store_upkeep.proofs.WorkEnds.{ends_behind}
 
 -- ---- work at the range of its request
@@ -77,7 +77,7 @@ range_not_done is = cc
 range_not_begins : standings.AtRange ≢ standings.Begins
 range_not_begins is = cc
 
-block_not_complete : (block : ℕ) → wishes.Block block ≢ wishes.Complete
+pub block_not_complete : (block : ℕ) → wishes.Block block ≢ wishes.Complete
 block_not_complete block is = cc
 
 stays_at : (a b : SummariseState) → a.standing ≡ standings.AtRange → (b.standing ≡ standings.AtRange) ⊎ (b.standing ≡ a.standing) → b.standing ≡ standings.AtRange

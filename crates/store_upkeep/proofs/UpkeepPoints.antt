@@ -69,15 +69,15 @@ job_plain (OneRange extent only) s range w v old new step = summarise_plain step
 job_plain (WholeRanges extent) s range w v old new step = summarise_plain step
 job_plain (Desummarising only) s range w v old new step = desummarise_plain step
 
-abbrev is_maintaining : Task → Bool
+abbrev pub is_maintaining : Task → Bool
 is_maintaining (Maintains job at range phase) = true
 is_maintaining task = false
 
-abbrev is_resting : Task → Bool
+abbrev pub is_resting : Task → Bool
 is_resting Resting = true
 is_resting task = false
 
-abbrev is_considering : Task → Bool
+abbrev pub is_considering : Task → Bool
 is_considering (Considers job at range) = true
 is_considering task = false
 

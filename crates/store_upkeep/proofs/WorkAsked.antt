@@ -1,5 +1,5 @@
 -- work before its first step, and the summary that is asked for first
-use Rattle.std.proofs.Common.{◌≡◌, ◌≢◌, inl, inr, ℕ, ◌<◌, Bool, List, [], ◌∷◌, length, drop, Option, None, Some, refl, sym, ap, subst, ◌∙◌, arith}
+use Rattle.std.proofs.Common.{◌≡◌, inl, inr, ℕ, ◌<◌, List, [], ◌∷◌, length, drop, Option, None, Some, refl, sym, ap, subst, ◌∙◌, arith}
 use Rattle.std.specs.Prelude.{slice_get}
 use Rattle.std.proofs.lemmas.Bool.{cases_eq}
 use Rattle.std.proofs.lemmas.Option.{none-some, same_Some}
@@ -7,15 +7,15 @@ use Rattle.block_model.specs.DatabaseState.{OpenTransaction}
 use Rattle.store_layout.specs.DiskLayout.{DiskLayout}
 use Rattle.row_versions.specs.StoredVersions.{transaction_of}
 use Rattle.statements.specs.declared.statement.Statement.TheVariants as statements
-use Rattle.table_coverage.specs.Accounts.{Account, Asked, no_account}
+use Rattle.table_coverage.specs.Accounts.{Asked}
 use Rattle.table_coverage.specs.Table.{Resting, TableState}
 use Rattle.index_steps.specs.IndexTuples.{index_at}
 use Rattle.index_steps.specs.ShownTable.{indexes_of}
 use Rattle.index_steps.proofs.Listed.{is_ascending}
 use Rattle.brin_insert.specs.AskedFor.{AreRequestsOf, IsRequestOf, NoRequests, OneMoreRequest}
-use Rattle.brin_insert.proofs.Numbers.{number_within, own_table}
+use Rattle.brin_insert.proofs.Numbers.{own_table}
 use Rattle.line_texts.specs.Beginnings.{IsAskedFirst, IsAtRest, IsIn, StandsAt}
-use Rattle.line_texts.specs.Place.{Hand as HandAt, Place, new_hand}
+use Rattle.line_texts.specs.Place.{Place, new_hand}
 use Rattle.store_parts.specs.declared.hand.Hand.{Hand}
 use Rattle.store_parts.specs.declared.hand.Hand.TheVariants as hands
 use Rattle.store_parts.specs.Hands.{HandShows}

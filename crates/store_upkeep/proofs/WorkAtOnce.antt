@@ -1,5 +1,5 @@
 -- work that replies before it has begun: it finds no request, or lacks memory
-use Rattle.std.proofs.Common.{◌≡◌, ◌≢◌, ℕ, ◌+◌, ◌*◌, ◌<◌, ◌≤◌, Bool, List, [], ◌++◌, length, Option, None, Some, refl, sym, ap, subst, ◌∙◌}
+use Rattle.std.proofs.Common.{◌≡◌, ℕ, ◌+◌, ◌<◌, List, [], length, Option, None, Some, refl, sym, ap, subst, ◌∙◌}
 use Rattle.std.specs.Prelude.{slice_get}
 use Rattle.std.proofs.lemmas.List.{append-nil}
 use Rattle.std.proofs.lemmas.Option.{none-some}
@@ -8,17 +8,14 @@ use Rattle.block_model.specs.declared.reply.Refusal.TheVariants as refusals
 use Rattle.block_model.specs.declared.reply.Reply.{Reply}
 use Rattle.block_model.specs.declared.reply.Reply.TheVariants as replies
 use Rattle.block_model.specs.declared.request.Entry.{Entry}
-use Rattle.store_layout.specs.DiskLayout.{DiskLayout}
 use Rattle.page_locks.specs.RightHolders.{right_of}
 use Rattle.row_versions.specs.StoredVersions.{transaction_of}
-use Rattle.statements.specs.declared.limits.TheConstants.{MAX_ENTRIES}
 use Rattle.statements.specs.declared.statement.Statement.TheVariants as statements
 use Rattle.transactions.specs.CountedRows.{counts as counts_of}
 use Rattle.transactions.specs.Laws.{ShowAlike}
 use Rattle.table_coverage.specs.Accounts.{Asked}
 use Rattle.table_coverage.specs.Table.{TableState}
 use Rattle.index_steps.specs.IndexTuples.{index_at}
-use Rattle.brin_insert.specs.AskedFor.{IsRequestOf}
 use Rattle.brin_insert.proofs.Numbers.{number_within}
 use Rattle.line_texts.specs.Place.{Place, new_hand}
 use Rattle.line_texts.specs.StatementSteps.{Ended, MayLackMemory, StepsTo}

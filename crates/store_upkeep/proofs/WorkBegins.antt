@@ -1,5 +1,5 @@
 -- the first step of work that takes up a request, in a place that the store shows
-use Rattle.std.proofs.Common.{◌≡◌, ◌≢◌, ◌⊎◌, inl, inr, ℕ, ◌/◌, ◌<◌, Bool, true, false, List, ◌∷◌, length, drop, Option, None, Some, refl, sym, ap, subst, ◌∙◌}
+use Rattle.std.proofs.Common.{◌≡◌, ◌≢◌, ◌⊎◌, inr, ℕ, ◌<◌, Bool, false, List, ◌∷◌, length, drop, Option, None, Some, refl, sym, ap, subst, ◌∙◌}
 use Rattle.std.specs.Prelude.{slice_get}
 use Rattle.std.proofs.lemmas.Bool.{false≢true}
 use Rattle.std.proofs.lemmas.Option.{none-some, same_Some, slice_get_within}
@@ -32,20 +32,13 @@ use Rattle.store_parts.specs.ShowsPlace.{IsPlaceOf, ShowsTable}
 use Rattle.store_parts.specs.StoreStates.{ShownStore, hand_in}
 use Rattle.store_upkeep.specs.FirstRequests.{IsOfRange}
 use Rattle.store_upkeep.proofs.SummariseTurns.{is_new}
+use Rattle.store_upkeep.proofs.SummaryReplies.{block_not_complete}
 use Rattle.store_upkeep.proofs.UpkeepAt.{IsUpkeep, IsUpkeepAt, at_task, here, kept_here, pages_show, unseen_here, w}
-use Rattle.store_upkeep.proofs.UpkeepPoints.{IsPlain}
+use Rattle.store_upkeep.proofs.UpkeepPoints.{IsPlain, is_considering, is_resting}
 use Rattle.store_upkeep.proofs.UpkeepSteps.{MadeIn, turned}
 use Rattle.store_upkeep.proofs.WorkAsked.{IsAskedSo, asked, asked_first, asked_table, asked_there, on_asked, same_place}
 
 -- ---- a step from nothing to a range takes the summarise lock
-
-abbrev is_considering : Task → Bool
-is_considering (Considers job at range) = true
-is_considering task = false
-
-abbrev is_resting : Task → Bool
-is_resting Resting = true
-is_resting task = false
 
 record TakesTheLock (n : ℕ) (w v : TableState) (point : Point) : Type 0 where
   others : (m : ℕ) → (m ≡ n) ⊎ (v.task m ≡ w.task m)
@@ -91,9 +84,6 @@ module _ (n : ℕ) (w v : TableState) (point : Point) (job : Job) (at range : �
 -- with the empty account that each statement begins with
 abbrev pub emptied : Account → Account
 emptied account = no_account
-
-block_not_complete : (block : ℕ) → wishes.Block block ≢ wishes.Complete
-block_not_complete block is = cc
 
 module _ (old new : ShownStore) (n : ℕ) (a b : SummariseState) (range : ℕ) (is : IsUpkeep old.layout hands.Working a.index (λ at. Resting) 0) (had : hand_in old.hands n ≡ Some hands.Working) (p : Place) (shown : IsPlaceOf old p)
     (begins : a.standing ≡ standings.Begins) (ranged : IsOfRange old.layout a range) (first : slice_get old.queue 0 ≡ Some (a.index, range)) (later : new.queue ≡ drop 1 old.queue) where

@@ -1,5 +1,5 @@
 -- what a maintenance statement at a range is at within the step with which it ends
-use Rattle.std.proofs.Common.{◌≡◌, ◌⊎◌, inl, inr, ℕ, suc, Bool, true, false, Some, refl, sym, ap, ◌∙◌}
+use Rattle.std.proofs.Common.{◌≡◌, ◌⊎◌, inl, inr, ℕ, suc, true, false, Some, refl, sym, ap, ◌∙◌}
 use Rattle.std.proofs.lemmas.Bool.{false≢true}
 use Rattle.std.proofs.lemmas.Option.{none-some}
 use Rattle.block_model.specs.declared.reply.Point.{Point}
@@ -8,10 +8,7 @@ use Rattle.table_coverage.specs.Table.{Considers, Job, Maintains, Resting, Table
 use Rattle.table_coverage.specs.TablePoints.{does_point}
 use Rattle.table_coverage.specs.TableSteps.{AsksSummary, BeginsScan, Blocked, Conflicts, Does, InsertCompletes, InsertGoes, Judges, MaintainCompletes, MaintainGoes, MarksRow, PrunesBlock, PutsRow, ReadsBlock, RefusesInsert, RefusesMaintain, RefusesRow, RefusesScan, RefusesVacuum, RestartsIndex, SweepsPage, TakesLock, Transacts}
 use Rattle.table_coverage.specs.TableSteps.{GivesLock, GoesOn, Inserted, IsMaintained, JudgesNext, Marked, NextIndex, NothingToSweep, Onward, Pruned, RangesDone, Scanned, Settles, Stays, Swept, ToAsk, ToIndex, ToMarks, ToPage, ToRange}
-
-abbrev is_maintaining : Task → Bool
-is_maintaining (Maintains job at range phase) = true
-is_maintaining task = false
+use Rattle.store_upkeep.proofs.UpkeepPoints.{is_maintaining}
 
 abbrev range_behind : Task → Task
 range_behind (Maintains job at range phase) = Considers job at (suc range)

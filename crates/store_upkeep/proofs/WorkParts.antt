@@ -1,7 +1,6 @@
 -- the first step of work that takes up a request, over the parts of a store
-use Rattle.std.proofs.Common.{◌≡◌, ◌≢◌, ◌⊎◌, inl, inr, ℕ, ◌+◌, ◌/◌, ◌<◌, ◌≤◌, List, [], length, drop, Option, None, Some, refl, sym, ap, subst, ◌∙◌, arith}
+use Rattle.std.proofs.Common.{◌≡◌, ◌≢◌, inl, inr, ℕ, ◌/◌, ◌<◌, ◌≤◌, List, length, drop, Option, None, Some, refl, sym, ap, subst, ◌∙◌, arith}
 use Rattle.std.specs.Prelude.{slice_get, slice_set}
-use Rattle.std.proofs.lemmas.Option.{none-some}
 use Rattle.disk_trait.specs.Told.{Told}
 use Rattle.block_model.specs.declared.reply.Point.{Point}
 use Rattle.block_model.specs.declared.reply.Reply.{Reply}
@@ -30,26 +29,23 @@ use Rattle.table_coverage.specs.Table.{Resting, Task}
 use Rattle.table_coverage.specs.TableSteps.{SummariseLockHeld}
 use Rattle.brin_summarise.specs.declared.course.Standing.{Standing}
 use Rattle.brin_summarise.specs.declared.course.Standing.TheVariants as standings
-use Rattle.brin_summarise.specs.declared.wish.Wish.{Wish}
 use Rattle.brin_summarise.specs.Summarises.{DamageIn, FullAt, IsSummariseOf, RightAnswers, SummariseDoes, SummariseState, count_of, held_by, held_in, in_range_of, step_of}
 use Rattle.brin_summarise.specs.TableSteps.{DoesInTable, HasCounted, held_behind, indexes_left, task_of}
 use Rattle.line_texts.specs.Beginnings.{StandsAt}
 use Rattle.line_texts.specs.Names.{index_name, name_of, table_name}
-use Rattle.line_texts.specs.Place.{Place}
 use Rattle.line_texts.specs.StatementSteps.{Steps, Waits, work_reply}
-use Rattle.statements.specs.declared.statement.Statement.TheVariants as statements
 use Rattle.store_parts.specs.declared.hand.Hand.{Hand}
 use Rattle.store_parts.specs.declared.hand.Hand.TheVariants as hands
 use Rattle.store_parts.specs.declared.hand.Stepped.TheVariants as stepped
 use Rattle.store_parts.specs.declared.parts.Parts.{Parts}
-use Rattle.store_parts.specs.HandFits.{right_at, right_held}
+use Rattle.store_parts.specs.HandFits.{right_at}
 use Rattle.store_parts.specs.StepAnswers.{StaysReady}
 use Rattle.store_parts.specs.Stepping.{IsFit}
 use Rattle.store_parts.specs.StoreFaults.{fault_of}
 use Rattle.store_parts.specs.UndoneLaws.{FitsParts, StepsSo}
 use Rattle.store_parts.proofs.Undone.{fit_of_parts}
 use Rattle.store_upkeep.specs.FirstRequests.{IsOfRange}
-use Rattle.store_upkeep.proofs.SummariseLocks.{OthersStay, gives_own, gives_stay, gives_there, same_stays, stays_on}
+use Rattle.store_upkeep.proofs.SummariseLocks.{OthersStay, gives_own, gives_stay, gives_there, stays_on}
 use Rattle.store_upkeep.proofs.SummariseParts.{MachineLeft}
 use Rattle.store_upkeep.proofs.SummariseTurns.{StepsInTable, is_busy, is_over, last_gives, right_left, right_taken}
 use Rattle.store_upkeep.proofs.SummaryReplies.{is_work}
@@ -57,7 +53,7 @@ use Rattle.store_upkeep.proofs.UpkeepAt.{IsUpkeep, at_task, counted, here}
 use Rattle.store_upkeep.proofs.UpkeepParts.{PartsLeft, done_so, leaves_same, moved_so, new_store, old_store, refused_so, refused_untold, undone_so, waits_so, with_queue, with_these}
 use Rattle.store_upkeep.proofs.UpkeepStays.{waits_for_lock}
 use Rattle.store_upkeep.proofs.WorkAsked.{is_working, on_asked}
-use Rattle.store_upkeep.proofs.WorkBegins.{emptied, made_first, not_complete}
+use Rattle.store_upkeep.proofs.WorkBegins.{made_first, not_complete}
 
 pub begins_not_range : standings.Begins ≢ standings.AtRange
 begins_not_range is = cc

@@ -1,6 +1,6 @@
 //! The request for a summary that came first.
 
-ghost use Rattle.std.specs.Prelude.{◌≡◌, ◌*◌, ◌<◌, ℕ, None, length, IfSome};
+ghost use Rattle.std.specs.Prelude.{◌≡◌, ◌*◌, ◌<◌, None, length, IfSome};
 ghost use Rattle.brin_summarise.specs.Summarises.{in_range_of};
 ghost use Rattle.store_upkeep.specs.FirstRequests.{HasNoRequest, IsFirstRequest};
 

@@ -1,5 +1,4 @@
 use Rattle.std.proofs.Common.{◌≡◌, refl, sym, ap, subst, ◌∙◌}
-use Rattle.block_model.specs.declared.reply.Reply.TheVariants as replies
 use Rattle.store_layout.specs.DiskLayout.{DiskLayout}
 use Rattle.engine_pages.specs.SurvivesLaws.{survives_still}
 use Rattle.store_parts.specs.declared.hand.Hand.TheVariants as hands

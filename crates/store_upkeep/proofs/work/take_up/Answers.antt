@@ -1,4 +1,4 @@
-use Rattle.std.proofs.Common.{◌≡◌, ◌≢◌, ℕ, ◌/◌, ◌<◌, length, Some, refl, sym, ap, subst, ◌∙◌, arith}
+use Rattle.std.proofs.Common.{◌≡◌, ℕ, ◌/◌, ◌<◌, length, Some, refl, sym, ap, subst, ◌∙◌, arith}
 use Rattle.block_model.specs.declared.reply.What.TheVariants as whats
 use Rattle.store_layout.specs.DiskLayout.{DiskLayout}
 use Rattle.engine_pages.specs.SurvivesLaws.{survives_still}
