@@ -38,7 +38,7 @@ s1 commit -> s1 committed",
 )];
 
 /// Vacuums, and work.
-const UPKEEP: [Script; 5] = [
+const UPKEEP: [Script; 6] = [
     (
         "autosummarise_queues_the_range_before",
         ASKING,
@@ -103,6 +103,18 @@ n step -> n moved right
 n step -> n moved prune
 n step -> n moved sweep
 n finish -> n vacuumed rows 0 orphans 0 ranges 0",
+    ),
+    (
+        "a_table_without_index_is_vacuumed_by_its_blocks_alone",
+        "table t(a int8) rows_per_page 2",
+        "m start vacuum t -> m started
+m step -> m vacuumed rows 0 orphans 0 ranges 0
+s1 begin -> s1 begun 1
+s1 insert t 5 -> s1 inserted 1.0
+s1 rollback -> s1 rolled back
+m start vacuum t -> m started
+m step -> m moved right
+m step -> m vacuumed rows 1 orphans 0 ranges 0",
     ),
     (
         "work_leaves_its_request_where_it_waits",
