@@ -1,17 +1,10 @@
 -- the summaries of a table's indexes, one after the other
 use Rattle.std.proofs.Common.{◌≡◌, ◌≢◌, ℕ, suc, ◌+◌, ◌<◌, ◌==◌, Bool, true, List, [], ◌∷◌, ◌++◌, cond, drop, drop-cons, get_or, length, map, refl, sym, ap, subst, ◌∙◌, arith, append_assoc}
-use Rattle.std.specs.Prelude.{All}
 use Rattle.std.proofs.lemmas.Bool.{eq-eqb, ne_eqb}
 use Rattle.std.proofs.lemmas.List.{map-append}
-use Rattle.std.proofs.lemmas.List.Elements.{All-from_recursion, recursion_from_All}
-use Rattle.core.proofs.slice.Lists.{all_by_recursion_push}
 use Rattle.block_model.specs.declared.schema.Index.{Index}
 use Rattle.brin_summarise.specs.Summarises.{SummariseState}
 use Rattle.index_steps.specs.ShownTable.{numbers_from}
-
--- one more at the end
-pub all_more : (P : SummariseState → Type 0) (summaries : List SummariseState) (one : SummariseState) → All P summaries → P one → All P (summaries ++ one ∷ [])
-all_more P summaries one all is = All-from_recursion P (summaries ++ one ∷ []) (all_by_recursion_push P summaries one (recursion_from_All P summaries all) is)
 
 abbrev pub numbers_of : List SummariseState → List ℕ
 numbers_of summaries = map (λ (a : SummariseState). a.index) summaries

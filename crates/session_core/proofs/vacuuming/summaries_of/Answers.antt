@@ -1,6 +1,7 @@
 use Rattle.std.proofs.Common.{◌≡◌, ℕ, ◌+◌, ◌<◌, ◌≤◌, ◌++◌, List, [], ◌∷◌, Vec, Global, drop, get_or, length, map, sym, ap, subst, ◌∙◌}
 use Rattle.std.specs.Prelude.{All}
 use Rattle.std.proofs.lemmas.List.{append-nil, drop_all}
+use Rattle.std.proofs.lemmas.List.Elements.{All-push}
 use Rattle.block_model.specs.declared.schema.Index.{Index}
 use Rattle.block_model.specs.declared.schema.Schema.{Schema}
 use Rattle.brin_summarise.specs.declared.course.Standing.TheVariants as standings
@@ -8,7 +9,7 @@ use Rattle.brin_summarise.specs.declared.wish.Wish.TheVariants as wishes
 use Rattle.brin_summarise.specs.Summarises.{IsSummariseOf, SummariseState}
 use Rattle.index_steps.specs.ShownTable.{numbers_from}
 use Rattle.brin_vacuum.proofs.Onward.{indexes_are}
-use Rattle.session_core.proofs.Summaries.{AreSoFar, all_more, so_far_more, so_far_skipped}
+use Rattle.session_core.proofs.Summaries.{AreSoFar, so_far_more, so_far_skipped}
 use Rattle.session_core.proofs.vacuuming.summaries_of.Goals.{then-index-table+in_ok-summary+in_ok-push, else-index-table}
 use Rattle.session_core.proofs.vacuuming.summaries_of.Goals as goal
 
@@ -40,9 +41,9 @@ indexes-preserved c =
             so_far = subst (AreSoFar c.args.table (c.indexes.number + 1) (c.indexes.index-index + 1) layout.schema.indexes) (sym now)
                 (so_far_more c.args.table c.indexes.number c.indexes.index-index layout.schema.indexes c.index-item.result within is c.indexes.summaries.items one w.if-index-table.true w.in_ok-summary.ensures.index c.indexes.invariant.so_far);
             of = subst (All (λ (a : SummariseState). IsSummariseOf layout a × (a.wish ≡ wishes.Complete))) (sym now)
-                (all_more (λ (a : SummariseState). IsSummariseOf layout a × (a.wish ≡ wishes.Complete)) c.indexes.summaries.items one c.indexes.invariant.of (w.in_ok-summary.ensures.of, w.in_ok-summary.ensures.wish));
+                (All-push (λ (a : SummariseState). IsSummariseOf layout a × (a.wish ≡ wishes.Complete)) c.indexes.summaries.items one c.indexes.invariant.of (w.in_ok-summary.ensures.of, w.in_ok-summary.ensures.wish));
             new = subst (All (λ (a : SummariseState). a.standing ≡ standings.Begins)) (sym now)
-                (all_more (λ (a : SummariseState). a.standing ≡ standings.Begins) c.indexes.summaries.items one c.indexes.invariant.new w.in_ok-summary.ensures.begins);
+                (All-push (λ (a : SummariseState). a.standing ≡ standings.Begins) c.indexes.summaries.items one c.indexes.invariant.new w.in_ok-summary.ensures.begins);
           }
       | else-index-table w ↦
           let now : c.if-index-table.summaries ≡ c.indexes.summaries = w.summaries-is in
