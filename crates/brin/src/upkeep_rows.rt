@@ -1,6 +1,6 @@
 //! Scripts of vacuum, and of the summaries that inserts ask for.
 
-use script_rows::{Script, check, check_scripts, parted};
+use script_rows::{Script, check, check_scripts, parted, written};
 use std::string::String;
 use std::test::Fail;
 
@@ -162,4 +162,47 @@ fn a_full_queue_drops_a_request(rt: HostRuntime) -> Result<(), Fail> {
         script.as_slice(),
         output.as_slice(),
     )
+}
+
+/// What comes behind 2,040 rows of a page each: the map of the index gets a second page, whose block has tuples. They move, and an insert that
+/// has copied one of them waits for the page.
+const GROWTH: &str = "
+s1 commit -> s1 committed
+m summarize i -> m summarized 1020
+s1 begin -> s1 begun 2
+s1 insert t 2040 -> s1 inserted 2.0
+s1 delete t where a = 0 -> s1 deleted 1
+s1 commit -> s1 committed
+m vacuum t -> m vacuumed rows 1 orphans 0 ranges 0
+m start summarize i 2040 -> m started
+m step -> m moved right
+m step -> m moved map
+m step -> m moved flag
+m step -> m moved put
+s1 begin -> s1 begun 3
+s1 start insert t -7 -> s1 started
+s1 step -> s1 moved row
+s1 step -> s1 moved map
+s1 step -> s1 moved copy
+s1 step -> s1 error 11 page i 2 m
+m finish -> m summarized 1
+s1 step -> s1 moved again
+s1 finish -> s1 inserted 3.0
+s1 commit -> s1 committed
+s1 explain t where a = -7 -> s1 blocks 0-1";
+
+#[test]
+fn a_map_grows_over_a_full_page(rt: HostRuntime) -> Result<(), Fail> {
+    let alloc = rt.alloc();
+    let mut lines = String::from_str(alloc, "s1 begin -> s1 begun 1")?;
+    for n in 0..2040 {
+        lines.push_str(&format!(in alloc; "\ns1 insert t {n} -> s1 inserted 1.{n}")?)?;
+    }
+    lines.push_str(GROWTH)?;
+    let words =
+        "run|--heap-blocks|2100|--index-blocks|16|--status-blocks|1|--log-pages|16|table t(a int8) rows_per_page 1|index i on t(a minmax) pages_per_range 2";
+    let (script, output) = parted(alloc, lines.as_str())?;
+    let (status, sink) = written(alloc, words, script, 65536)?;
+    assert!(rt; status == 0 && sink.bytes() == output.as_slice());
+    Ok(())
 }
