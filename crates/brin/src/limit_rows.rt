@@ -1,13 +1,32 @@
 //! Limits that are met, and streams that fail.
 
-use script_rows::{Faults, NO_FAULTS, Row, Script, check, check_scripts, holds, written};
+use crate::row_checks::{check, check_scripts};
+use script_rows::{Faults, NO_FAULTS, Row, Script, holds, written};
 use std::test::Fail;
 
 /// The words of the first script.
 const WORDS: &str = "run|table t(a int8)";
 
 /// Tables without a free slot.
-const FULL_TABLES: [Script; 3] = [
+const FULL_TABLES: [Script; 4] = [
+    (
+        "full_heap_is_refused_then_vacuumed",
+        "--heap-blocks|1|table t(a int8) rows_per_page 2|index i on t(a minmax) pages_per_range 1",
+        "s1 begin -> s1 begun 1
+s1 insert t 1 -> s1 inserted 1.0
+s1 insert t 2 -> s1 inserted 1.1
+s1 commit -> s1 committed
+s1 begin -> s1 begun 2
+s1 insert t 3 -> s1 error 8 t 2
+s1 rollback -> s1 rolled back
+s1 begin -> s1 begun 3
+s1 delete t where a = 1 -> s1 deleted 1
+s1 commit -> s1 committed
+m vacuum t -> m vacuumed rows 1 orphans 0 ranges 1
+s1 begin -> s1 begun 4
+s1 insert t 6 -> s1 inserted 4.0
+s1 commit -> s1 committed",
+    ),
     (
         "a_full_table_is_named_with_all_its_slots",
         "--heap-blocks|2|table t(a int8) rows_per_page 1|table u(a int8) rows_per_page 2|index i on u(a minmax) pages_per_range 1",

@@ -1,6 +1,7 @@
 //! Scripts of whole lines.
 
-use script_rows::{Script, check_scripts};
+use crate::row_checks::check_scripts;
+use script_rows::Script;
 use std::test::Fail;
 
 /// The first words of a small store.

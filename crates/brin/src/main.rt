@@ -12,6 +12,8 @@ mod limit_rows;
 #[cfg(test)]
 mod line_rows;
 #[cfg(test)]
+mod row_checks;
+#[cfg(test)]
 mod step_rows;
 #[cfg(test)]
 mod upkeep_rows;

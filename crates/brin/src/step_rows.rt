@@ -1,6 +1,7 @@
 //! Scripts whose statements are started, and stepped beside others.
 
-use script_rows::{Script, check_scripts};
+use crate::row_checks::check_scripts;
+use script_rows::Script;
 use std::test::Fail;
 
 /// The first words of a small store: an index has a metapage, a page of its map and two of tuples.

@@ -1,14 +1,12 @@
 //! Scripts of vacuum, and of the summaries that inserts ask for.
 
-use script_rows::{Script, check, check_scripts, parted, written};
+use crate::row_checks::{check, check_scripts};
+use script_rows::{Script, parted, written};
 use std::string::String;
 use std::test::Fail;
 
 /// The first words of a small store.
 const SMALL: &str = "run|--heap-blocks|8|--index-blocks|4|--status-blocks|1|--log-pages|16";
-
-/// The same with a heap of one block.
-const ONE_BLOCK: &str = "run|--heap-blocks|1|--index-blocks|4|--status-blocks|1|--log-pages|16";
 
 /// Pages of two rows, and ranges of one page.
 const PAIRS: &str = "table t(a int8) rows_per_page 2|index i on t(a minmax) pages_per_range 1";
@@ -16,26 +14,6 @@ const PAIRS: &str = "table t(a int8) rows_per_page 2|index i on t(a minmax) page
 /// The same, whose inserts ask for summaries.
 const ASKING: &str =
     "table t(a int8) rows_per_page 2|index i on t(a minmax) pages_per_range 1 autosummarize";
-
-/// A block is full until a vacuum drops its dead row.
-const FULL_HEAP: [Script; 1] = [(
-    "full_heap_is_refused_then_vacuumed",
-    PAIRS,
-    "s1 begin -> s1 begun 1
-s1 insert t 1 -> s1 inserted 1.0
-s1 insert t 2 -> s1 inserted 1.1
-s1 commit -> s1 committed
-s1 begin -> s1 begun 2
-s1 insert t 3 -> s1 error 8 t 2
-s1 rollback -> s1 rolled back
-s1 begin -> s1 begun 3
-s1 delete t where a = 1 -> s1 deleted 1
-s1 commit -> s1 committed
-m vacuum t -> m vacuumed rows 1 orphans 0 ranges 1
-s1 begin -> s1 begun 4
-s1 insert t 6 -> s1 inserted 4.0
-s1 commit -> s1 committed",
-)];
 
 /// Vacuums, and work.
 const UPKEEP: [Script; 6] = [
@@ -132,11 +110,6 @@ o work -> o worked i 0 1
 n finish -> n worked none",
     ),
 ];
-
-#[test]
-fn a_full_heap_has_room_behind_a_vacuum(rt: HostRuntime) -> Result<(), Fail> {
-    check_scripts(&rt, ONE_BLOCK, &FULL_HEAP)
-}
 
 #[test]
 fn vacuums_and_work_keep_indexes(rt: HostRuntime) -> Result<(), Fail> {

@@ -1,7 +1,8 @@
 //! Command lines: those that ask for a run, and those that ask for nothing.
 
+use crate::row_checks::check_words;
 use block_model::Words;
-use script_rows::{Row, check_words, ran};
+use script_rows::{Row, ran};
 use std::test::Fail;
 
 /// Command lines that ask for a run, one a line.
