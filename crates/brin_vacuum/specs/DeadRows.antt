@@ -13,7 +13,7 @@ use Rattle.heap_rows.specs.RowPlaces.{slot_at}
 use Rattle.heap_rows.specs.declared.rows.Stored.{Stored}
 use Rattle.heap_rows.specs.StoredRows.{row_of}
 
--- the snapshots of all open transactions, and how each transaction stands; the number 0 is none's, and stays unused
+-- the snapshots by which rows are judged, and how each transaction stands; the number 0 is none's, and stays unused
 pub record Living : Type 0 where
   pub live : List Snapshot
   pub status : ℕ → Status

@@ -17,7 +17,7 @@ use page_store::StoreError;
 use snapshot_core::{Snapshot, Status, dead_to_all};
 use tx_table::TxTable;
 
-/// `dead` becomes the slots of the rows that are dead to all, in order; `live` are the snapshots of all open transactions. Takes no memory.
+/// `dead` becomes the slots of the rows that are dead to all, in order; `live` are the snapshots by which a row is judged. Takes no memory.
 pub(crate) fn list_dead<D: Disk + Drop>(
     pages: &mut PageStore<D>,
     tx: &TxTable,

@@ -1,12 +1,12 @@
--- Where a script stands at its first line: the tables are the layout's, and nobody has anything in hand.
+-- Where a script stands at its first line, in a store that is new or was opened: the tables are the layout's, and nobody has anything in hand.
 use Rattle.std.specs.Prelude.{◌≡◌, ℕ, ◌<◌, [], length, slice_get, None, Some}
 use Rattle.block_model.specs.declared.schema.Table.{Table}
-use Rattle.block_model.specs.DatabaseState.{initial_state}
+use Rattle.block_model.specs.DatabaseState.{DatabaseState, initial_state}
 use Rattle.store_layout.specs.DiskLayout.{DiskLayout}
 use Rattle.table_coverage.specs.Accounts.{no_account}
 use Rattle.table_coverage.specs.Table as tables
 use Rattle.table_coverage.specs.Table.{TableState}
-use Rattle.table_coverage.specs.TableCovered.{IsNewTable}
+use Rattle.table_coverage.specs.TableCovered.{IsNewTable, IsTableAtRest, IsTableCovered}
 use Rattle.index_steps.specs.IndexTuples.{contents_of, index_at, shape_of}
 use Rattle.index_steps.specs.ShownTable.{indexes_of}
 use Rattle.line_texts.specs.Place.{Place}
@@ -36,3 +36,16 @@ pub record IsStart (layout : DiskLayout) (p : Place) : Type 0 where
   pub laid_out : (table : ℕ) → table < length layout.schema.tables → IsLaidOut layout table (p.tables table)
   pub new : (table : ℕ) → table < length layout.schema.tables → IsNewTable (p.tables table)
   pub empty : (table : ℕ) → table < length layout.schema.tables → (p.tables table).blocks ≡ 0
+
+-- a store that was opened shows this database; each table is as a run may have left it, with nobody at work in it
+pub record IsOpening (layout : DiskLayout) (opening : DatabaseState) (p : Place) : Type 0 where
+  pub layout_is : p.layout ≡ layout
+  pub opening_is : p.opening ≡ opening
+  pub names : p.names ≡ []
+  pub journal : p.journal ≡ []
+  pub queue : p.queue ≡ []
+  pub hands : (n : ℕ) → p.hands n ≡ None
+  pub accounts : (n : ℕ) → p.accounts n ≡ no_account
+  pub laid_out : (table : ℕ) → table < length layout.schema.tables → IsLaidOut layout table (p.tables table)
+  pub rest : (table : ℕ) → table < length layout.schema.tables → IsTableAtRest (p.tables table)
+  pub covered : (table : ℕ) → table < length layout.schema.tables → IsTableCovered (p.tables table)

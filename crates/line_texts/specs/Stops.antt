@@ -9,7 +9,7 @@ use Rattle.query_words.specs.declared.line.Order.{Order}
 use Rattle.query_words.specs.declared.line.Order.TheVariants as orders
 use Rattle.query_words.specs.Lines.{line_of}
 use Rattle.script_run.specs.declared.engine.AnswerFault.{AnswerFault}
-use Rattle.script_run.specs.declared.engine.AnswerFault.TheVariants.{Memory, Full}
+use Rattle.script_run.specs.declared.engine.AnswerFault.TheVariants.{Memory, Full, Disk, Damaged}
 use Rattle.statements.specs.declared.statement.Statement.{Statement}
 use Rattle.statements.specs.SessionNumbers.{session_number, is_past_sessions}
 use Rattle.line_texts.specs.Place.{Place}
@@ -33,8 +33,15 @@ pub data LineComesTo (p : Place) : Result Line LineFault → (n : ℕ) → Place
   Begun : (name : List ℕ) (order : Order) (q : Place) → is_past_sessions p.names name ≡ false → ComesTo (named p name) (session_number p.names name) order q
       → LineComesTo p (Ok (lines.Say name order)) (session_number p.names name) q
 
+-- the disk is the fault, or what stood on it
+abbrev pub IsOfDisk : AnswerFault → Type 0
+IsOfDisk Disk = Unit
+IsOfDisk Damaged = Unit
+IsOfDisk Memory = ⊥
+IsOfDisk Full = ⊥
+
 -- For want of memory nothing is done, or the session is made, or some steps are made, or all that the line says, and its text is lost; or the
--- journal lacks room for the next step.
+-- journal lacks room for the next step. Where the disk fails some steps are made, before the one that it failed in.
 pub data IsLineStopped (schema : Schema) (p : Place) (line : List ℕ) : AnswerFault → Place → Type 0 where
   Undone : IsLineStopped schema p line Memory p
   Named : (name : List ℕ) (order : Order) → line_of schema line ≡ Ok (lines.Say name order) → is_past_sessions p.names name ≡ false
@@ -42,3 +49,4 @@ pub data IsLineStopped (schema : Schema) (p : Place) (line : List ℕ) : AnswerF
   Amidst : (n : ℕ) (q : Place) → LineComesTo p (line_of schema line) n q → IsLineStopped schema p line Memory q
   Unprinted : (text : List ℕ) (q : Place) → IsLineText schema p line text q → IsLineStopped schema p line Memory q
   PastRoom : (n : ℕ) (q : Place) → LineComesTo p (line_of schema line) n q → LacksRoom q n → IsLineStopped schema p line Full q
+  OffDisk : (n : ℕ) (q : Place) (fault : AnswerFault) → LineComesTo p (line_of schema line) n q → IsOfDisk fault → IsLineStopped schema p line fault q

@@ -15,6 +15,12 @@ pub enum AnswerFault {
     /// There is no room for what the line would have the engine keep.
     #[error("no room for what a line would keep")]
     Full,
+    /// The disk failed.
+    #[error("the disk failed")]
+    Disk,
+    /// What was read is damaged.
+    #[error("what was read is damaged")]
+    Damaged,
 }
 
 impl From<NoMemory> for AnswerFault {

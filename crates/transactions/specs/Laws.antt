@@ -34,7 +34,7 @@ use Rattle.tx_table.specs.TxState.{IsNext}
 use Rattle.transactions.specs.CountedRows.{counts}
 use Rattle.transactions.specs.FoundRows.{AreFound}
 use Rattle.transactions.specs.GivenStatuses.{given_status}
-use Rattle.transactions.specs.Sessions.{HaveTransactions}
+use Rattle.transactions.specs.Sessions.{HaveTransactions, committed_by}
 use Rattle.transactions.specs.ShowsDatabase.{DoesRequest, ShowsDatabase}
 use Rattle.transactions.specs.StoredRows.{MarksRowAt, PutsRow, StandsAt, StandsOnce, conflicts_with, row_of, sees_row}
 use Rattle.transactions.specs.TransactionsState.{TransactionsState, with_begun, with_failed, with_open, with_row_counted}
@@ -238,12 +238,13 @@ abbrev pub OpeningIsShown : Type 0
 OpeningIsShown = (layout : DiskLayout) (pages : PageMap) (t now : TransactionsState) (s : DatabaseState) (stored : List Status)
     → ShowsDatabase layout pages t s → HasStatuses layout pages stored → IsNext stored now.tx.next → IsOpened now → ShowsDatabase layout pages now (without_sessions s)
 
--- What a stop in the midst of a commit leaves, whose status may have been written or not: it isn't done, or all of it is.
+-- What a stop in the midst of a commit leaves, whose status may have been written or not: it isn't done, or all of it is. That of a transaction that
+-- has failed isn't done.
 abbrev pub CommitIsWhole : Type 0
 CommitIsWhole = (layout : DiskLayout) (old new : PageMap) (t : TransactionsState) (s : DatabaseState) (session : ℕ) (o : Open)
-    → ShowsDatabase layout old t s → transaction_of t.opens session ≡ Some o → o.failed ≡ false → t.tx.next ≤ number_limit layout
-    → HasPart layout old (o.t ∷ []) status.Committed new → AreStarted layout new
-    → ShowsDatabase layout new t s ⊎ DoesRequest layout new (with_open t session None) s (request_entry session 0 requests.Commit) model.Committed
+    → ShowsDatabase layout old t s → transaction_of t.opens session ≡ Some o → t.tx.next ≤ number_limit layout
+    → HasPart layout old (committed_by o) status.Committed new
+    → ShowsDatabase layout new t s ⊎ ((o.failed ≡ false) × DoesRequest layout new (with_open t session None) s (request_entry session 0 requests.Commit) model.Committed)
 
 -- pages on which no transaction has a status and no table has a started page show a new database
 abbrev pub NewIsShown : Type 0

@@ -27,7 +27,7 @@ before_then told old mid new kept first second =
 
 -- none of the list has the status yet
 pub part_none : (layout : DiskLayout) (old : PageMap) (list : List ℕ) (status : Status) → HasPart layout old list status old
-part_none layout old list status = record { statuses = λ statuses has. (0, has); others = λ place apart. refl }
+part_none layout old list status = record { statuses = λ statuses has. (0, has); others = λ place apart. refl; started = λ block was. was }
 
 -- a call that passes pages with a part of the list, and then a call that changes them
 pub part_then : {D : Type 0} (told : D → Told) (old mid new : View D) (list : List ℕ) (status : Status) → mid.layout ≡ old.layout → (Tells told old → HasPart old.layout old.pages list status mid.pages)
@@ -40,12 +40,12 @@ part_then told old mid new list status layout part first second =
 -- a first part of the list has the status in these pages
 pub part_made : {D : Type 0} (told : D → Told) (old mid : View D) (list : List ℕ) (n : ℕ) (status : Status) → LeavesRest told old mid → OfStatuses told old (λ statuses. HasStatuses old.layout mid.pages (with_all statuses (take n list) status))
     → Tells told old → HasPart old.layout old.pages list status mid.pages
-part_made told old mid list n status rest made tells = record { statuses = λ statuses has. (n, made tells statuses has); others = λ place apart. rest.pages tells place apart }
+part_made told old mid list n status rest made tells = record { statuses = λ statuses has. (n, made tells statuses has); others = λ place apart. rest.pages tells place apart; started = λ block was. rest.started tells block was }
 
 -- all of the list has it
 pub part_all : {D : Type 0} (told : D → Told) (old mid : View D) (list : List ℕ) (status : Status) → LeavesRest told old mid → OfStatuses told old (λ statuses. HasStatuses old.layout mid.pages (with_all statuses list status)) → Tells told old
     → HasPart old.layout old.pages list status mid.pages
-part_all told old mid list status rest made tells = record { statuses = all_some told old mid list status made tells; others = λ place apart. rest.pages tells place apart }
+part_all told old mid list status rest made tells = record { statuses = all_some told old mid list status made tells; others = λ place apart. rest.pages tells place apart; started = λ block was. rest.started tells block was }
 
 -- a disk fault names no page
 pub unnamed : (layout : DiskLayout) (error : StoreError) → IsOfDisk error → NamesStatuses layout error
