@@ -11,7 +11,13 @@ use Rattle.tx_table.specs.Durable.{HasPart, IsBefore, IsDurable}
 use Rattle.tx_table.proofs.Parts.{passed_none}
 use Rattle.transactions.specs.Sessions.{committed_by}
 use Rattle.transactions.specs.TransactionsState.{TransactionsState}
+use Rattle.page_store.specs.declared.faults.StoreError.{StoreError}
+use Rattle.page_store.specs.declared.faults.StoreError.TheVariants as errors
+use Rattle.store_parts.specs.declared.faults.StoreFault.{StoreFault}
+use Rattle.store_parts.specs.declared.faults.StoreFault.TheVariants as stops
+use Rattle.store_parts.specs.declared.hand.Hand.{Hand}
 use Rattle.store_parts.specs.declared.hand.Stepped.TheVariants as stepped
+use Rattle.store_parts.specs.StoreFaults.{fault_of}
 use Rattle.store_transactions.specs.Stops.{IsSureThen, PassesCommit, PassesNothing}
 
 module _ {D : Type 0} (told : D → Told) (pages : View D) (stays : Survives told (λ pages. ⊥) pages pages) where
@@ -22,11 +28,24 @@ module _ {D : Type 0} (told : D → Told) (pages : View D) (stays : Survives tol
   pub passes_no_commit : (t : TransactionsState) (n : ℕ) → PassesCommit told t n pages pages
   passes_no_commit t n o is = passed_none told (HasPart pages.layout pages.pages (committed_by o) Committed) pages pages stays
 
--- a commit that is told is one that was made sure
-sure_by : {D : Type 0} (told : D → Told) (new : View D) (committed : Bool) → (committed ≡ true → IsDurable told new) → IsSureThen told new (stepped.Done (if committed then replies.Committed else replies.RolledBack))
-sure_by told new true sure = sure refl
-sure_by told new false sure = tt
+  -- where the journal lacks room nothing is done
+  pub sure_unmade : (entries : ℕ) (hand : Hand) (fault : StoreFault) → fault ≡ stops.Spent entries → IsSureThen told pages pages (stepped.Undone fault hand)
+  sure_unmade entries hand fault is = subst (λ (f : StoreFault). IsSureThen told pages pages (stepped.Undone f hand)) (sym is) passes_nothing
 
-pub sure_then : {D : Type 0} (told : D → Told) (new : View D) (committed : Bool) (reply : Reply) → reply ≡ (if committed then replies.Committed else replies.RolledBack) → (committed ≡ true → IsDurable told new)
-    → IsSureThen told new (stepped.Done reply)
-sure_then told new committed reply is sure = subst (λ (r : Reply). IsSureThen told new (stepped.Done r)) (sym is) (sure_by told new committed sure)
+-- a commit that is told is one that was made sure
+sure_by : {D : Type 0} (told : D → Told) (old new : View D) (committed : Bool) → (committed ≡ true → IsDurable told new) → IsSureThen told old new (stepped.Done (if committed then replies.Committed else replies.RolledBack))
+sure_by told old new true sure = sure refl
+sure_by told old new false sure = tt
+
+pub sure_then : {D : Type 0} (told : D → Told) (old new : View D) (committed : Bool) (reply : Reply) → reply ≡ (if committed then replies.Committed else replies.RolledBack) → (committed ≡ true → IsDurable told new)
+    → IsSureThen told old new (stepped.Done reply)
+sure_then told old new committed reply is sure = subst (λ (r : Reply). IsSureThen told old new (stepped.Done r)) (sym is) (sure_by told old new committed sure)
+
+-- a refusal of the pages is no want of room
+sure_of : {D : Type 0} (told : D → Told) (old new : View D) (error : StoreError) (hand : Hand) → IsSureThen told old new (stepped.Undone (fault_of error) hand)
+sure_of told old new errors.Disk hand = tt
+sure_of told old new (errors.Reopen faults) hand = tt
+sure_of told old new (errors.Damaged at) hand = tt
+
+pub sure_refused : {D : Type 0} (told : D → Told) (old new : View D) (error : StoreError) (hand : Hand) (fault : StoreFault) → fault ≡ fault_of error → IsSureThen told old new (stepped.Undone fault hand)
+sure_refused told old new error hand fault is = subst (λ (f : StoreFault). IsSureThen told old new (stepped.Undone f hand)) (sym is) (sure_of told old new error hand)

@@ -8,6 +8,7 @@ use Rattle.snapshot_core.specs.declared.statuses.Status.TheVariants.{Committed}
 use Rattle.tx_table.specs.Durable.{HasPart, IsBefore, IsDurable}
 use Rattle.transactions.specs.Sessions.{committed_by}
 use Rattle.transactions.specs.TransactionsState.{OfOpen, TransactionsState}
+use Rattle.store_parts.specs.declared.faults.StoreFault.TheVariants as stops
 use Rattle.store_parts.specs.declared.hand.Stepped.{Stepped}
 use Rattle.store_parts.specs.declared.hand.Stepped.TheVariants as stepped
 
@@ -19,7 +20,8 @@ PassesNothing told old new = Survives told (IsBefore old) old new
 abbrev pub PassesCommit : {D : Type 0} → (D → Told) → TransactionsState → (n : ℕ) → (old new : View D) → Type 0
 PassesCommit told t n old new = OfOpen t n (λ o. Survives told (HasPart old.layout old.pages (committed_by o) Committed) old new)
 
--- a commit is told only when it is sure
-abbrev pub IsSureThen : {D : Type 0} → (D → Told) → View D → Stepped → Type 0
-IsSureThen told new (stepped.Done replies.Committed) = IsDurable told new
-IsSureThen told new answer = Unit {0}
+-- a commit is told only when it is sure, and none is begun where the journal lacks room for it
+abbrev pub IsSureThen : {D : Type 0} → (D → Told) → (old new : View D) → Stepped → Type 0
+IsSureThen told old new (stepped.Done replies.Committed) = IsDurable told new
+IsSureThen told old new (stepped.Undone (stops.Spent entries) hand) = PassesNothing told old new
+IsSureThen told old new answer = Unit {0}

@@ -49,7 +49,7 @@ pub fn commit<D: Disk + Drop>(parts: &mut Parts<D>, session: u32) -> Stepped
     ensures stays { StaysUndone D.told parts.old parts.new session Hand.Commits result }
     ensures cause { HasCause D.told parts.old.pages parts.new.pages result }
     ensures survives { PassesCommit D.told parts.old.transactions session parts.old.pages parts.new.pages }
-    ensures sure { IsSureThen D.told parts.new.pages result }
+    ensures sure { IsSureThen D.told parts.old.pages parts.new.pages result }
 {
     match parts.pages.ready() {
         Ok(()) => {}
@@ -77,7 +77,7 @@ fn no_commit<D: Disk + Drop>(parts: &Parts<D>, session: u32) -> Stepped
     ensures stays { StaysUndone D.told parts.now parts.now session Hand.Commits result }
     ensures cause { HasCause D.told parts.now.pages parts.now.pages result }
     ensures survives { PassesCommit D.told parts.now.transactions session parts.now.pages parts.now.pages }
-    ensures sure { IsSureThen D.told parts.now.pages result }
+    ensures sure { IsSureThen D.told parts.now.pages parts.now.pages result }
 {
     laws_of_transactions();
     parts.pages.known();
@@ -99,7 +99,7 @@ fn commit_now<D: Disk + Drop>(parts: &mut Parts<D>, session: u32) -> Stepped
     ensures stays { StaysUndone D.told parts.old parts.new session Hand.Commits result }
     ensures cause { HasCause D.told parts.old.pages parts.new.pages result }
     ensures survives { PassesCommit D.told parts.old.transactions session parts.old.pages parts.new.pages }
-    ensures sure { IsSureThen D.told parts.new.pages result }
+    ensures sure { IsSureThen D.told parts.old.pages parts.new.pages result }
 {
     laws_of_transactions();
     let unneeded = entries_unneeded(&parts.transactions, session);

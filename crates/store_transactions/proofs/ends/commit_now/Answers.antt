@@ -6,7 +6,7 @@ use Rattle.store_parts.specs.declared.hand.Stepped.TheVariants as stepped
 use Rattle.store_parts.specs.declared.parts.Parts.{Parts}
 use Rattle.store_parts.specs.UndoneLaws.{StepsSo}
 use Rattle.store_parts.proofs.Undone.{fit_of_parts}
-use Rattle.store_transactions.proofs.Stopping.{sure_then}
+use Rattle.store_transactions.proofs.Stopping.{sure_refused, sure_then}
 use Rattle.store_transactions.proofs.Ending.{commits}
 use Rattle.store_transactions.proofs.Undoing.{refused_by}
 use Rattle.store_transactions.proofs.ends.commit_now.Goals as goal
@@ -26,7 +26,7 @@ returns-in-Ok g c =
     (commits told (record { sessions = laws.sessions; unseen = laws.end_unseen; committed = laws.committed; rolled_back = laws.rolled_back }) old c.commit.new.pages c.commit.new.self c.enter.new.self c.release.new.self
     c.args.session c.entries_unneeded-unneeded.result c.requires.ready made.outcome.1 c.commit.ensures.over c.commit.ensures.rest made.ended c.requires.room c.entries_unneeded-unneeded.ensures c.enter.ensures.promised c.release.ensures.promised
     c.release.ensures.entries c.requires.fit c.in-Ok.committed (fit_of_parts told old c.args.session hands.Commits c.requires.fit).in_hand made.answer made.database made.statuses c.enter.ensures.entries) in
-    record { steps = r.steps; fit = r.fit; others = r.others; stays = r.stays; cause = r.cause; survives = c.commit.ensures.survives; sure = sure_then told c.commit.new.pages c.in-Ok.committed c.end_reply.result c.end_reply.ensures made.durable }
+    record { steps = r.steps; fit = r.fit; others = r.others; stays = r.stays; cause = r.cause; survives = c.commit.ensures.survives; sure = sure_then told old.pages c.commit.new.pages c.in-Ok.committed c.end_reply.result c.end_reply.ensures made.durable }
 
 pub returns-in-Err : goal.returns-in-Err
 returns-in-Err g c =
@@ -36,4 +36,4 @@ returns-in-Err g c =
     let r : StepsSo told old new c.args.session hands.Commits (stepped.Undone c.fault_of.result hands.Commits) =
     refused_by told old new c.args.session hands.Commits c.in-Err.error c.fault_of.result c.requires.fit c.commit.ensures.over c.commit.ensures.rest.leaves
     (record { transactions = c.in-Err.ensures.same; locks = refl; rights = refl; journal = refl; queue = refl; dropped = refl }) c.in-Err.ensures.outcome c.fault_of.ensures in
-    record { steps = r.steps; fit = r.fit; others = r.others; stays = r.stays; cause = r.cause; survives = c.commit.ensures.survives; sure = tt }
+    record { steps = r.steps; fit = r.fit; others = r.others; stays = r.stays; cause = r.cause; survives = c.commit.ensures.survives; sure = sure_refused told old.pages new.pages c.in-Err.error hands.Commits c.fault_of.result c.fault_of.ensures }
