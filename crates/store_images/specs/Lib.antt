@@ -1,0 +1,4 @@
+pub mod StoreImage
+pub mod Stops
+pub mod ImageLaws
+pub mod StopRule
