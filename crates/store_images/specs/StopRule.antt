@@ -37,7 +37,7 @@ HasTableOr p n pages = IsStoreImage p.layout pages (database_at p).table ⊎ (Is
 -- answered is in every one of them.
 pub record StopsWhole {D : Type 0} (told : D → Told) (old new : StoreState D) (p : Place) (n : ℕ) (answer : Result Step StoreFault) : Type 0 where
   pub stops : EachStop told old.pages new.pages (OpensWith p.layout (HasTableOr p n))
-  pub then : new.pages.failed ≡ None → (q : Place) → ShowsPlace new q → StepIs p n answer q → AllHaveTable told new.pages q
+  pub behind : new.pages.failed ≡ None → (q : Place) → ShowsPlace new q → StepIs p n answer q → AllHaveTable told new.pages q
 
 -- so it is of each step that stops so, whose store showed the place, where each image had its table
 abbrev pub StepStopsWhole : {D : Type 0} → (D → Told) → Type 0
