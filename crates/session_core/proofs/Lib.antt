@@ -8,3 +8,4 @@ pub mod New
 pub mod Stops
 pub mod Summaries
 pub mod Ending
+pub mod Reopening

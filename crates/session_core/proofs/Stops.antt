@@ -4,6 +4,7 @@ use Rattle.block_model.specs.declared.value.Value.{Value}
 use Rattle.disk_trait.specs.Told.{Told}
 use Rattle.page_store.specs.PageMap.{View}
 use Rattle.block_model.specs.declared.reply.Reply.TheVariants as replies
+use Rattle.store_parts.specs.declared.faults.StoreFault.TheVariants as stops
 use Rattle.store_parts.specs.declared.hand.Hand.{Hand}
 use Rattle.store_parts.specs.declared.hand.Hand.TheVariants as hands
 use Rattle.store_parts.specs.declared.hand.Stepped.{Stepped}
@@ -11,25 +12,28 @@ use Rattle.store_parts.specs.declared.hand.Stepped.TheVariants as stepped
 use Rattle.store_parts.specs.StepIs.{answer_of}
 use Rattle.store_transactions.specs.Stops.{IsSureThen}
 use Rattle.session_core.specs.Sessions.{IsNoPut}
-use Rattle.session_core.specs.Stops.{IsSureBehind}
+use Rattle.store_images.specs.Stops.{IsSureBehind}
 
-pub sure_behind : {D : Type 0} (told : D → Told) (new : View D) (answer : Stepped) → IsSureThen told new answer → IsSureBehind told new (answer_of answer)
-sure_behind told new (stepped.Moved point hand) sure = tt
-sure_behind told new (stepped.Blocked what holder hand) sure = tt
-sure_behind told new (stepped.Undone fault hand) sure = tt
-sure_behind told new (stepped.Done (replies.Begun t)) sure = tt
-sure_behind told new (stepped.Done (replies.Inserted id)) sure = tt
-sure_behind told new (stepped.Done (replies.Found rows)) sure = tt
-sure_behind told new (stepped.Done (replies.Deleted count)) sure = tt
-sure_behind told new (stepped.Done replies.Committed) sure = sure
-sure_behind told new (stepped.Done replies.RolledBack) sure = tt
-sure_behind told new (stepped.Done (replies.Kept blocks)) sure = tt
-sure_behind told new (stepped.Done (replies.Summarized count)) sure = tt
-sure_behind told new (stepped.Done (replies.Desummarized count)) sure = tt
-sure_behind told new (stepped.Done (replies.Vacuumed rows orphans ranges)) sure = tt
-sure_behind told new (stepped.Done (replies.Worked index range count)) sure = tt
-sure_behind told new (stepped.Done replies.Idle) sure = tt
-sure_behind told new (stepped.Done (replies.Refused refusal)) sure = tt
+pub sure_behind : {D : Type 0} (told : D → Told) (old new : View D) (answer : Stepped) → IsSureThen told old new answer → IsSureBehind told old new (answer_of answer)
+sure_behind told old new (stepped.Moved point hand) sure = tt
+sure_behind told old new (stepped.Blocked what holder hand) sure = tt
+sure_behind told old new (stepped.Undone (stops.Spent entries) hand) sure = sure
+sure_behind told old new (stepped.Undone stops.Disk hand) sure = tt
+sure_behind told old new (stepped.Undone (stops.Reopen faults) hand) sure = tt
+sure_behind told old new (stepped.Undone (stops.Damaged at) hand) sure = tt
+sure_behind told old new (stepped.Done (replies.Begun t)) sure = tt
+sure_behind told old new (stepped.Done (replies.Inserted id)) sure = tt
+sure_behind told old new (stepped.Done (replies.Found rows)) sure = tt
+sure_behind told old new (stepped.Done (replies.Deleted count)) sure = tt
+sure_behind told old new (stepped.Done replies.Committed) sure = sure
+sure_behind told old new (stepped.Done replies.RolledBack) sure = tt
+sure_behind told old new (stepped.Done (replies.Kept blocks)) sure = tt
+sure_behind told old new (stepped.Done (replies.Summarized count)) sure = tt
+sure_behind told old new (stepped.Done (replies.Desummarized count)) sure = tt
+sure_behind told old new (stepped.Done (replies.Vacuumed rows orphans ranges)) sure = tt
+sure_behind told old new (stepped.Done (replies.Worked index range count)) sure = tt
+sure_behind told old new (stepped.Done replies.Idle) sure = tt
+sure_behind told old new (stepped.Done (replies.Refused refusal)) sure = tt
 
 pub no_put : (hand : Hand) → ((table : ℕ) (values : List Value) → hand ≡ hands.Puts table values → ⊥) → IsNoPut hand
 no_put (hands.Begins numbers) not = tt

@@ -4,5 +4,4 @@ pub mod StoreKept
 pub mod SessionLaws
 pub mod Submitting
 pub mod Sessions
-pub mod Stops
 pub mod Ending

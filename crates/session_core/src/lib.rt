@@ -15,4 +15,5 @@ mod vacuuming;
 
 pub use faults::SessionFault;
 pub use store::Store;
+pub use store_opening::StartFault;
 pub use store_parts::{Step, StoreFault};

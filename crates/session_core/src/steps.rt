@@ -9,7 +9,7 @@ ghost use Rattle.store_parts.specs.Stepping.{IsFit, IsShown};
 ghost use Rattle.store_parts.specs.UndoneLaws.{StepsSo};
 ghost use Rattle.store_inserts.specs.Settling.{SettlesSo};
 ghost use Rattle.session_core.specs.Sessions.{IsNoPut};
-ghost use Rattle.session_core.specs.Stops.{StopsSo};
+ghost use Rattle.store_images.specs.Stops.{StopsSo};
 
 use brin_insert::Insert;
 use disk_trait::Disk;

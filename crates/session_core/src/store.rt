@@ -1,9 +1,14 @@
 //! The store of sessions.
 
-ghost use Rattle.std.specs.Prelude.{◌≡◌, ◌<◌, [], length, slice_index_or, None, IfOk, IfErr, IfSome, OnOk, OnErr, IsSome};
+ghost use Rattle.std.specs.Prelude.{◌≡◌, ◌<◌, [], length, slice_index_or, None, Err, IfOk, IfErr, IfSome, IsTrue, MatchResult, OnOk, OnErr, IsSome};
 ghost use Rattle.std.specs.Option.{is_some};
 ghost use Rattle.statements.specs.StatementFits.{IsStatementFor};
+ghost use Rattle.store_opening.specs.Opens.{OpensAs};
+ghost use Rattle.store_opening.specs.StartCauses.{HasStore};
+ghost use Rattle.store_opening.specs.Untouched.{IsUntouched};
+ghost use Rattle.logged_pages.specs.Refused.{IsRefused};
 ghost use Rattle.page_store.specs.Keeps.{Leaves, Tells};
+ghost use Rattle.fresh_store.specs.FreshPages.{fresh_pages};
 ghost use Rattle.engine_pages.specs.Kinds.{LeavesNothing};
 ghost use Rattle.line_texts.specs.LineTexts.{Submits, dropped_at, named};
 ghost use Rattle.line_texts.specs.Place.{Place};
@@ -12,10 +17,12 @@ ghost use Rattle.store_parts.specs.ShowsPlace.{ShowsPlace};
 ghost use Rattle.store_parts.specs.StepAnswers.{HasFaultCause, StaysReady};
 ghost use Rattle.store_parts.specs.StepIs.{LeadsOn, StepIs};
 ghost use Rattle.store_parts.specs.StoreStates.{hand_at};
-ghost use Rattle.store_starts.specs.OpenedParts.{NeverFails};
+ghost use Rattle.store_starts.specs.OpenedParts.{NeverFails, ShowsStart};
+ghost use Rattle.store_starts.specs.Started.{HoldsImage, ImagesStay, OpensTable};
+ghost use Rattle.store_images.specs.StopRule.{AllHaveTable, StopsWhole};
 ghost use Rattle.session_core.specs.Ending.{EndsSoon};
 ghost use Rattle.session_core.specs.Sessions.{HasSession, IsInHandThen, IsSameStatement, LeavesTheRest, NamesASession, StaysStill, refusal_in};
-ghost use Rattle.session_core.specs.Stops.{StopsSo};
+ghost use Rattle.store_images.specs.Stops.{StopsSo};
 ghost use Rattle.session_core.specs.Submitting.{IsJudged, IsTakenUp, refusal_here};
 
 use crate::faults::SessionFault;
@@ -31,8 +38,10 @@ use std::alloc::Global;
 use std::marker::Model;
 use step_bounds::shown_tables_are_bounded;
 use store_layout::Layout;
-use store_parts::{Parts, Step, StoreFault, few_locks_are_held};
-use store_starts::plain_parts;
+use store_images::a_step_stops_whole;
+use store_opening::StartFault;
+use store_parts::{Parts, Step, StoreFault, fault_of, few_locks_are_held};
+use store_starts::{plain_parts, start_parts};
 
 /// A store of sessions over pages on a disk.
 #[derive(Drop)]
@@ -69,6 +78,33 @@ impl<D: Disk + Drop> Store<D> {
         ensures fresh { IfOk result (λ store. (store.names ≡ []) × (store.hands ≡ []) × (store.journal.entries ≡ [])) }
     {
         let parts = plain_parts(alloc, disk, layout)?;
+        let sessions = Vec::new(alloc);
+        Ok(Store { parts, sessions })
+    }
+
+    /// Opens the store on the disk: it replays the log, reads the statuses, and has no sessions. A transaction that was under way at a stop counts as rolled
+    /// back. `NoStore` exactly where the control page isn't a store's, or the disk hasn't its size; `Damaged` where a frame or a page that was read isn't of its
+    /// form, or breaks the order of pages, at that byte of the disk; `Disk` where the disk failed in this call; `Memory` is want of memory. The disk comes back
+    /// with each. A disk that tells its contents holds bytes that a stop of a store left, or ones that don't open; bytes that anybody else wrote are for a disk
+    /// that doesn't tell them, as `FileDisk`: each call is safe then.
+    pub fn start(alloc: Global, disk: D) -> Result<Store<D>, (StartFault, D)>
+        requires image { HoldsImage (D.told disk) }
+        ensures there { IfOk result (λ store. IsTrue (D.told disk).tells_contents → HasStore store.pages.layout (D.told disk).size (D.told disk).contents) }
+        ensures pages { IfOk result (λ store. IsTrue (D.told disk).tells_contents → OpensAs store.pages.layout (D.told disk).contents store.pages.pages) }
+        ensures tells { IfOk result (λ store. (D.told store.pages.disk).tells_contents ≡ (D.told disk).tells_contents) }
+        // The table that the pages have, whatever statements a stop came amid.
+        ensures opens { IfOk result (OpensTable D.told) }
+        // Of a new store, whose tables are new as well.
+        ensures starts { IfOk result (λ store. Tells D.told store.pages → store.pages.pages ≡ fresh_pages store.pages.layout → ShowsStart store.pages.layout store) }
+        ensures ready { IfOk result (λ store. store.pages.failed ≡ None) }
+        ensures fresh { IfOk result (λ store. (store.names ≡ []) × (store.hands ≡ []) × (store.journal.entries ≡ [])) }
+        // At every moment, also of a call that refuses.
+        ensures any_moment { MatchResult result (λ store. ImagesStay (D.told disk) (D.told store.pages.disk)) (λ e. ImagesStay (D.told disk) (D.told e.1)) }
+        // Where no store is there, nothing was written.
+        ensures untouched { IfErr result (λ e. e.0 ≡ StartFault.NoStore → IsUntouched (D.told disk) (D.told e.1)) }
+        ensures refused { IfErr result (λ e. IsRefused (D.told disk) (D.told e.1) e.0) }
+    {
+        let parts = start_parts(alloc, disk)?;
         let sessions = Vec::new(alloc);
         Ok(Store { parts, sessions })
     }
@@ -147,9 +183,38 @@ impl<D: Disk + Drop> Store<D> {
     }
 
     /// Makes one step of the statement that the session has in hand. `Spent` comes exactly where the requests that it would enter don't
-    /// all fit into the journal; nothing is changed then, nor where it is blocked. Where a page is refused the statement stays in hand too.
+    /// all fit into the journal; nothing is changed then, nor where it is blocked. Where a page is refused the statement stays in hand too. `Disk` comes where
+    /// the disk failed in this step; each step behind it is `Reopen`, changes nothing and makes no device call.
     pub fn step(&mut self, session: u32) -> Result<Step, StoreFault>
         requires { IsSome (hand_at self.old session) }
+        ensures steps { LeadsOn D.told self.old self.new (λ p q. StepIs p session result q) }
+        ensures hand { IsInHandThen result (hand_at self.new session) }
+        ensures holder { IfOk result (NamesASession (length self.old.names)) }
+        ensures names { self.new.names ≡ self.old.names }
+        ensures others { LeavesTheRest D.told self.old self.new session }
+        ensures statement { IsSameStatement (hand_at self.old session) (hand_at self.new session) }
+        ensures still { StaysStill D.told self.old self.new result }
+        ensures survives { IfSome (hand_at self.old session) (λ hand. StopsSo D.told self.old.transactions session self.old.pages self.new.pages hand result) }
+        ensures leaves { Leaves D.told self.old.pages self.new.pages }
+        ensures journal { OnErr result (self.new.journal.entries ≡ self.old.journal.entries) }
+        ensures ready { OnOk result (StaysReady self.old.pages self.new.pages) }
+        ensures cause { IfErr result (HasFaultCause D.told self.old.pages self.new.pages) }
+        ensures reopen { IfSome self.old.pages.failed (λ faults. (result ≡ Err (StoreFault.Reopen faults)) × (self.new ≡ self.old)) }
+        // At every moment each image has the table of the journal, or that with the commit in hand; once that is answered each has it.
+        ensures stops { (p : Place) → ShowsPlace self.old p → AllHaveTable D.told self.old.pages p → StopsWhole D.told self.old self.new p session result }
+    {
+        match self.parts.pages.ready() {
+            Ok(()) => {}
+            Err(error) => return Err(fault_of(error)),
+        }
+        a_step_stops_whole::<D>();
+        self.step_ready(session)
+    }
+
+    /// The step of a store in which no disk fault was kept.
+    fn step_ready(&mut self, session: u32) -> Result<Step, StoreFault>
+        requires ready { self.old.pages.failed ≡ None }
+        requires hand { IsSome (hand_at self.old session) }
         ensures steps { LeadsOn D.told self.old self.new (λ p q. StepIs p session result q) }
         ensures hand { IsInHandThen result (hand_at self.new session) }
         ensures holder { IfOk result (NamesASession (length self.old.names)) }

@@ -1,2 +1,3 @@
 mod Starts
 mod Fits
+mod Opened

@@ -1,1 +1,2 @@
 pub mod OpenedParts
+pub mod Started

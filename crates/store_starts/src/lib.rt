@@ -6,6 +6,8 @@
 
 mod laws;
 mod parts;
+mod start;
 
 pub use laws::{a_new_store_is_at_its_start, opened_parts_fit};
 pub use parts::{open_parts, plain_parts};
+pub use start::start_parts;

@@ -3,7 +3,7 @@ use Rattle.store_parts.specs.declared.hand.Hand.{Hand}
 use Rattle.store_parts.specs.StepIs.{answer_of}
 use Rattle.store_parts.specs.UndoneLaws.{StepsSo}
 use Rattle.session_core.specs.Sessions.{IsNoPut}
-use Rattle.session_core.specs.Stops.{StopsSo}
+use Rattle.store_images.specs.Stops.{StopsSo}
 use Rattle.session_core.proofs.Stops.{sure_behind}
 use Rattle.session_core.proofs.steps.step_on.Goals as goal
 
@@ -113,7 +113,7 @@ pub returns-in-Commits-clause-survives : goal.returns-in-Commits-clause-survives
 returns-in-Commits-clause-survives g c =
     let old = c.args.parts.now in
     let new = c.commit.new.parts in
-    subst (λ (hand : Hand). StopsSo g.D.Disk.told old.transactions c.args.session old.pages new.pages hand (answer_of c.commit.result)) (sym c.in-Commits.is) (c.commit.ensures.survives, sure_behind g.D.Disk.told c.commit.new.parts.pages c.commit.result c.commit.ensures.sure)
+    subst (λ (hand : Hand). StopsSo g.D.Disk.told old.transactions c.args.session old.pages new.pages hand (answer_of c.commit.result)) (sym c.in-Commits.is) (c.commit.ensures.survives, sure_behind g.D.Disk.told old.pages c.commit.new.parts.pages c.commit.result c.commit.ensures.sure)
 
 pub returns-in-RollsBack-clause-survives : goal.returns-in-RollsBack-clause-survives
 returns-in-RollsBack-clause-survives g c =

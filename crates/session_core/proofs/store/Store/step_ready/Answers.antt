@@ -8,11 +8,11 @@ use Rattle.store_parts.specs.StepIs.{answer_of, hand_after}
 use Rattle.store_parts.specs.StoreStates.{StoreState, hand_at, hand_in, store_of, with_hand}
 use Rattle.session_core.specs.declared.sessions.Session.{Session}
 use Rattle.session_core.specs.SessionLists.{hands_of, names_of, spares_of}
-use Rattle.session_core.specs.Stops.{StopsSo}
+use Rattle.store_images.specs.Stops.{StopsSo}
 use Rattle.session_core.proofs.Kept.{few_each, kept_as, none_beyond, session_below}
 use Rattle.session_core.proofs.Lists.{hand_here, hands_changed, in_list, names_kept, spare_here, spares_changed}
 use Rattle.session_core.proofs.Stepping.{is_step, kept_behind, step_as}
-use Rattle.session_core.proofs.store.Store.step.Goals as goal
+use Rattle.session_core.proofs.store.Store.step_ready.Goals as goal
 
 pub few_locks_are_held-requires-clause-none : goal.few_locks_are_held-requires-clause-none
 few_locks_are_held-requires-clause-none g c =
@@ -27,14 +27,14 @@ few_locks_are_held-requires-clause-few g c =
 pub taken-hand-requires : goal.taken-hand-requires
 taken-hand-requires g c =
     let items = c.self.inside.sessions.items in
-    let some : IsSome (hand_in (hands_of items) c.args.session) = subst (λ (s : StoreState _). IsSome (hand_at s c.args.session)) (sym c.self.view_is) c.requires in
+    let some : IsSome (hand_in (hands_of items) c.args.session) = subst (λ (s : StoreState _). IsSome (hand_at s c.args.session)) (sym c.self.view_is) c.requires.hand in
     subst (λ (h : Option Hand). IsSome h) (hand_here items c.args.session c.index_mut-own.result.now c.index_mut-own.ensures.value (in_list items c.args.session some)) some
 
 pub step_of-requires-clause-fit : goal.step_of-requires-clause-fit
 step_of-requires-clause-fit g c =
     let items = c.self.inside.sessions.items in
     let n = c.args.session in
-    let some : IsSome (hand_in (hands_of items) n) = subst (λ (s : StoreState _). IsSome (hand_at s n)) (sym c.self.view_is) c.requires in
+    let some : IsSome (hand_in (hands_of items) n) = subst (λ (s : StoreState _). IsSome (hand_at s n)) (sym c.self.view_is) c.requires.hand in
     let was = hand_here items n c.index_mut-own.result.now c.index_mut-own.ensures.value (in_list items n some) ∙ c.taken-hand.ensures.was in
     let there = session_below g.D.Disk.told c.laws_of_sessions.ensures c.self.inside.parts (names_of items) (hands_of items) (spares_of items) c.self.invariant n c.taken-hand.result was in
     (names_of items, hands_of items, was, c.self.invariant.fits n (omega (arith, there, c.self.invariant.few_sessions)))
@@ -43,7 +43,7 @@ pub step_of-requires-clause-shown : goal.step_of-requires-clause-shown
 step_of-requires-clause-shown g c =
     let items = c.self.inside.sessions.items in
     let n = c.args.session in
-    let some : IsSome (hand_in (hands_of items) n) = subst (λ (s : StoreState _). IsSome (hand_at s n)) (sym c.self.view_is) c.requires in
+    let some : IsSome (hand_in (hands_of items) n) = subst (λ (s : StoreState _). IsSome (hand_at s n)) (sym c.self.view_is) c.requires.hand in
     let was = hand_here items n c.index_mut-own.result.now c.index_mut-own.ensures.value (in_list items n some) ∙ c.taken-hand.ensures.was in
     λ tells ready. (names_of items, hands_of items, was, c.self.invariant.shown tells ready)
 
@@ -54,7 +54,7 @@ pub step_of-requires-clause-spare : goal.step_of-requires-clause-spare
 step_of-requires-clause-spare g c =
     let items = c.self.inside.sessions.items in
     let n = c.args.session in
-    let some : IsSome (hand_in (hands_of items) n) = subst (λ (s : StoreState _). IsSome (hand_at s n)) (sym c.self.view_is) c.requires in
+    let some : IsSome (hand_in (hands_of items) n) = subst (λ (s : StoreState _). IsSome (hand_at s n)) (sym c.self.view_is) c.requires.hand in
     subst (λ (o : Option Insert). IfSome o (IsInsertFor c.self.inside.parts.pages.layout))
     (spare_here items n c.index_mut-own.result.now c.index_mut-own.ensures.value (in_list items n some)) (c.self.invariant.spare n)
 
@@ -65,7 +65,7 @@ invariant_of-self g c =
     let own = c.index_mut-own.result.now in
     let now : Session = record own { hand = c.step_of.new.left; spare = c.step_of.new.spare } in
     let made = c.step_of.ensures.so in
-    let some : IsSome (hand_in (hands_of items) n) = subst (λ (s : StoreState _). IsSome (hand_at s n)) (sym c.self.view_is) c.requires in
+    let some : IsSome (hand_in (hands_of items) n) = subst (λ (s : StoreState _). IsSome (hand_at s n)) (sym c.self.view_is) c.requires.hand in
     let was = hand_here items n own c.index_mut-own.ensures.value (in_list items n some) ∙ c.taken-hand.ensures.was in
     let names = names_kept items n own now c.index_mut-own.ensures.value refl in
     let hands = hands_changed items n now ∙ ap (λ (h : Option Hand). set (hands_of items) n h) made.left_is in
@@ -81,7 +81,7 @@ returns g c =
     let own = c.index_mut-own.result.now in
     let now : Session = record own { hand = c.step_of.new.left; spare = c.step_of.new.spare } in
     let made = c.step_of.ensures.so in
-    let some : IsSome (hand_in (hands_of items) n) = subst (λ (s : StoreState _). IsSome (hand_at s n)) (sym c.self.view_is) c.requires in
+    let some : IsSome (hand_in (hands_of items) n) = subst (λ (s : StoreState _). IsSome (hand_at s n)) (sym c.self.view_is) c.requires.hand in
     let was = hand_here items n own c.index_mut-own.ensures.value (in_list items n some) ∙ c.taken-hand.ensures.was in
     let names = names_kept items n own now c.index_mut-own.ensures.value refl in
     let hands = hands_changed items n now ∙ ap (λ (h : Option Hand). set (hands_of items) n h) made.left_is in
