@@ -51,6 +51,10 @@ abbrev pub StepLeavesTable : Type 0
 StepLeavesTable = (p q : Place) (n : ℕ) (answer : Result Step StoreFault) → StepIs p n answer q → (IsCommitting p n → answer ≡ Ok (steps.Done replies.Committed) → ⊥)
     → (database_at q).table ≡ (database_at p).table
 
+-- a step that is answered while a commit is in hand makes that commit, which changes nothing where its transaction has failed
+abbrev pub StepCommits : Type 0
+StepCommits = (p q : Place) (n : ℕ) (step : Step) → IsCommitting p n → StepIs p n (Ok step) q → (database_at q).table ≡ table_committed (database_at p) n
+
 -- A store that was opened over these pages: its transactions are started over them, nobody has anything in hand or a lock, and nothing was asked.
 pub record IsOpenedStore (s : ShownStore) : Type 0 where
   pub opened : IsOpened s.transactions

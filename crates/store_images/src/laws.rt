@@ -1,6 +1,6 @@
 //! The laws of images. None does anything.
 
-ghost use Rattle.store_images.specs.ImageLaws.{CommitIsImage, ImageIsShown, NewIsImage, ShownIsImage, StepLeavesTable};
+ghost use Rattle.store_images.specs.ImageLaws.{CommitIsImage, ImageIsShown, NewIsImage, ShownIsImage, StepCommits, StepLeavesTable};
 ghost use Rattle.store_images.specs.StopRule.{StepStopsWhole};
 
 use disk_trait::Disk;
@@ -40,6 +40,11 @@ pub fn a_step_leaves_the_table()
 {
     only_commits_change_the_table();
 }
+
+/// A step that is answered while a commit is in hand makes that commit.
+pub fn a_commit_makes_its_table()
+    ensures { StepCommits }
+{}
 
 /// A store that was opened over the pages of a store with a table shows a place at which a script begins with that table.
 pub fn an_image_is_shown(layout: &Layout)
