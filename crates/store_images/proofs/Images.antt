@@ -1,5 +1,5 @@
 -- That the pages of a store which shows a place, and those that a commit passes, are those of a store with a table.
-use Rattle.std.proofs.Common.{◌≡◌, ◌≢◌, ◌⊎◌, inl, inr, ℕ, ◌+◌, ◌<◌, Bool, false, List, length, Option, Some, refl, sym, ap, subst, ◌∙◌, arith}
+use Rattle.std.proofs.Common.{◌≡◌, ◌≢◌, inl, inr, ℕ, ◌+◌, ◌<◌, Bool, false, List, length, Some, refl, sym, ap, subst, ◌∙◌, arith}
 use Rattle.std.specs.Prelude.{IsTrue}
 use Rattle.std.specs.FinMap as finite
 use Rattle.std.proofs.lemmas.Option.{same_Some}
@@ -8,11 +8,10 @@ use Rattle.block_model.specs.declared.place.Spot.{Spot}
 use Rattle.block_model.specs.declared.row.Row.{Row}
 use Rattle.block_model.specs.DatabaseState.{DatabaseState}
 use Rattle.block_model.specs.RequestEffect.{Answer}
-use Rattle.block_model.specs.TableState.{TableState as Committed}
+use Rattle.block_model.specs.TableState.{TableState as CommittedTable}
 use Rattle.store_layout.specs.DiskLayout.{DiskLayout}
-use Rattle.page_locks.specs.LockHolders.{LockState}
 use Rattle.page_store.specs.PageMap.{PageMap, block_at, page_at}
-use Rattle.store_opening.specs.PageOrder.{AreInOrder, IsIndexInOrder}
+use Rattle.store_opening.specs.PageOrder.{IsIndexInOrder}
 use Rattle.heap_rows.specs.Heaps.{relation_of as heap_of}
 use Rattle.snapshot_core.specs.declared.statuses.Status.{Status}
 use Rattle.row_versions.specs.declared.sessions.Open.{Open}
@@ -24,18 +23,16 @@ use Rattle.transactions.specs.ShowsDatabase.{ShowsDatabase}
 use Rattle.transactions.specs.TransactionsState.{TransactionsState}
 use Rattle.transactions.proofs.Shown.{open_one}
 use Rattle.coverage.specs.Statements.{Inserting, OnIndex}
-use Rattle.index_contents.specs.IndexContents.{contents, index_page, relation_of}
+use Rattle.index_contents.specs.IndexContents.{index_page, relation_of}
 use Rattle.table_coverage.specs.Machines.{ShownTable, table_state}
 use Rattle.table_coverage.specs.Table.{TableState, seen_by}
 use Rattle.table_coverage.specs.TableCovered.{IsTableAtRest, IsTableCovered, IsTableKept, TableStops}
-use Rattle.index_steps.specs.IndexTuples.{index_at}
 use Rattle.index_steps.specs.ShownRows.{shown_by}
 use Rattle.brin_insert.specs.declared.insert.Insert.{Insert}
 use Rattle.line_texts.specs.Place.{Place, database_at}
-use Rattle.store_parts.specs.declared.hand.Hand.{Hand}
 use Rattle.store_parts.specs.declared.hand.Hand.TheVariants as hands
 use Rattle.store_parts.specs.OpeningLaws.{unseen_at_rest}
-use Rattle.store_parts.specs.ShowsPlace.{IsOfTransaction, IsPlaceOf, ShowsTable}
+use Rattle.store_parts.specs.ShowsPlace.{IsPlaceOf, ShowsTable}
 use Rattle.store_parts.specs.StoreStates.{ShownStore, hand_in}
 use Rattle.store_parts.proofs.Tables.{same_blocks, same_contents, shown_alike}
 use Rattle.store_images.specs.ImageLaws.{CommitIsImage, ShownIsImage}
@@ -92,7 +89,7 @@ module _ (stopped : KeepsStopped) (covered : CoversKept) (s : ShownStore) (p : P
       running : (m i b k : ℕ) (r : Row) (on_index : OnIndex) → seen_by i (shows.unseen.task m) ≡ Inserting b k r on_index → counted r.id.t ≡ false
       running m i b k r on_index is =
           let put = row_in_hand s.layout table shows.blocks s.transactions.tx shown.database.stored (shows.unseen.task m) (transaction_of s.transactions.opens m) r
-              (row_inserted i b k r on_index (shows.unseen.task m) is) (hand_in s.hands m) (shows.tasks m) in
+          (row_inserted i b k r on_index (shows.unseen.task m) is) (hand_in s.hands m) (shows.tasks m) in
           let own = shown.own m (hands.Inserts put.insert) put.is in
           ap (λ (q : Row). counted q.id.t) put.row ∙ ap counted own.number ∙ void m put.insert own.own put.is own.is
 
@@ -114,7 +111,7 @@ module _ (stopped : KeepsStopped) (covered : CoversKept) (s : ShownStore) (p : P
       }
 
   -- where they show a database with this table, they are those of a store with it
-  module _ (next : ℕ) (table : Committed) (database : ShowsDatabase s.layout new (opened_at next) (database_with next table)) where
+  module _ (next : ℕ) (table : CommittedTable) (database : ShowsDatabase s.layout new (opened_at next) (database_with next table)) where
     image_with : ((u : ℕ) → IsTrue (counts_of (opened_at next) database.stored u) → IsTrue (counts_of s.transactions shown.database.stored u))
         → ((m : ℕ) (insert : Insert) (o : Open) → hand_in s.hands m ≡ Some (hands.Inserts insert) → transaction_of s.transactions.opens m ≡ Some o → counts_of (opened_at next) database.stored o.t ≡ false)
         → IsStoreImage s.layout new table

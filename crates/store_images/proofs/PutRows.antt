@@ -1,5 +1,5 @@
 -- Whose row a statement has put in a table.
-use Rattle.std.proofs.Common.{◌≡◌, ◌⊎◌, inl, inr, ℕ, zero, suc, Bool, true, false, List, length, Option, None, Some, refl, sym, ap, subst, ◌∙◌}
+use Rattle.std.proofs.Common.{◌≡◌, inl, inr, ℕ, zero, suc, Bool, true, false, List, length, Option, None, Some, refl, sym, ap, ◌∙◌}
 use Rattle.std.proofs.lemmas.Bool.{cases_eq}
 use Rattle.std.proofs.lemmas.Option.{none-some, same_Some}
 use Rattle.block_model.specs.declared.place.Spot.{Spot}
@@ -9,7 +9,7 @@ use Rattle.page_layout.specs.PageContents.{Slot}
 use Rattle.snapshot_core.specs.declared.statuses.Status.{Status}
 use Rattle.row_versions.specs.declared.sessions.Open.{Open}
 use Rattle.tx_table.specs.TxState.{TxState}
-use Rattle.coverage.specs.Statements.{Empty, Holding, Idle, Inserting, Maintaining, OnIndex, Scanning, Statement}
+use Rattle.coverage.specs.Statements.{Empty, Holding, Inserting, Maintaining, OnIndex, Statement}
 use Rattle.table_coverage.specs.Table.{Asks, Considers, Inserts, Maintains, Marks, Prunes, Reaches, Restarts, Resting, Scans, Sweeps, SweepsFrom, Task, inserting_of, on_index_by, pick, seen_by}
 use Rattle.index_steps.specs.IndexTuples.{index_at}
 use Rattle.brin_desummarise.specs.declared.stage.Stage.{Stage as DesummariseStage}

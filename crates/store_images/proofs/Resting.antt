@@ -1,5 +1,5 @@
 -- Tables at rest: what a stop leaves of a table, whatever its statements had in hand.
-use Rattle.std.proofs.Common.{◌≡◌, ◌≢◌, ◌⊎◌, inl, inr, ℕ, ◌<◌, Bool, true, false, not, ◌&&◌, eqb, eqb-true, eq-eqb, List, length, Option, None, Some, refl, sym, ap, subst, ◌∙◌, arith}
+use Rattle.std.proofs.Common.{◌≡◌, ◌⊎◌, inl, inr, ℕ, ◌<◌, Bool, true, false, not, ◌&&◌, eqb, eqb-true, eq-eqb, List, Option, None, Some, refl, sym, ap, ◌∙◌, arith}
 use Rattle.std.specs.Prelude.{IsTrue, slice_get}
 use Rattle.std.proofs.lemmas.Bool.{and_parts, false≢true}
 use Rattle.std.proofs.lemmas.Option.{none-some}
@@ -17,7 +17,7 @@ use Rattle.coverage.specs.Steps.{Stops}
 use Rattle.index_contents.specs.IndexContents.{relation_of}
 use Rattle.table_coverage.specs.Machines.{ShownTable, Unseen, table_state, with_locks}
 use Rattle.table_coverage.specs.Table.{TableState, index_state, index_view_at, seen_by}
-use Rattle.table_coverage.specs.TableCovered.{IsTableAtRest, IsTableCovered, IsTableKept, TableStops}
+use Rattle.table_coverage.specs.TableCovered.{IsTableAtRest, IsTableKept, TableStops}
 use Rattle.index_steps.specs.ShownRows.{shown_by}
 use Rattle.index_steps.specs.ShownTable.{indexes_of, shown_at}
 use Rattle.store_parts.specs.OpeningLaws.{unseen_at_rest}

@@ -10,7 +10,10 @@ use stop_laws::{a_stop_leaves_what_was_passed, only_commits_change_the_table};
 use store_layout::Layout;
 use store_parts::an_opened_store_is_shown;
 use table_coverage::table_stays_covered;
-use transactions::{a_session_has_its_transaction, a_stopped_commit_is_whole, an_opening_ends_all, others_see_alike, which_rows_count};
+use transactions::{
+    a_session_has_its_transaction, a_stopped_commit_is_whole, an_opening_ends_all,
+    others_see_alike, which_rows_count,
+};
 use tx_table::statuses_are_one_list;
 
 /// A store that shows a place has the pages of a store with the committed table, whatever its sessions have in hand.
