@@ -1,0 +1,5 @@
+pub mod PutRows
+pub mod Resting
+pub mod Counts
+pub mod Order
+pub mod Images

@@ -10,7 +10,10 @@ use stop_laws::{a_stop_leaves_what_was_passed, only_commits_change_the_table};
 use store_layout::Layout;
 use store_parts::an_opened_store_is_shown;
 use table_coverage::table_stays_covered;
-use transactions::{a_stopped_commit_is_whole, an_opening_ends_all, one_database};
+use transactions::{
+    a_session_has_its_transaction, a_stopped_commit_is_whole, an_opening_ends_all,
+    others_see_alike, which_rows_count,
+};
 use tx_table::statuses_are_one_list;
 
 /// A store that shows a place has the pages of a store with the committed table, whatever its sessions have in hand.
@@ -19,7 +22,7 @@ pub fn a_shown_store_is_an_image()
 {
     table_stays_covered();
     an_opening_ends_all();
-    one_database();
+    a_session_has_its_transaction();
     statuses_are_one_list();
 }
 
@@ -30,8 +33,10 @@ pub fn a_stopped_commit_is_an_image()
     a_stopped_commit_is_whole();
     table_stays_covered();
     an_opening_ends_all();
-    one_database();
+    a_session_has_its_transaction();
     statuses_are_one_list();
+    which_rows_count();
+    others_see_alike();
 }
 
 /// No step changes the committed table but a commit that is done.
