@@ -4,12 +4,12 @@ use Rattle.std.specs.Prelude.{nat_lt, replicate, slice_get}
 use Rattle.std.proofs.lemmas.Bool.{false≢true, lt-ltb, ltb-true}
 use Rattle.std.proofs.lemmas.Option.{get_or_from_slice_get}
 use Rattle.block_model.specs.declared.schema.Table.{Table}
+use Rattle.block_model.specs.DatabaseState.{DatabaseState}
 use Rattle.block_model.specs.TableState.{TableState as CommittedTable}
 use Rattle.statements.specs.declared.limits.TheConstants.{MAX_SESSIONS}
 use Rattle.store_layout.specs.DiskLayout.{DiskLayout}
 use Rattle.page_layout.specs.PageContents.{Slot}
 use Rattle.page_locks.specs.LockHolders.{LockState}
-use Rattle.page_locks.specs.RightHolders.{right_of}
 use Rattle.page_store.specs.PageMap.{PageMap}
 use Rattle.store_opening.specs.PageOrder.{AreInOrder, IsIndexInOrder}
 use Rattle.heap_rows.specs.Heaps.{no_table}
@@ -32,7 +32,7 @@ use Rattle.store_parts.specs.OpeningLaws.{IsTableOpened, OpenedIsShown, place_op
 use Rattle.store_parts.specs.ShowsPlace.{IsPlaceOf}
 use Rattle.store_parts.specs.StoreStates.{ShownStore}
 use Rattle.store_images.specs.ImageLaws.{IsOpenedStore}
-use Rattle.store_images.specs.StoreImage.{IsRestingTable, IsStoreImage, IsUnlocked, database_with, opened_at}
+use Rattle.store_images.specs.StoreImage.{IsRestingTable, IsStoreImage, database_with, opened_at}
 
 -- ---- the transactions
 
@@ -102,40 +102,53 @@ record BeginsWith (s : ShownStore) (stored : List Status) (n : ℕ) (w : TableSt
 abbrev pub RestIsKept : Type 0
 RestIsKept = (w : TableState) → IsTableCovered w → IsTableAtRest w → IsTableKept w
 
-module _ (s : ShownStore) (stored : List Status) where
+module _ (s : ShownStore) (stored : List Status) (kept : RestIsKept) (store : IsOpenedStore s) where
   -- the table that rests there
   abbrev table_at : (n : ℕ) → IsRestingTable s.layout s.pages (counts s.transactions stored) n → TableState
   table_at n at = table_state (shown_by s.layout s.pages s.locks n at.blocks) (unseen_at_rest (counts s.transactions stored) at.unnamed)
 
-  begins_at : RestIsKept → IsUnlocked s.locks → ((table : ℕ) → right_of s.rights table ≡ None) → (n : ℕ) (at : IsRestingTable s.layout s.pages (counts s.transactions stored) n)
-      → BeginsWith s stored n (table_at n at)
-  begins_at kept unlocked free n at =
-      let rest : IsTableAtRest (table_at n at) = at.rest s.locks unlocked in
-      let covered : IsTableCovered (table_at n at) = at.covered s.locks unlocked in
+  begins_at : (n : ℕ) (at : IsRestingTable s.layout s.pages (counts s.transactions stored) n) → BeginsWith s stored n (table_at n at)
+  begins_at n at =
+      let rest : IsTableAtRest (table_at n at) = at.rest s.locks store.unlocked in
+      let covered : IsTableCovered (table_at n at) = at.covered s.locks store.unlocked in
       record {
-        opened = record { blocks = at.blocks; has = at.has; unnamed = at.unnamed; is = refl; free = free n; kept = kept (table_at n at) covered rest };
+        opened = record { blocks = at.blocks; has = at.has; unnamed = at.unnamed; is = refl; free = store.free n; kept = kept (table_at n at) covered rest };
         laid_out = shown_laid_out s.layout s.pages s.locks n at.blocks (unseen_at_rest (counts s.transactions stored) at.unnamed);
         rest = rest;
         covered = covered;
       }
 
--- The tables that rest in these pages. A number that is no table's has one without a block.
-module _ (s : ShownStore) (stored : List Status) (resting : (n : ℕ) → n < length s.layout.schema.tables → IsRestingTable s.layout s.pages (counts s.transactions stored) n) where
-  table_if : (n : ℕ) (there : Bool) → nat_lt n (length s.layout.schema.tables) ≡ there → TableState
-  table_if n true is = table_at s stored n (resting n (ltb-true n (length s.layout.schema.tables) is))
-  table_if n false is = table_state (shown_by s.layout s.pages s.locks n []) (unseen_at_rest (counts s.transactions stored) (λ i x. false))
+  -- The tables that rest in these pages. A number that is no table's has one without a block.
+  module _ (resting : (n : ℕ) → n < length s.layout.schema.tables → IsRestingTable s.layout s.pages (counts s.transactions stored) n) where
+    table_if : (n : ℕ) (there : Bool) → nat_lt n (length s.layout.schema.tables) ≡ there → TableState
+    table_if n true is = table_at n (resting n (ltb-true n (length s.layout.schema.tables) is))
+    table_if n false is = table_state (shown_by s.layout s.pages s.locks n []) (unseen_at_rest (counts s.transactions stored) (λ i x. false))
 
-  abbrev resting_tables : ℕ → TableState
-  resting_tables n = table_if n (nat_lt n (length s.layout.schema.tables)) refl
+    begins_if : (n : ℕ) (there : Bool) (is : nat_lt n (length s.layout.schema.tables) ≡ there) → n < length s.layout.schema.tables → BeginsWith s stored n (table_if n there is)
+    unfolding table_if
+    begins_if n true is below = begins_at n (resting n (ltb-true n (length s.layout.schema.tables) is))
+    begins_if n false is below = absurd (false≢true (sym is ∙ lt-ltb n (length s.layout.schema.tables) below))
 
-  begins_if : RestIsKept → IsUnlocked s.locks → ((table : ℕ) → right_of s.rights table ≡ None)
-      → (n : ℕ) (there : Bool) (is : nat_lt n (length s.layout.schema.tables) ≡ there) → n < length s.layout.schema.tables → BeginsWith s stored n (table_if n there is)
-  unfolding table_if
-  begins_if kept unlocked free n true is below = begins_at s stored kept unlocked free n (resting n (ltb-true n (length s.layout.schema.tables) is))
-  begins_if kept unlocked free n false is below = absurd (false≢true (sym is ∙ lt-ltb n (length s.layout.schema.tables) below))
+    abbrev resting_tables : ℕ → TableState
+    resting_tables n = table_if n (nat_lt n (length s.layout.schema.tables)) refl
 
-  begins : RestIsKept → IsUnlocked s.locks → ((table : ℕ) → right_of s.rights table ≡ None) → (n : ℕ) → n < length s.layout.schema.tables → BeginsWith s stored n (resting_tables n)
-  begins kept unlocked free n below = begins_if kept unlocked free n (nat_lt n (length s.layout.schema.tables)) refl below
+    begins : (n : ℕ) → n < length s.layout.schema.tables → BeginsWith s stored n (resting_tables n)
+    begins n below = begins_if n (nat_lt n (length s.layout.schema.tables)) refl below
+
+    -- a script begins at the place of these tables
+    is_opening : (opening : DatabaseState) → IsOpening s.layout opening (place_opened s opening resting_tables)
+    is_opening opening = record {
+      layout_is = refl;
+      opening_is = refl;
+      names = store.names;
+      journal = refl;
+      queue = refl;
+      hands = λ n. refl;
+      accounts = λ n. refl;
+      laid_out = λ n below. (begins n below).laid_out;
+      rest = λ n below. (begins n below).rest;
+      covered = λ n below. (begins n below).covered;
+    }
 
 -- ---- the place
 
@@ -145,25 +158,13 @@ OrderIsEach = (layout : DiskLayout) (pages : PageMap) (index : ℕ) → AreInOrd
 
 pub image_is_shown : HaveOneList → HasOneNext → RestIsKept → OrderIsEach → OpenedIsShown → (s : ShownStore) (table : CommittedTable) → IsOpenedStore s → IsStoreImage s.layout s.pages table
     → (p : Place) × IsOpening s.layout (database_with s.transactions.tx.next table) p × IsPlaceOf s p
-image_is_shown list next kept each shown s table opened image =
-    let over : ImageOver s.layout s.pages table s.transactions s.transactions.tx.next = image_over s table list next opened image in
-    let opening = database_with s.transactions.tx.next table in
-    let tables : ℕ → TableState = resting_tables s over.database.stored over.tables in
-    let with : (n : ℕ) → n < length s.layout.schema.tables → BeginsWith s over.database.stored n (tables n) = begins s over.database.stored over.tables kept opened.unlocked opened.free in
-    (
-      place_opened s opening tables,
-      record {
-        layout_is = refl;
-        opening_is = refl;
-        names = opened.names;
-        journal = refl;
-        queue = refl;
-        hands = λ n. refl;
-        accounts = λ n. refl;
-        laid_out = λ n below. (with n below).laid_out;
-        rest = λ n below. (with n below).rest;
-        covered = λ n below. (with n below).covered;
-      },
-      shown s opening tables opened.entries opened.queue opened.dropped opened.hands opened.opened over.database (λ n below. (with n below).opened)
-      (λ index below. each s.layout s.pages index image.order below),
-    )
+image_is_shown list next kept each shown s table store image =
+    let over : ImageOver s.layout s.pages table s.transactions s.transactions.tx.next = image_over s table list next store image in
+    let stored : List Status = over.database.stored in
+    let opening : DatabaseState = database_with s.transactions.tx.next table in
+    let tables : ℕ → TableState = resting_tables s stored kept store over.tables in
+    let opened : (n : ℕ) → n < length s.layout.schema.tables → IsTableOpened s stored n (tables n) = λ n below. (begins s stored kept store over.tables n below).opened in
+    let order : (index : ℕ) → index < length s.layout.schema.indexes → IsIndexInOrder s.layout.sizes.index_blocks (index_page s.layout s.pages index) =
+    λ index below. each s.layout s.pages index image.order below in
+    let is : IsPlaceOf s (place_opened s opening tables) = shown s opening tables store.entries store.queue store.dropped store.hands store.opened over.database opened order in
+    (place_opened s opening tables, is_opening s stored kept store over.tables opening, is)
