@@ -1,6 +1,5 @@
 -- No step changes the committed table but a commit that is done.
-use Rattle.std.proofs.Common.{◌≡◌, ◌⊎◌, inl, inr, ℕ, Bool, true, false, cond, List, [], ◌∷◌, ◌++◌, Option, None, Some, Result, Ok, Err, refl, sym, ap, ◌∙◌, subst}
-use Rattle.std.specs.FinMap.{get}
+use Rattle.std.proofs.Common.{◌≡◌, ◌⊎◌, inl, inr, ℕ, Bool, true, false, cond, List, [], ◌∷◌, ◌++◌, Option, None, Some, Ok, Err, refl, sym, ap, ◌∙◌, subst}
 use Rattle.std.specs.Option.{option_map}
 use Rattle.std.proofs.lemmas.Bool.{false≢true}
 use Rattle.std.proofs.lemmas.Option.{same_Some}
@@ -23,18 +22,14 @@ use Rattle.statements.specs.HeapRoom.{full_table}
 use Rattle.statements.specs.StatementRequests.{end_reply, mark_entry, reply_to_statement, request_entry}
 use Rattle.line_texts.specs.Place.{Hand, Place, database_at}
 use Rattle.line_texts.specs.Requests.{Course, next_request, row_to_mark, refused_request, MakesOne, Enters, MakesAll, NoneLeft, OneMore, MakesMark, First, Further}
-use Rattle.line_texts.specs.StatementSteps.{Outcome, Moved, Ended, Waits, course_of, MakesAt, StepsTo, GoesOn, Replies, MeetsConflict, IsRefused, AtOnce, NothingAsked, LacksMemoryAtOnce, NoNumber, IsWaiting}
+use Rattle.line_texts.specs.StatementSteps.{Outcome, Ended, course_of, MakesAt, MayLackMemory, StepsTo, GoesOn, Replies, MeetsConflict, IsRefused, AtOnce, NothingAsked, LacksMemoryAtOnce, NoNumber, IsWaiting}
 use Rattle.line_texts.specs.Beginnings.{IsIn}
-use Rattle.line_texts.specs.StatementSteps.{MayLackMemory}
 use Rattle.line_texts.specs.Turns.{Leads}
 use Rattle.line_texts.proofs.Requests.{as_one_step, none_made}
 use Rattle.stop_laws.specs.FoundLaws.{IsCommit, OnlyCommitsChangeTable}
-use Rattle.store_parts.specs.declared.faults.Step.{Step}
 use Rattle.store_parts.specs.declared.faults.Step.TheVariants as steps
-use Rattle.store_parts.specs.declared.faults.StoreFault.{StoreFault}
 use Rattle.store_parts.specs.declared.faults.StoreFault.TheVariants as stops
-use Rattle.store_parts.specs.StepIs.{StepIs}
-use Rattle.store_images.specs.ImageLaws.{IsCommitting, StepLeavesTable}
+use Rattle.store_images.specs.ImageLaws.{StepLeavesTable}
 
 -- ---- which requests are commits
 

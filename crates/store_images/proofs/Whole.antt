@@ -1,5 +1,5 @@
 -- Which table each image has at the moments of a step, and once it is done.
-use Rattle.std.proofs.Common.{◌≡◌, ◌⊎◌, inl, inr, ℕ, Bool, true, false, List, [], Option, None, Some, IsSome, Result, Ok, Err, refl, sym, ap, ◌∙◌, subst}
+use Rattle.std.proofs.Common.{◌≡◌, ◌⊎◌, inl, inr, ℕ, Bool, true, false, [], Option, None, Some, IsSome, Result, Ok, Err, refl, sym, ap, ◌∙◌, subst}
 use Rattle.std.proofs.lemmas.Bool.{false≢true}
 use Rattle.std.proofs.lemmas.Option.{same_Some}
 use Rattle.block_model.specs.declared.reply.Reply.TheVariants as replies
@@ -19,7 +19,6 @@ use Rattle.row_versions.specs.declared.sessions.Open.{Open}
 use Rattle.row_versions.specs.StoredVersions.{transaction_of}
 use Rattle.tx_table.specs.Durable.{HasPart, IsBefore, IsDurable}
 use Rattle.transactions.specs.Sessions.{committed_by}
-use Rattle.transactions.specs.TransactionsState.{TransactionsState}
 use Rattle.line_texts.specs.Place.{Hand as HandAt, Place, database_at}
 use Rattle.line_texts.specs.StatementSteps.{Outcome, Steps}
 use Rattle.stop_laws.specs.FoundLaws.{table_committed}
@@ -113,10 +112,6 @@ module _ {D : Type 0} (told : D → Told) where
       all_then P each has image now =
           let opens = each image now in
           (opens.0, subst (λ (l : DiskLayout). OpensAs l image opens.0) (sym same_layout) opens.1, has opens.0 opens.2)
-
-      -- a step that isn't a commit that is done leaves the table
-      kept_then : (database_at q).table ≡ (database_at p).table → EachImage told new.pages (OpensWith p.layout HasTable) → AllHaveTable told new.pages q
-      kept_then same each = all_then HasTable each (λ pages image. image_then pages (database_at p).table (sym same) image)
 
       -- what is sure has the table of the place that is shown then
       sure_then : IsDurable told new.pages → AllHaveTable told new.pages q
