@@ -5,3 +5,5 @@ pub mod Order
 pub mod Images
 pub mod Opening
 pub mod NewImage
+pub mod Steps
+pub mod Whole

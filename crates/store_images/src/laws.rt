@@ -7,7 +7,7 @@ use disk_trait::Disk;
 use fresh_store::a_new_store_opens_to_fresh_pages;
 use fresh_tables::{fresh_pages_show_a_new_database, fresh_pages_show_new_tables};
 use index_order::a_store_in_order_has_its_indexes_in_order;
-use stop_laws::{a_stop_leaves_what_was_passed, only_commits_change_the_table};
+use stop_laws::only_commits_change_the_table;
 use store_layout::Layout;
 use store_parts::an_opened_store_is_shown;
 use table_coverage::table_stays_covered;
@@ -81,5 +81,4 @@ pub fn a_step_stops_whole<D: Disk>()
     a_shown_store_is_an_image();
     a_stopped_commit_is_an_image();
     a_step_leaves_the_table();
-    a_stop_leaves_what_was_passed::<D>();
 }
