@@ -22,14 +22,14 @@ use Rattle.statements.specs.HeapRoom.{full_table}
 use Rattle.statements.specs.StatementRequests.{end_reply, mark_entry, reply_to_statement, request_entry}
 use Rattle.line_texts.specs.Place.{Hand, Place, database_at}
 use Rattle.line_texts.specs.Requests.{Course, next_request, row_to_mark, refused_request, MakesOne, Enters, MakesAll, NoneLeft, OneMore, MakesMark, First, Further}
-use Rattle.line_texts.specs.StatementSteps.{Outcome, Ended, course_of, MakesAt, MayLackMemory, StepsTo, GoesOn, Replies, MeetsConflict, IsRefused, AtOnce, NothingAsked, LacksMemoryAtOnce, NoNumber, IsWaiting}
+use Rattle.line_texts.specs.StatementSteps.{Outcome, Ended, course_of, MakesAt, MayLackMemory, Steps, StepsTo, GoesOn, Replies, MeetsConflict, IsRefused, AtOnce, NothingAsked, LacksMemoryAtOnce, NoNumber, IsWaiting}
 use Rattle.line_texts.specs.Beginnings.{IsIn}
 use Rattle.line_texts.specs.Turns.{Leads}
 use Rattle.line_texts.proofs.Requests.{as_one_step, none_made}
-use Rattle.stop_laws.specs.FoundLaws.{IsCommit, OnlyCommitsChangeTable}
+use Rattle.stop_laws.specs.FoundLaws.{IsCommit, OnlyCommitsChangeTable, table_committed}
 use Rattle.store_parts.specs.declared.faults.Step.TheVariants as steps
 use Rattle.store_parts.specs.declared.faults.StoreFault.TheVariants as stops
-use Rattle.store_images.specs.ImageLaws.{StepLeavesTable}
+use Rattle.store_images.specs.ImageLaws.{IsCommitting, StepCommits, StepLeavesTable}
 
 -- ---- which requests are commits
 
@@ -198,8 +198,8 @@ module _ (only : OnlyCommitsChangeTable) (p : Place) (n : ℕ) where
       ∙ only (database_at p) (commit_of n) (λ commits. undone (same_Some _ _ (replied ∙ ap end_reply made.answers ∙ ap (λ (a : Answer). end_reply (a ∷ [])) (commit_answer (database_at p) n commits))))
 
   commit_leaves : (answers : List Answer) (c : Course) (reply : Reply) → MakesAll p.opening n statements.Commit (record { journal = p.journal; answers = answers }) c → Some reply ≡ end_reply c.answers
-      → (reply ≡ replies.Committed → ⊥) → (serial_run p.opening c.journal).table ≡ (database_at p).table
-  commit_leaves [] c reply all replied undone = new_commit_leaves c reply all replied undone
+      → (answers ≡ [] → reply ≡ replies.Committed → ⊥) → (serial_run p.opening c.journal).table ≡ (database_at p).table
+  commit_leaves [] c reply all replied undone = new_commit_leaves c reply all replied (undone refl)
   commit_leaves (a ∷ answers) c reply all replied undone =
       ap (λ (s : DatabaseState). s.table)
       (ap (serial_run p.opening) (none_made p.opening n statements.Commit (record { journal = p.journal; answers = a ∷ answers }) c refl all).journal_is ∙ serial_run-append p.opening p.journal [])
@@ -207,22 +207,34 @@ module _ (only : OnlyCommitsChangeTable) (p : Place) (n : ℕ) where
 -- ---- every step
 
 module _ (only : OnlyCommitsChangeTable) (p : Place) (n : ℕ) (hand : Hand) where
-  commit_steps_leave : (outcome : Outcome) (q : Place) → IsAtOnceTo p n hand outcome q → (ended_by outcome ≡ Some replies.Committed → ⊥) → (database_at q).table ≡ (database_at p).table
+  commit_steps_leave : (outcome : Outcome) (q : Place) → IsAtOnceTo p n hand outcome q → (hand.answers ≡ [] → ended_by outcome ≡ Some replies.Committed → ⊥) → (database_at q).table ≡ (database_at p).table
   commit_steps_leave _ _ (Once c reply q all replied leads) undone =
-      left_at only p n hand q None c.journal leads (commit_leaves only p n hand.answers c reply all replied (λ same. undone (ap (λ (r : Reply). Some r) same)))
+      left_at only p n hand q None c.journal leads (commit_leaves only p n hand.answers c reply all replied (λ new same. undone new (ap (λ (r : Reply). Some r) same)))
 
-  steps_leave : (outcome : Outcome) (q : Place) → StepsTo p n hand outcome q → (hand.statement ≡ statements.Commit → ended_by outcome ≡ Some replies.Committed → ⊥) → (database_at q).table ≡ (database_at p).table
+  steps_leave : (outcome : Outcome) (q : Place) → StepsTo p n hand outcome q → (hand.statement ≡ statements.Commit → hand.answers ≡ [] → ended_by outcome ≡ Some replies.Committed → ⊥) → (database_at q).table ≡ (database_at p).table
   steps_leave outcome q step undone = elim (commit_or_other hand.statement) [
     | inl is ↦ commit_steps_leave outcome q (commit_at_once p n hand outcome q is step) (undone is)
     | inr other ↦ other_steps_leave only p n hand outcome q other step
   ]
 
 pub step_leaves_table : OnlyCommitsChangeTable → StepLeavesTable
-step_leaves_table only p q n (Ok (steps.Moved point)) s undone = steps_leave only p n s.hand _ q s.steps (λ is ends. absurd (cc))
+step_leaves_table only p q n (Ok (steps.Moved point)) s undone = steps_leave only p n s.hand _ q s.steps (λ is new ends. absurd (cc))
 step_leaves_table only p q n (Ok (steps.Done reply)) s undone =
-    steps_leave only p n s.hand _ q s.steps (λ is ends. undone (record { hand = s.hand; in_hand = s.in_hand; is = is }) (ap (λ (r : Reply). Ok (steps.Done r)) (same_Some _ _ ends)))
-step_leaves_table only p q n (Ok (steps.Blocked what by)) s undone = steps_leave only p n s.hand _ q s.steps (λ is ends. absurd (cc))
+    steps_leave only p n s.hand _ q s.steps (λ is new ends. undone (record { hand = s.hand; in_hand = s.in_hand; is = is; new = new }) (ap (λ (r : Reply). Ok (steps.Done r)) (same_Some _ _ ends)))
+step_leaves_table only p q n (Ok (steps.Blocked what by)) s undone = steps_leave only p n s.hand _ q s.steps (λ is new ends. absurd (cc))
 step_leaves_table only p q n (Err (stops.Spent entries)) s undone = ap (λ (r : Place). (database_at r).table) s.2
 step_leaves_table only p q n (Err stops.Disk) s undone = absurd s
 step_leaves_table only p q n (Err (stops.Reopen faults)) s undone = absurd s
 step_leaves_table only p q n (Err (stops.Damaged at)) s undone = absurd s
+
+-- the commit in hand is the one whose step is answered
+commits_by : (p q : Place) (n : ℕ) (outcome : Outcome) → IsCommitting p n → Steps p n outcome q → (database_at q).table ≡ table_committed (database_at p) n
+commits_by p q n outcome c s =
+    let same : c.hand ≡ s.hand = same_Some _ _ (sym c.in_hand ∙ s.in_hand) in
+    ap (λ (state : DatabaseState). state.table)
+    (commit_steps p n s.hand outcome q (ap (λ (h : Hand). h.statement) (sym same) ∙ c.is) (ap (λ (h : Hand). h.answers) (sym same) ∙ c.new) s.steps)
+
+pub step_commits : StepCommits
+step_commits p q n (steps.Moved point) c s = commits_by p q n _ c s
+step_commits p q n (steps.Done reply) c s = commits_by p q n _ c s
+step_commits p q n (steps.Blocked what by) c s = commits_by p q n _ c s

@@ -142,7 +142,7 @@ module _ {D : Type 0} (told : D → Told) where
     its_hand = shown_hand old p n hands.Commits shows at
 
     committing : IsCommitting p n
-    committing = record { hand = its_hand.0; in_hand = its_hand.1; is = its_hand.2 }
+    committing = record { hand = its_hand.0; in_hand = its_hand.1; is = its_hand.2; new = its_hand.3 }
 
     its_open : FitsStore told old n → (o : Open) × (transaction_of old.transactions.opens n ≡ Some o)
     its_open fits = some_open (transaction_of old.transactions.opens n) (subst (FitsHand old.pages.layout (transaction_of old.transactions.opens n)) at fits.hand)
