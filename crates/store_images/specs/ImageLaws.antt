@@ -1,6 +1,5 @@
 -- That a store which shows a place is that of an image, that each stop leaves one, and that an opening shows it.
 use Rattle.std.specs.Prelude.{◌≡◌, ◌⊎◌, ℕ, ◌≤◌, false, List, [], None, Some, Result, Ok}
-use Rattle.block_model.specs.declared.place.Place.{Place as PagePlace}
 use Rattle.block_model.specs.declared.reply.Reply.TheVariants as replies
 use Rattle.block_model.specs.DatabaseState.{initial_state}
 use Rattle.block_model.specs.TableState.{TableState}
