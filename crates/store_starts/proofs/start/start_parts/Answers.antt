@@ -1,4 +1,4 @@
-use Rattle.std.proofs.Common.{◌≡◌, ◌∙◌, ℕ, List, [], MatchResult, Result, sym, ap, subst}
+use Rattle.std.proofs.Common.{◌≡◌, ◌∙◌, ℕ, List, [], MatchResult, Result, sym, ap, subst, arith}
 use Rattle.std.proofs.lemmas.Result.{err_from_is_err_and}
 use Rattle.std.specs.Prelude.{IsTrue}
 use Rattle.disk_trait.specs.Told.{Told}
@@ -28,6 +28,9 @@ returns-in-Ok-clause-starts g c = λ tells fresh.
     let before = sym kept.leaves.tells ∙ tells in
     subst (λ (l : DiskLayout). ShowsStart l (store_of c.in-Ok.parts [] [])) (sym kept.leaves.layout)
     (c.in-Ok.ensures.starts before (sym (kept.pages before) ∙ fresh ∙ ap fresh_pages kept.leaves.layout))
+
+pub returns-in-Ok-clause-later : goal.returns-in-Ok-clause-later
+returns-in-Ok-clause-later g c = omega (arith, c.in_ok-pages.ensures.faults, c.in-Ok.ensures.kept.leaves.faults)
 
 pub returns-in-Ok-clause-opens : goal.returns-in-Ok-clause-opens
 returns-in-Ok-clause-opens g c =
