@@ -25,10 +25,7 @@ use store_parts::Parts;
 
 /// The parts of the store on the disk, whose log is replayed first: no transaction is open, nobody has a lock, and nothing was asked. A transaction that was
 /// under way at a stop counts as rolled back. The refusals are those of the start of pages; the disk comes back with each.
-pub fn start_parts<D: Disk + Drop>(
-    alloc: Global,
-    disk: D,
-) -> Result<Parts<D>, (StartFault, D)>
+pub fn start_parts<D: Disk + Drop>(alloc: Global, disk: D) -> Result<Parts<D>, (StartFault, D)>
     ensures opened { IfOk result (AreOpened D.told) }
     ensures fits { IfOk result (λ parts. (n : ℕ) → n < MAX_SESSIONS → FitsStore D.told (store_of parts [] []) n) }
     ensures there { IfOk result (λ parts. IsTrue (D.told disk).tells_contents → HasStore parts.pages.layout (D.told disk).size (D.told disk).contents) }

@@ -16,10 +16,10 @@ invariant_of-result g c =
     let new = c.in_ok-parts.ensures in
     subst (λ (sessions : List Session). IsStoreKept g.D.Disk.told (store_of parts (names_of sessions) (hands_of sessions)) (spares_of sessions)) (sym c.new-sessions.ensures.items)
     (kept_new g.D.Disk.told parts new.opened new.fits (λ tells.
-      let before = sym new.tells ∙ tells in
-      let image = c.requires.image before parts.pages.layout parts.pages.pages (new.pages before) in
-      let shown = new.opens tells image.0 image.1 in
-      (shown.0, shown.2)))
+    let before = sym new.tells ∙ tells in
+    let image = c.requires.image before parts.pages.layout parts.pages.pages (new.pages before) in
+    let shown = new.opens tells image.0 image.1 in
+    (shown.0, shown.2)))
 
 pub returns-clause-opens : goal.returns-clause-opens
 returns-clause-opens g c =
