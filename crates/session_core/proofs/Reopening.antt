@@ -1,5 +1,5 @@
 -- what a stop leaves of a step, also in a store in which a disk fault was kept
-use Rattle.std.proofs.Common.{◌≡◌, ℕ, List, length, Option, None, Some, IfSome, IsSome, Result, Err, refl, sym, subst, arith}
+use Rattle.std.proofs.Common.{◌≡◌, ℕ, List, Option, None, Some, IfSome, IsSome, Result, Err, refl, sym, subst, arith}
 use Rattle.std.proofs.lemmas.Bool.{false≢true}
 use Rattle.disk_trait.specs.Told.{Told}
 use Rattle.brin_insert.specs.declared.insert.Insert.{Insert}

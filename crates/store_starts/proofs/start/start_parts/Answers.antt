@@ -1,9 +1,6 @@
-use Rattle.std.proofs.Common.{◌≡◌, ◌∙◌, ℕ, List, [], MatchResult, Result, sym, ap, subst, arith}
+use Rattle.std.proofs.Common.{◌∙◌, [], MatchResult, Result, sym, ap, subst, arith}
 use Rattle.std.proofs.lemmas.Result.{err_from_is_err_and}
-use Rattle.std.specs.Prelude.{IsTrue}
-use Rattle.disk_trait.specs.Told.{Told}
 use Rattle.fresh_store.specs.FreshPages.{fresh_pages}
-use Rattle.page_store.specs.PageMap.{View}
 use Rattle.store_layout.specs.DiskLayout.{DiskLayout}
 use Rattle.store_opening.specs.declared.fault.StartFault.{StartFault}
 use Rattle.store_images.specs.ImageLaws.{ImageIsShown}

@@ -1,4 +1,4 @@
-use Rattle.std.proofs.Common.{Option, IfSome, IsSome, Err, sym, refl, subst, arith}
+use Rattle.std.proofs.Common.{IfSome, IsSome, Err, sym, refl, subst, arith}
 use Rattle.page_store.specs.Keeps.{Leaves}
 use Rattle.store_parts.specs.HandFits.{FitsStore}
 use Rattle.store_parts.specs.StoreStates.{StoreState, hand_at, hand_in, store_of}
