@@ -6,6 +6,7 @@ pub mod MatchLemmas
 pub mod BuildLemmas
 pub mod NumberLemmas
 pub mod SizeLemmas
+pub mod DemoLemmas
 pub mod TextLemmas
 pub mod LawLemmas
 pub mod Spelling
