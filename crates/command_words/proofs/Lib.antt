@@ -10,4 +10,5 @@ pub mod DemoLemmas
 pub mod TextLemmas
 pub mod LawLemmas
 pub mod Spelling
+pub mod FormLemmas
 pub mod SpeltLaws
