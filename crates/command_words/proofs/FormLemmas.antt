@@ -1,5 +1,5 @@
 -- What each command's form makes of what its words say.
-use Rattle.std.proofs.Common.{◌≡◌, ◌∙◌, refl, sym, ap, ap₂, subst, List, [], ◌∷◌, ◌++◌, length, Bool, true, false, true≢false, cond, ◌||◌, ◌&&◌, Option, Some, None, is_some, option_map, option_and_then, unwrap_or, bytes_eq, find, ℕ, zero, suc, ◌<◌, ◌≤◌, nat_le, nat_lt, inl, inr, codes, arith}
+use Rattle.std.proofs.Common.{◌≡◌, ◌∙◌, refl, sym, ap, ap₂, subst, List, [], ◌∷◌, ◌++◌, length, Bool, true, false, true≢false, ◌||◌, ◌&&◌, Option, Some, None, is_some, option_map, option_and_then, unwrap_or, bytes_eq, find, ℕ, zero, suc, ◌<◌, nat_le, nat_lt, inl, inr, codes, arith}
 use Rattle.std.specs.Prelude.{slice_index_or}
 use Rattle.std.specs.List.{list_any, list_all, All, Contains}
 use Rattle.std.specs.Str.{is_utf8}
@@ -11,7 +11,6 @@ use Rattle.command_words.specs.declared.command.Command.{Command}
 use Rattle.command_words.specs.declared.command.Command.TheVariants.{Init, Run, RunStored, Demo}
 use Rattle.command_words.specs.declared.defaults.TheConstants.{HEAP_BLOCKS, INDEX_BLOCKS, STATUS_BLOCKS, LOG_PAGES, FRAMES}
 use Rattle.command_words.specs.CommandWords.{Text, WordsSaid, number_of, number_given, value_of, size_options, demo_options, is_any_given, sizes_of, init_with, run_with, stored_with, is_demo, demo_with, CommandForm, init_form, run_form, demo_form, commands}
-use Rattle.command_words.specs.ReadingOrder.{form_named}
 use Rattle.command_words.specs.Laws.{sizes_in, seed_in, rows_in, AreDemoNumbers}
 use Rattle.command_words.proofs.RowLemmas.{same_text}
 use Rattle.command_words.proofs.LawLemmas.{IsNamed, IsOption, GivesNumber, ascii_below, five, two, is_heap_blocks, is_index_blocks, is_status_blocks, is_log_pages, is_frames, is_seed, is_rows}

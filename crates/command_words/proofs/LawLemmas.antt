@@ -1,15 +1,13 @@
 -- What the words behind a command say, wherever an option stands among them.
 use Rattle.std.proofs.Common.{◌≡◌, ◌∙◌, refl, sym, ap, List, [], ◌∷◌, ◌++◌, Bool, true, false, cond, not, Option, Some, None, is_some, option_and_then, bytes_eq, ℕ, true≢false, inl, inr, codes, IfSome, subst, append_assoc, nat_lt, ◌<◌, slice_index, zero, suc, ltb-true, arith}
-use Rattle.std.proofs.lemmas.Str.{IsUtf8-from_ascii, is_utf8-from_IsUtf8}
 use Rattle.std.specs.List.{list_any, list_all, All}
 use Rattle.std.specs.Str.{is_utf8}
 use Rattle.std.proofs.lemmas.Bool.{cases_Bool, and_parts, not-true}
-use Rattle.std.proofs.lemmas.List.Folds.{list_all-append}
 use Rattle.command_words.specs.declared.command.Command.{Command}
 use Rattle.command_words.specs.CommandWords.{Text, WordsSaid, value_of, is_number, number_of, begins_with_hyphen, size_options, demo_options, CommandForm}
 use Rattle.command_words.specs.ReadingOrder.{WordsReading, nothing_read, option_in, give_number, take_option, take_named, take_free, take_word, read_words, form_named, command_of}
 use Rattle.command_words.specs.Laws.{option_words, has_no_end}
-use Rattle.command_words.proofs.RowLemmas.{given_at, text_is, same_text}
+use Rattle.command_words.proofs.RowLemmas.{given_at, text_is}
 use Rattle.command_words.proofs.TurnLemmas.{some_or_none}
 use Rattle.command_words.proofs.JudgedLemmas.{none_either}
 

@@ -1,5 +1,5 @@
 -- Commands are what their words spell, and the laws of commands.
-use Rattle.std.proofs.Common.{◌≡◌, ◌≢◌, ◌↔◌, ◌⊎◌, ◌∙◌, refl, sym, ap, ap₂, subst, List, [], ◌∷◌, ◌++◌, length, Bool, true, false, Option, Some, None, option_map, option_and_then, unwrap_or, bytes_eq, ℕ, zero, suc, ◌<◌, ◌≤◌, nat_lt, nat_le, true≢false, inl, inr, codes, arith, cond, append-nil, ◌||◌}
+use Rattle.std.proofs.Common.{◌≡◌, ◌≢◌, ◌↔◌, ◌⊎◌, ◌∙◌, refl, sym, ap, ap₂, subst, List, [], ◌∷◌, ◌++◌, length, Bool, true, false, Option, Some, None, option_and_then, unwrap_or, bytes_eq, ℕ, zero, suc, ◌<◌, ◌≤◌, nat_lt, nat_le, true≢false, inl, inr, codes, arith, append-nil, ◌||◌}
 use Rattle.std.specs.Prelude.{slice_index_or, Result, Ok, Err, IfOk, IfErr}
 use Rattle.std.specs.List.{list_all, list_any, flat_map, All, AllByRecursion, AllPairs, Contains}
 use Rattle.std.specs.Str.{is_utf8}
@@ -12,14 +12,14 @@ use Rattle.command_words.specs.declared.command.Command.{Command}
 use Rattle.command_words.specs.declared.command.Command.TheVariants.{Init, Run, RunStored, Demo}
 use Rattle.command_words.specs.declared.command.CommandFault.{CommandFault}
 use Rattle.command_words.specs.declared.command.CommandFault.TheVariants.{Usage}
-use Rattle.command_words.specs.CommandWords.{Text, Item, InOneWord, InTwoWords, Declared, words_of, IsItem, option_of, declared_of, end_words, spelling, WordsSaid, said_by, AreSpelt, begins_with_hyphen, is_number, number_of, value_of, is_any_given, demo_options, CommandForm, init_form, run_form, demo_form, commands, IsCommand, IsOnlyCommand}
+use Rattle.command_words.specs.CommandWords.{Text, Item, InOneWord, InTwoWords, Declared, words_of, IsItem, option_of, declared_of, end_words, spelling, WordsSaid, said_by, AreSpelt, is_number, number_of, value_of, is_any_given, demo_options, CommandForm, init_form, run_form, demo_form, commands, IsCommand, IsOnlyCommand}
 use Rattle.command_words.specs.ReadingOrder.{nothing_read, read_words, form_named, command_in, command_of}
 use Rattle.command_words.specs.Laws.{WordsAreOneCommand, OrderSaysNothing, option_words, OptionStandsOnce, OptionsStandOnce, OptionHasItsNumber, IsDeclaredLast, HasDefaults, StoredRunIsBare, AreDemoNumbers, DemosHaveLimits}
 use Rattle.command_words.proofs.RowLemmas.{text_is, same_text}
 use Rattle.command_words.proofs.TurnLemmas.{some_or_none}
 use Rattle.command_words.proofs.JudgedLemmas.{form_has_word}
-use Rattle.command_words.proofs.LawLemmas.{IsNamed, IsOption, GivesNumber, command_at, form_parts, read_once, read_as_number, read_last, read_alone}
-use Rattle.command_words.proofs.Spelling.{AreNames, Differ, pairs_head, pairs_tail, other_text, spelt_is_read, read_is_spelt}
+use Rattle.command_words.proofs.LawLemmas.{IsOption, GivesNumber, command_at, form_parts, read_once, read_as_number, read_last, read_alone}
+use Rattle.command_words.proofs.Spelling.{Differ, pairs_head, pairs_tail, other_text, spelt_is_read, read_is_spelt}
 use Rattle.command_words.proofs.FormLemmas.{init_known, run_known, demo_known, found_known, is_named, IsAsciiText, ascii_is_utf8, word_is_utf8, are_names, are_ascii, values_by, by_values, numbers_demo, is_within, is_given, IsLonger, IsBare, stored_is_bare}
 
 -- ---- a command is what its words spell
