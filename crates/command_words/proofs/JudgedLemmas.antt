@@ -232,7 +232,7 @@ start_reading names words = checked_reading names nothing_read words tt ∙ ap (
 -- ---- the command
 
 -- the form that was found has the word
-form_has_word : (word : Text) (forms : List CommandForm) (f : CommandForm) → find (λ form. bytes_eq form.word word) forms ≡ Some f → f.word ≡ word
+pub form_has_word : (word : Text) (forms : List CommandForm) (f : CommandForm) → find (λ form. bytes_eq form.word word) forms ≡ Some f → f.word ≡ word
 form_has_word word [] f e = cc
 form_has_word word (g ∷ gs) f e = elim (cases_Bool (bytes_eq g.word word)) [
   | inl h ↦ let first : Some g ≡ Some f = rw h at e in let same : g ≡ f = cc in ap (λ (x : CommandForm). x.word) (sym same) ∙ same_text g.word word h

@@ -1,29 +1,51 @@
 -- What the words behind a command say, wherever an option stands among them.
-use Rattle.std.proofs.Common.{◌≡◌, ◌∙◌, refl, sym, ap, List, [], ◌∷◌, ◌++◌, Bool, true, false, cond, not, Option, Some, None, is_some, option_map, option_and_then, unwrap_or, bytes_eq, ℕ, true≢false, inl, inr, codes, IfSome, subst, append_assoc, ap₂, nat_lt, ◌<◌, slice_index, zero, suc, ltb-true, arith}
-use Rattle.std.proofs.lemmas.Str.{IsUtf8-from_ascii, is_utf8-from_IsUtf8}
+use Rattle.std.proofs.Common.{◌≡◌, ◌∙◌, refl, sym, ap, List, [], ◌∷◌, ◌++◌, Bool, true, false, cond, not, Option, Some, None, is_some, option_and_then, bytes_eq, ℕ, true≢false, inl, inr, codes, IfSome, subst, append_assoc, nat_lt, ◌<◌, slice_index, zero, suc, ltb-true, arith}
 use Rattle.std.specs.List.{list_any, list_all, All}
 use Rattle.std.specs.Str.{is_utf8}
 use Rattle.std.proofs.lemmas.Bool.{cases_Bool, and_parts, not-true}
-use Rattle.std.proofs.lemmas.List.Folds.{list_all-append}
-use Rattle.block_model.specs.declared.schema.Sizes.{Sizes}
-use Rattle.command_words.specs.declared.command.Command.TheVariants.{Run}
-use Rattle.command_words.specs.CommandWords.{Text, WordsSaid, value_of, is_number, number_of, begins_with_hyphen, size_options, sizes_of, run_with, run_of}
-use Rattle.command_words.specs.ReadingOrder.{WordsReading, nothing_read, option_in, give_number, take_option, take_named, take_free, take_word, read_words, command_of}
+use Rattle.command_words.specs.declared.command.Command.{Command}
+use Rattle.command_words.specs.CommandWords.{Text, WordsSaid, value_of, is_number, number_of, begins_with_hyphen, size_options, demo_options, CommandForm}
+use Rattle.command_words.specs.ReadingOrder.{WordsReading, nothing_read, option_in, give_number, take_option, take_named, take_free, take_word, read_words, form_named, command_of}
 use Rattle.command_words.specs.Laws.{option_words, has_no_end}
-use Rattle.command_words.proofs.RowLemmas.{given_at, text_is, same_text}
+use Rattle.command_words.proofs.RowLemmas.{given_at, text_is}
 use Rattle.command_words.proofs.TurnLemmas.{some_or_none}
 use Rattle.command_words.proofs.JudgedLemmas.{none_either}
 
 -- ---- the laws of what is read
 
-abbrev pub IsReadOnce : Text → Type 0
-IsReadOnce name = (a b : Bool) (v w : Text) (before between after : List Text) → has_no_end before ≡ true → has_no_end between ≡ true
-    → command_of (codes "run" ∷ before ++ option_words a name v ++ between ++ option_words b name w ++ after) ≡ None
+abbrev pub IsReadOnce : Text → Text → Type 0
+IsReadOnce word name = (a b : Bool) (v w : Text) (before between after : List Text) → has_no_end before ≡ true → has_no_end between ≡ true
+    → command_of (word ∷ before ++ option_words a name v ++ between ++ option_words b name w ++ after) ≡ None
 
-abbrev pub IsReadAsNumber : Text → (Sizes → ℕ) → Type 0
-IsReadAsNumber name size = (a : Bool) (digits : Text) (before after : List Text) (sizes : Sizes) (declared : List Text) → has_no_end before ≡ true
-    → command_of (codes "run" ∷ before ++ option_words a name digits ++ after) ≡ Some (Run sizes declared)
-    → (is_number digits ≡ true) × (size sizes ≡ number_of digits)
+abbrev pub IsReadAsNumber : Text → Text → (Command → Option ℕ) → Type 0
+IsReadAsNumber word name number = (a : Bool) (digits : Text) (before after : List Text) (command : Command) → has_no_end before ≡ true
+    → command_of (word ∷ before ++ option_words a name digits ++ after) ≡ Some command
+    → (is_number digits ≡ true) × (number command ≡ Some (number_of digits))
+
+-- ---- a command of a form that its word names
+
+abbrev pub IsNamed : CommandForm → Type 0
+IsNamed form = form_named form.word ≡ Some form
+
+pub command_at : (form : CommandForm) → IsNamed form → (words : List Text)
+    → command_of (form.word ∷ words) ≡ cond (list_all is_utf8 (form.word ∷ words)) (option_and_then form.meaning (read_words form.options nothing_read words)) None
+command_at form named words =
+    ap (λ (o : Option CommandForm). cond (list_all is_utf8 (form.word ∷ words)) (option_and_then (λ (f : CommandForm). option_and_then f.meaning (read_words f.options nothing_read words)) o) None) named
+
+abbrev pub Parts : CommandForm → List Text → Command → Type 0
+Parts form words command = (said : WordsSaid) × (read_words form.options nothing_read words ≡ Some said) × (form.meaning said ≡ Some command)
+
+-- words that are a command say what makes it that one
+pub form_parts : (form : CommandForm) → IsNamed form → (words : List Text) (command : Command) → command_of (form.word ∷ words) ≡ Some command → Parts form words command
+form_parts form named words command e = checked (list_all is_utf8 (form.word ∷ words)) (sym (command_at form named words) ∙ e)
+  where
+    read : (o : Option WordsSaid) → option_and_then form.meaning o ≡ Some command → (said : WordsSaid) × (o ≡ Some said) × (form.meaning said ≡ Some command)
+    read None e = cc
+    read (Some said) e = (said, refl, e)
+
+    checked : (b : Bool) → cond b (option_and_then form.meaning (read_words form.options nothing_read words)) None ≡ Some command → Parts form words command
+    checked false e = cc
+    checked true e = read (read_words form.options nothing_read words) e
 
 -- ---- what every word keeps
 
@@ -194,38 +216,21 @@ none_said : {X : Type 0} (o : Option X) → IfSome o (λ x. ⊥) → o ≡ None
 none_said None h = refl
 none_said (Some x) h = absurd h
 
-pub read_once : (name : Text) → IsOption size_options name → IsReadOnce name
-read_once name o = λ a b v w before between after free free_between.
-    let whole : Says size_options (λ s. ⊥) nothing_read (before ++ (option_words a name v ++ (between ++ (option_words b name w ++ after)))) =
-    reach size_options (λ s. Unit {0}) (λ s. ⊥) nothing_stays nothing_read before _ free refl tt
-    (λ q still u. at_option size_options name v (λ s. ⊥) o a q _ still
-    (λ p g. reach size_options (λ s. value_of name s.values ≡ Some v) (λ s. ⊥) (value_stays name v) p between _ free_between g.still g.value
-    (λ x open_still h. at_option size_options name w (λ s. ⊥) o b x after open_still
+pub read_once : (form : CommandForm) → IsNamed form → (name : Text) → IsOption form.options name → IsReadOnce form.word name
+read_once form named name o = λ a b v w before between after free free_between.
+    let whole : Says form.options (λ s. ⊥) nothing_read (before ++ (option_words a name v ++ (between ++ (option_words b name w ++ after)))) =
+    reach form.options (λ s. Unit {0}) (λ s. ⊥) nothing_stays nothing_read before _ free refl tt
+    (λ q still u. at_option form.options name v (λ s. ⊥) o a q _ still
+    (λ p g. reach form.options (λ s. value_of name s.values ≡ Some v) (λ s. ⊥) (value_stays name v) p between _ free_between g.still g.value
+    (λ x open_still h. at_option form.options name w (λ s. ⊥) o b x after open_still
     (λ y given. absurd (true≢false (sym (ap (λ (t : Option Text). is_some t) h) ∙ given.first)))))) in
     let moved = append_assoc (before ++ option_words a name v ++ between) (option_words b name w) after
     ∙ append_assoc (before ++ option_words a name v) between (option_words b name w ++ after)
     ∙ append_assoc before (option_words a name v) (between ++ (option_words b name w ++ after)) in
-    let none : read_words size_options nothing_read (before ++ option_words a name v ++ between ++ option_words b name w ++ after) ≡ None =
-    ap (read_words size_options nothing_read) moved ∙ none_said _ whole in
-    rw none (none_either _)
-
-abbrev RunParts : List Text → Sizes → List Text → Type 0
-RunParts words sizes declared = (said : WordsSaid) × (read_words size_options nothing_read words ≡ Some said) × (sizes ≡ sizes_of said) × (declared ≡ said.declared)
-
-pub run_parts : (words : List Text) (sizes : Sizes) (declared : List Text) → command_of (codes "run" ∷ words) ≡ Some (Run sizes declared) → RunParts words sizes declared
-run_parts words sizes declared e = checked (list_all is_utf8 (codes "run" ∷ words)) e
-  where
-    parts : (found d : List Text) (s : Sizes) → run_with s found ≡ Some (Run sizes d) → (sizes ≡ s) × (d ≡ found)
-    parts [] d s e = cc
-    parts (w ∷ ws) d s e = (cc, cc)
-
-    read : (o : Option WordsSaid) → option_and_then run_of o ≡ Some (Run sizes declared) → (said : WordsSaid) × (o ≡ Some said) × (sizes ≡ sizes_of said) × (declared ≡ said.declared)
-    read None e = cc
-    read (Some said) e = let p = parts said.declared declared (sizes_of said) e in (said, refl, p.0, p.1)
-
-    checked : (b : Bool) → cond b (option_and_then run_of (read_words size_options nothing_read words)) None ≡ Some (Run sizes declared) → RunParts words sizes declared
-    checked false e = cc
-    checked true e = read (read_words size_options nothing_read words) e
+    let words : List Text = before ++ option_words a name v ++ between ++ option_words b name w ++ after in
+    let none : read_words form.options nothing_read words ≡ None = ap (read_words form.options nothing_read) moved ∙ none_said _ whole in
+    command_at form named words
+    ∙ ap (λ (o : Option WordsSaid). cond (list_all is_utf8 (form.word ∷ words)) (option_and_then form.meaning o) None) none ∙ none_either (list_all is_utf8 (form.word ∷ words))
 
 said_holds : (P : WordsSaid → Type 0) (o : Option WordsSaid) (said : WordsSaid) → o ≡ Some said → IfSome o P → P said
 said_holds P None said e h = cc
@@ -240,16 +245,21 @@ number_stays name digits = record {
   word = λ said w h. h;
 }
 
-pub read_as_number : (name : Text) (size : Sizes → ℕ) (default : ℕ) → IsOption size_options name
-    → ((said : WordsSaid) → size (sizes_of said) ≡ unwrap_or (option_map number_of (value_of name said.values)) default) → IsReadAsNumber name size
-read_as_number name size default o is = λ a digits before after sizes declared free e.
-    let parts = run_parts (before ++ option_words a name digits ++ after) sizes declared e in
-    let whole : Says size_options (HasNumber name digits) nothing_read (before ++ (option_words a name digits ++ after)) =
-    reach size_options (λ s. Unit {0}) (HasNumber name digits) nothing_stays nothing_read before _ free refl tt
-    (λ q still u. at_option size_options name digits (HasNumber name digits) o a q after still
-    (λ p g. ends size_options (HasNumber name digits) (number_stays name digits) p after (g.number, g.value))) in
-    let has = said_holds (HasNumber name digits) _ parts.0 (ap (read_words size_options nothing_read) (sym (append_assoc before (option_words a name digits) after)) ∙ parts.1) whole in
-    (has.0, ap size parts.2 ∙ is parts.0 ∙ ap (λ (t : Option Text). unwrap_or (option_map number_of t) default) has.1)
+-- a command whose option has digits has their number
+abbrev pub GivesNumber : CommandForm → Text → (Command → Option ℕ) → Type 0
+GivesNumber form name number = (said : WordsSaid) (command : Command) (digits : Text) → form.meaning said ≡ Some command → value_of name said.values ≡ Some digits
+    → number command ≡ Some (number_of digits)
+
+pub read_as_number : (form : CommandForm) → IsNamed form → (name : Text) → IsOption form.options name → (number : Command → Option ℕ) → GivesNumber form name number
+    → IsReadAsNumber form.word name number
+read_as_number form named name o number gives = λ a digits before after command free e.
+    let parts = form_parts form named (before ++ option_words a name digits ++ after) command e in
+    let whole : Says form.options (HasNumber name digits) nothing_read (before ++ (option_words a name digits ++ after)) =
+    reach form.options (λ s. Unit {0}) (HasNumber name digits) nothing_stays nothing_read before _ free refl tt
+    (λ q still u. at_option form.options name digits (HasNumber name digits) o a q after still
+    (λ p g. ends form.options (HasNumber name digits) (number_stays name digits) p after (g.number, g.value))) in
+    let has = said_holds (HasNumber name digits) _ parts.0 (ap (read_words form.options nothing_read) (sym (append_assoc before (option_words a name digits) after)) ∙ parts.1) whole in
+    (has.0, gives parts.0 command digits parts.2 has.1)
 
 -- ---- a further word
 
@@ -281,51 +291,15 @@ read_last names r (v ∷ vs) word said e h = go (take_word names r.waits v r) e 
     go None e k = cc
     go (Some q) e k = k q e
 
-run_longer : (sizes : Sizes) (declared : List Text) (word : Text) → run_with sizes (declared ++ word ∷ []) ≡ Some (Run sizes (declared ++ word ∷ []))
-run_longer sizes [] word = refl
-run_longer sizes (d ∷ ds) word = refl
-
-all_utf8 : (words : List Text) (sizes : Sizes) (declared : List Text) → command_of words ≡ Some (Run sizes declared) → list_all is_utf8 words ≡ true
-all_utf8 words sizes declared e = elim (cases_Bool (list_all is_utf8 words)) [
-  | inl h ↦ h
-  | inr h ↦ let bad : None ≡ Some (Run sizes declared) = rw h at e in cc
-]
-
-pub read_further : (words : List Text) (word : Text) (sizes : Sizes) (declared : List Text) → command_of words ≡ Some (Run sizes declared) → is_utf8 word ≡ true → begins_with_hyphen word ≡ false
-    → command_of (words ++ word ∷ []) ≡ Some (Run sizes (declared ++ word ∷ []))
-read_further words word sizes declared e utf8 h = go words word sizes declared e utf8 h
-  where
-    go : (words : List Text) (word : Text) (sizes : Sizes) (declared : List Text) → command_of words ≡ Some (Run sizes declared) → is_utf8 word ≡ true → begins_with_hyphen word ≡ false
-        → command_of (words ++ word ∷ []) ≡ Some (Run sizes (declared ++ word ∷ []))
-    go [] word sizes declared e utf8 h = cc
-    go (w ∷ ws) word sizes declared e utf8 h = elim (cases_Bool (bytes_eq (codes "run") w)) [
-      | inr other ↦ let bad : None ≡ Some (Run sizes declared) = sym (none_either (list_all is_utf8 (w ∷ ws))) ∙ rw other at e in cc
-      | inl run ↦ let is = same_text (codes "run") w run in
-          subst (λ (x : Text). command_of (x ∷ ws ++ word ∷ []) ≡ Some (Run sizes (declared ++ word ∷ []))) is
-          (named (subst (λ (x : Text). command_of (x ∷ ws) ≡ Some (Run sizes declared)) (sym is) e))
-    ]
-      where
-        named : command_of (codes "run" ∷ ws) ≡ Some (Run sizes declared) → command_of (codes "run" ∷ ws ++ word ∷ []) ≡ Some (Run sizes (declared ++ word ∷ []))
-        named e =
-            let parts = run_parts ws sizes declared e in
-            let each : list_all is_utf8 (codes "run" ∷ ws ++ word ∷ []) ≡ true =
-            list_all-append is_utf8 (codes "run" ∷ ws) (word ∷ []) ∙ rw (all_utf8 (codes "run" ∷ ws) sizes declared e, utf8) refl in
-            rw (each, read_last size_options nothing_read ws word parts.0 parts.1 h) (run_longer (sizes_of parts.0) parts.0.declared word ∙ ap₂ (λ (s : Sizes) (d : List Text). Some (Run s (d ++ word ∷ []))) (sym parts.2) (sym parts.3))
+-- one declared word alone
+pub read_alone : (names : List Text) (word : Text) → begins_with_hyphen word ≡ false → read_words names nothing_read (word ∷ []) ≡ Some (record { values = []; declared = word ∷ [] })
+unfolding read_words
+read_alone names word h = rw (declared_word names word nothing_read h refl) refl
 
 pub ascii_below : (bs : Text) → list_all (λ b. nat_lt b 128) bs ≡ true → (i : ℕ) → slice_index bs i < 128
 ascii_below [] e i = omega arith
 ascii_below (b ∷ bs) e zero = ltb-true b 128 (and_parts (nat_lt b 128) (list_all (λ c. nat_lt c 128) bs) e).0
 ascii_below (b ∷ bs) e (suc i) = ascii_below bs (and_parts (nat_lt b 128) (list_all (λ c. nat_lt c 128) bs) e).1 i
-
-pub run_is_utf8 : is_utf8 (codes "run") ≡ true
-run_is_utf8 = is_utf8-from_IsUtf8 (codes "run") (IsUtf8-from_ascii (codes "run") (ascii_below (codes "run") refl))
-
-pub read_defaults : (word : Text) → is_utf8 word ≡ true → begins_with_hyphen word ≡ false
-    → command_of (codes "run" ∷ word ∷ []) ≡ Some (Run (record { heap_blocks = 4096; index_blocks = 1024; status_blocks = 4; log_pages = 128; frames = 256 }) (word ∷ []))
-unfolding read_words
-read_defaults word utf8 h =
-    let each : list_all is_utf8 (codes "run" ∷ word ∷ []) ≡ true = rw (run_is_utf8, utf8) refl in
-    rw (each, declared_word size_options word nothing_read h refl) refl
 
 -- ---- the options
 
@@ -343,6 +317,17 @@ is_log_pages = record { known = refl; one = λ v. refl; one_goes_on = λ v. refl
 
 pub is_frames : IsOption size_options (codes "frames")
 is_frames = record { known = refl; one = λ v. refl; one_goes_on = λ v. refl; two = refl; two_goes_on = refl }
+
+pub is_seed : IsOption demo_options (codes "seed")
+is_seed = record { known = refl; one = λ v. refl; one_goes_on = λ v. refl; two = refl; two_goes_on = refl }
+
+pub is_rows : IsOption demo_options (codes "rows")
+is_rows = record { known = refl; one = λ v. refl; one_goes_on = λ v. refl; two = refl; two_goes_on = refl }
+
+pub two : {X : Type 0} (P : X → Type 0) (a b : X) → P a → P b → All P (a ∷ b ∷ [])
+two P a b pa pb zero other lt = pa
+two P a b pa pb (suc zero) other lt = pb
+two P a b pa pb (suc (suc k)) other lt = absurd (omega arith)
 
 pub five : {X : Type 0} (P : X → Type 0) (a b c d e : X) → P a → P b → P c → P d → P e → All P (a ∷ b ∷ c ∷ d ∷ e ∷ [])
 five P a b c d e pa pb pc pd pe zero other lt = pa

@@ -6,7 +6,9 @@ pub mod MatchLemmas
 pub mod BuildLemmas
 pub mod NumberLemmas
 pub mod SizeLemmas
+pub mod DemoLemmas
 pub mod TextLemmas
 pub mod LawLemmas
 pub mod Spelling
+pub mod FormLemmas
 pub mod SpeltLaws

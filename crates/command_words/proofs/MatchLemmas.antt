@@ -1,5 +1,5 @@
 -- clap's clauses give the reading's answer.
-use Rattle.std.proofs.Common.{◌≡◌, ◌∙◌, refl, sym, ap, subst, List, [], true, false, Option, Some, None, inl, inr, MatchOption, codes, ◌∷◌, find, bytes_eq, option_map, option_and_then, slice_get}
+use Rattle.std.proofs.Common.{◌≡◌, ◌∙◌, ◌↔◌, refl, sym, ap, subst, List, [], Bool, true, false, true≢false, not, is_some, Option, Some, None, inl, inr, MatchOption, codes, ◌∷◌, find, bytes_eq, option_map, option_and_then, slice_get}
 use Rattle.clap.specs.Words.{App, HasMatchesOf, subcommand_rows_of, subcommand_of, is_simple, kind_of, is_simple_and_free, fault_of}
 use Rattle.clap.specs.Kinds.{Kinds, HasKind}
 use Rattle.clap.specs.declared.parser.matches.ArgMatches.{ArgMatches}
@@ -68,3 +68,11 @@ shown_some (y ∷ ys) xs e = cc
 pub shown_none : (d : List Text) → None ≡ shown d → [] ≡ d
 shown_none [] e = refl
 shown_none (y ∷ ys) e = cc
+
+pub shown_nothing : {X : Type 0} (r : Bool) (o : Option X) (texts : X → List Text) (d : List Text) → not r ≡ is_some o → option_map texts o ≡ shown d → (r ≡ true) ↔ (d ≡ [])
+shown_nothing true None texts [] n e = (λ h. refl, λ h. refl)
+shown_nothing true None texts (y ∷ ys) n e = cc
+shown_nothing true (Some x) texts d n e = absurd (true≢false (sym n))
+shown_nothing false None texts d n e = absurd (true≢false n)
+shown_nothing false (Some x) texts [] n e = cc
+shown_nothing false (Some x) texts (y ∷ ys) n e = (λ h. cc, λ h. cc)

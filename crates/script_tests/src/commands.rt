@@ -41,6 +41,21 @@ fn are_alike(words: &Words, others: &Words) -> bool {
     true
 }
 
+/// The line is `init` with those sizes and declared words.
+fn is_init(alloc: Global, line: &str, wanted: Sizes, declared: &str) -> Result<bool, NoMemory> {
+    let words = words_of(alloc, line)?;
+    let declared = words_of(alloc, declared)?;
+    match read_command(alloc, &words) {
+        Ok(
+            Command::Init {
+                sizes,
+                declarations,
+            },
+        ) => Ok(sizes == wanted && are_alike(&declarations, &declared)),
+        _ => Ok(false),
+    }
+}
+
 /// The line is `run` with those sizes and declared words.
 fn is_run(alloc: Global, line: &str, wanted: Sizes, declared: &str) -> Result<bool, NoMemory> {
     let words = words_of(alloc, line)?;
@@ -52,8 +67,67 @@ fn is_run(alloc: Global, line: &str, wanted: Sizes, declared: &str) -> Result<bo
                 declarations,
             },
         ) => Ok(sizes == wanted && are_alike(&declarations, &declared)),
-        Err(_) => Ok(false),
+        _ => Ok(false),
     }
+}
+
+fn is_stored_run(alloc: Global, words: &Words) -> bool {
+    matches!(read_command(alloc, words), Ok(Command::RunStored))
+}
+
+/// The line is `demo` with those numbers.
+fn is_demo(alloc: Global, line: &str, wanted: (u32, u32)) -> Result<bool, NoMemory> {
+    let words = words_of(alloc, line)?;
+    match read_command(alloc, &words) {
+        Ok(Command::Demo { seed, rows }) => Ok(seed == wanted.0 && rows == wanted.1),
+        _ => Ok(false),
+    }
+}
+
+const INITS: [(&str, u32, &str); 3] = [
+    (
+        "init|table t(a int8)|index i on t(a minmax)",
+        256,
+        "table t(a int8)|index i on t(a minmax)",
+    ),
+    ("init|--frames=16|init", 16, "init"),
+    ("init|t|--|-x|run", 256, "t|-x|run"),
+];
+
+#[test]
+fn init_has_sizes_and_declared_words(rt: HostRuntime) -> Result<(), Fail> {
+    let alloc = rt.alloc();
+    for (line, frames, declared) in INITS {
+        assert!(&rt;
+            is_init(alloc, line, with_frames(frames), declared)?,
+            "at {line}"
+        );
+    }
+    Ok(())
+}
+
+const DEMOS: [(&str, u32, u32); 4] = [
+    ("demo|--seed|1|--rows|20000", 1, 20_000),
+    ("demo|--rows=1|--seed=0", 0, 1),
+    ("demo|--rows=200000|--seed|1000000", 1_000_000, 200_000),
+    ("demo|--seed|007|--rows|16|--", 7, 16),
+];
+
+#[test]
+fn demo_has_its_two_numbers(rt: HostRuntime) -> Result<(), Fail> {
+    let alloc = rt.alloc();
+    for (line, seed, rows) in DEMOS {
+        assert!(&rt; is_demo(alloc, line, (seed, rows))?, "at {line}");
+    }
+    Ok(())
+}
+
+#[test]
+fn run_without_declared_words_has_no_options(rt: HostRuntime) -> Result<(), Fail> {
+    let alloc = rt.alloc();
+    assert!(&rt; is_stored_run(alloc, &words_of(alloc, "run")?));
+    assert!(&rt; is_stored_run(alloc, &words_of(alloc, "run|--")?));
+    Ok(())
 }
 
 const RUNS: [(&str, u32, &str); 9] = [
@@ -100,16 +174,31 @@ fn each_option_gives_its_size(rt: HostRuntime) -> Result<(), Fail> {
     Ok(())
 }
 
-const OTHERS: [&str; 18] = [
+const OTHERS: [&str; 32] = [
     // The command's word.
     "",
     "ru|t",
+    "threads|t",
     "--frames=16|run|t",
     "--help",
     "-V",
     // No declared word.
-    "run",
+    "init",
+    "init|--frames|16",
+    "init|--",
+    "run|--frames|16",
     "run|--frames|16|--",
+    // A demo without one of its numbers, past a limit, or with more than its numbers.
+    "demo",
+    "demo|--seed|1",
+    "demo|--rows|1",
+    "demo|--seed|1000001|--rows|1",
+    "demo|--seed|1|--rows|0",
+    "demo|--seed|1|--rows|200001",
+    "demo|--seed|1|--rows|4294967297",
+    "demo|--seed|1|--rows|1|t",
+    "demo|--seed|1|--rows|1|--frames|16",
+    "run|--seed|1|t",
     // A value that is no number.
     "run|--frames=|t",
     "run|--frames|t",
