@@ -66,3 +66,8 @@ numbers_given names values = list_all (λ n. is_number_if_given (value_of n valu
 abbrev pub size_given : ℕ → Option Text → Option ℕ
 size_given default None = Some default
 size_given default (Some text) = if is_number text then Some (number_of text) else None
+
+-- the number of an option; nothing, where it isn't given or its value is no number
+abbrev pub number_read : Option Text → Option ℕ
+number_read None = None
+number_read (Some text) = if is_number text then Some (number_of text) else None

@@ -1,13 +1,14 @@
 -- What the words of a command line ask for: a command's word, and behind it options with their numbers and declared words, in
 -- whatever order.
-use Rattle.std.specs.Prelude.{◌≡◌, ◌≢◌, ℕ, ◌+◌, ◌-◌, ◌*◌, ◌^◌, ◌==◌, min, Bool, true, false, List, [], ◌∷◌, ◌++◌, codes, find, bytes_eq, Option, Some, None, unwrap_or, option_map}
-use Rattle.std.specs.List.{list_all, flat_map, All, AllPairs, Contains}
+use Rattle.std.specs.Prelude.{◌≡◌, ◌≢◌, ℕ, ◌+◌, ◌-◌, ◌*◌, ◌^◌, ◌==◌, ◌&&◌, nat_le, min, Bool, true, false, if◌then◌else◌, List, [], ◌∷◌, ◌++◌, codes, find, bytes_eq, Option, Some, None, is_some, unwrap_or, option_map, option_and_then}
+use Rattle.std.specs.List.{list_all, list_any, flat_map, All, AllPairs, Contains}
 use Rattle.std.specs.Str.{is_utf8}
 use Rattle.block_model.specs.Names.{is_digit}
 use Rattle.block_model.specs.declared.schema.Sizes.{Sizes}
 use Rattle.command_words.specs.declared.command.Command.{Command}
 use Rattle.command_words.specs.declared.defaults.TheConstants.{HEAP_BLOCKS, INDEX_BLOCKS, STATUS_BLOCKS, LOG_PAGES, FRAMES}
-use Rattle.command_words.specs.declared.command.Command.TheVariants.{Run}
+use Rattle.command_words.specs.declared.limits.TheConstants.{MAX_SEED, MIN_ROWS, MAX_ROWS}
+use Rattle.command_words.specs.declared.command.Command.TheVariants.{Init, Run, RunStored, Demo}
 
 -- ---- one word
 
@@ -96,19 +97,31 @@ pub record AreSpelt (names words : List Text) (said : WordsSaid) : Type 0 where
   pub spelt : words ≡ spelling items last
   pub say : said ≡ said_by items last
 
--- ---- the commands
+-- ---- what was given
 
 -- the options of a store's sizes
 abbrev pub size_options : List Text
 size_options = codes "heap-blocks" ∷ codes "index-blocks" ∷ codes "status-blocks" ∷ codes "log-pages" ∷ codes "frames" ∷ []
 
+-- the options of a demo
+abbrev pub demo_options : List Text
+demo_options = codes "seed" ∷ codes "rows" ∷ []
+
 -- the digits that were given for the option
 abbrev pub value_of : Text → List (Text × Text) → Option Text
 value_of name values = option_map (λ p. p.1) (find (λ p. bytes_eq p.0 name) values)
 
+-- the number that was given for the option
+abbrev pub number_given : Text → WordsSaid → Option ℕ
+number_given name said = option_map number_of (value_of name said.values)
+
+-- one of these options was given
+abbrev pub is_any_given : List Text → WordsSaid → Bool
+is_any_given names said = list_any (λ name. is_some (value_of name said.values)) names
+
 -- the number that was given for the option, or its default
 abbrev pub size_of : Text → ℕ → WordsSaid → ℕ
-size_of name default said = unwrap_or (option_map number_of (value_of name said.values)) default
+size_of name default said = unwrap_or (number_given name said) default
 
 -- all five, with their defaults
 abbrev pub sizes_of : WordsSaid → Sizes
@@ -120,14 +133,42 @@ sizes_of said = record {
   frames = size_of (codes "frames") FRAMES said;
 }
 
--- `run` wants a declared word
-abbrev pub run_with : Sizes → List Text → Option Command
-run_with sizes [] = None
-run_with sizes (word ∷ words) = Some (Run sizes (word ∷ words))
+-- ---- the commands
+
+-- `init` wants a declared word
+abbrev pub init_with : Sizes → List Text → Option Command
+init_with sizes [] = None
+init_with sizes (word ∷ words) = Some (Init sizes (word ∷ words))
+
+-- `init` with what its words have said
+abbrev pub init_of : WordsSaid → Option Command
+init_of said = init_with (sizes_of said) said.declared
+
+-- `run` over the store that stands there takes no option
+abbrev pub stored_with : Bool → Option Command
+stored_with is_given = if is_given then None else Some RunStored
+
+-- `run` makes a store of the declared words, where it has any
+abbrev pub run_with : Bool → Sizes → List Text → Option Command
+run_with is_given sizes [] = stored_with is_given
+run_with is_given sizes (word ∷ words) = Some (Run sizes (word ∷ words))
 
 -- `run` with what its words have said
 abbrev pub run_of : WordsSaid → Option Command
-run_of said = run_with (sizes_of said) said.declared
+run_of said = run_with (is_any_given size_options said) (sizes_of said) said.declared
+
+-- a demo's numbers are within their limits
+abbrev pub is_demo : ℕ → ℕ → Bool
+is_demo seed rows = nat_le seed MAX_SEED && (nat_le MIN_ROWS rows && nat_le rows MAX_ROWS)
+
+-- a demo declares nothing
+abbrev pub demo_with : ℕ → ℕ → List Text → Option Command
+demo_with seed rows [] = if is_demo seed rows then Some (Demo seed rows) else None
+demo_with seed rows (word ∷ words) = None
+
+-- `demo` with what its words have said: it wants both of its numbers
+abbrev pub demo_of : WordsSaid → Option Command
+demo_of said = option_and_then (λ seed. option_and_then (λ rows. demo_with seed rows said.declared) (number_given (codes "rows") said)) (number_given (codes "seed") said)
 
 -- a command: its word, the names of its options, and what it is by what its words say
 pub record CommandForm : Type 0 where
@@ -135,13 +176,21 @@ pub record CommandForm : Type 0 where
   pub options : List Text
   pub meaning : WordsSaid → Option Command
 
--- `run [options] DECL...`
+-- `init [options] DECL...`
+abbrev pub init_form : CommandForm
+init_form = record { word = codes "init"; options = size_options; meaning = init_of }
+
+-- `run [options] [DECL...]`
 abbrev pub run_form : CommandForm
 run_form = record { word = codes "run"; options = size_options; meaning = run_of }
 
+-- `demo --seed N --rows M`
+abbrev pub demo_form : CommandForm
+demo_form = record { word = codes "demo"; options = demo_options; meaning = demo_of }
+
 -- the commands that there are
 abbrev pub commands : List CommandForm
-commands = run_form ∷ []
+commands = init_form ∷ run_form ∷ demo_form ∷ []
 
 -- The words are a command: its word, in full, and behind it words that say so. Each is UTF-8.
 pub record IsCommand (words : List Text) (command : Command) : Type 0 where

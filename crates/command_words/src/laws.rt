@@ -1,6 +1,6 @@
 //! What the words of a command mean.
 
-ghost use Rattle.command_words.specs.Laws.{FurtherWordIsDeclaredLast, OptionsHaveTheirNumbers, OptionsStandOnce, OrderSaysNothing, SizesHaveDefaults, WordsAreOneCommand};
+ghost use Rattle.command_words.specs.Laws.{DemosHaveLimits, FurtherWordIsDeclaredLast, OptionsHaveTheirNumbers, OptionsStandOnce, OrderSaysNothing, SizesHaveDefaults, StoredRunIsBare, WordsAreOneCommand};
 
 /// No words are two commands.
 pub fn words_are_one_command()
@@ -17,7 +17,7 @@ pub fn options_stand_once()
     ensures { OptionsStandOnce }
 {}
 
-/// An option that stands in the words gives its size the number of its digits.
+/// An option that stands in the words gives its command the number of its digits.
 pub fn options_have_their_numbers()
     ensures { OptionsHaveTheirNumbers }
 {}
@@ -30,4 +30,14 @@ pub fn further_word_is_declared_last()
 /// Where no option stands, the sizes are the defaults.
 pub fn sizes_have_defaults()
     ensures { SizesHaveDefaults }
+{}
+
+/// `run` without a declared word takes no option, and is that word alone, or with `--` behind it.
+pub fn stored_run_is_bare()
+    ensures { StoredRunIsBare }
+{}
+
+/// A demo's seed goes to 1000000 and its rows from 1 to 200000; what is past them is no demo, and what is within them is one.
+pub fn demos_have_limits()
+    ensures { DemosHaveLimits }
 {}

@@ -1,11 +1,11 @@
 //! What clap finds in words.
 
-ghost use Rattle.std.specs.Prelude.{◌≡◌, IfOk, IfErr, MatchOption, map, false, true, Some, None, option_map, bytes_eq, codes};
+ghost use Rattle.std.specs.Prelude.{◌≡◌, ◌↔◌, [], IfOk, IfErr, MatchOption, map, false, true, Some, None, option_map, bytes_eq, codes, is_some};
 ghost use Rattle.clap.specs.Words.{found_of, rows_of, subcommand_rows_of};
 ghost use Rattle.command_words.specs.ClapCommands.{Enters, command_said, program_subs};
-ghost use Rattle.command_words.specs.ClapReading.{has_no_single_hyphen, numbers_given, size_given};
+ghost use Rattle.command_words.specs.ClapReading.{has_no_single_hyphen, number_read, numbers_given, size_given};
 ghost use Rattle.command_words.specs.ClapRules.{RowsShow, declared_id};
-ghost use Rattle.command_words.specs.CommandWords.{WordsSaid, Text, size_options, sizes_of, value_of};
+ghost use Rattle.command_words.specs.CommandWords.{WordsSaid, Text, is_any_given, size_options, sizes_of, value_of};
 ghost use Rattle.command_words.specs.declared.command.CommandFault.TheVariants.{Usage};
 
 use crate::command::CommandFault;
@@ -56,11 +56,46 @@ fn size_in(matches: &ArgMatches<'_>, name: &str, default: u32) -> Option<u32>
     }
 }
 
+/// One of the sizes has an option.
+pub fn has_size(matches: &ArgMatches<'_>) -> bool
+    ensures { (said : WordsSaid) → RowsShow (rows_of (found_of matches.now)) said → result ≡ is_any_given size_options said }
+{
+    is_given(matches, "heap-blocks")
+        || is_given(matches, "index-blocks")
+        || is_given(matches, "status-blocks")
+        || is_given(matches, "log-pages")
+        || is_given(matches, "frames")
+}
+
+/// The option stands in the words.
+fn is_given(matches: &ArgMatches<'_>, name: &str) -> bool
+    ensures { (said : WordsSaid) → RowsShow (rows_of (found_of matches.now)) said → bytes_eq declared_id name.now ≡ false → result ≡ is_some (value_of name.now said.values) }
+{
+    value_in(matches, name).is_some()
+}
+
+/// The number of the option. None where it isn't given, and where its value is no number.
+pub fn number_in(matches: &ArgMatches<'_>, name: &str) -> Option<u32>
+    ensures { (said : WordsSaid) → RowsShow (rows_of (found_of matches.now)) said → bytes_eq declared_id name.now ≡ false → result ≡ number_read (value_of name.now said.values) }
+{
+    match value_in(matches, name) {
+        Some(value) => read_number(value.as_bytes()),
+        None => None,
+    }
+}
+
 /// The value that was given for the option.
 fn value_in<'a>(matches: &ArgMatches<'a>, name: &str) -> Option<&'a str>
     ensures { (said : WordsSaid) → RowsShow (rows_of (found_of matches.now)) said → bytes_eq declared_id name.now ≡ false → option_map (λ s. s.now) result ≡ value_of name.now said.values }
 {
     matches.get_str(name)
+}
+
+/// No word is declared.
+pub fn declares_nothing(matches: &ArgMatches<'_>) -> bool
+    ensures { (said : WordsSaid) → RowsShow (rows_of (found_of matches.now)) said → (result ≡ true) ↔ (said.declared ≡ []) }
+{
+    matches.get_raw(DECLARED).is_none()
 }
 
 /// The declared words, in their order.

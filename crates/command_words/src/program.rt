@@ -20,11 +20,16 @@ static SIZE_OPTIONS: [&str; 5] = [
     "frames",
 ];
 
+/// The options of a demo.
+static DEMO_OPTIONS: [&str; 2] = ["seed", "rows"];
+
 /// The program's command line.
 pub fn program<'a>(alloc: Global) -> Result<Command<'a>, AllocError>
     ensures { IfOk result (λ c. app_of c ≡ raw_app (codes "brin") program_subs) }
 {
-    with_command(alloc, no_commands(alloc), "run", SIZE_OPTIONS.as_slice())
+    let with_init = with_command(alloc, no_commands(alloc), "init", SIZE_OPTIONS.as_slice())?;
+    let with_run = with_command(alloc, with_init, "run", SIZE_OPTIONS.as_slice())?;
+    with_command(alloc, with_run, "demo", DEMO_OPTIONS.as_slice())
 }
 
 /// A command line with no command: no help, no version, and one command is wanted.
