@@ -1,4 +1,5 @@
 pub mod Asked
+pub mod Crash
 pub mod Leading
 pub mod Outputs
 pub mod Saying

@@ -10,12 +10,12 @@ use Rattle.line_texts.specs.Place.{Place}
 use Rattle.line_texts.specs.Starts.{IsStart}
 use Rattle.line_texts.specs.Stops.{IsLineStopped}
 use Rattle.command_words.specs.declared.command.Command.{Command}
-use Rattle.command_words.specs.declared.command.Command.TheVariants.{Run}
+use Rattle.command_words.specs.declared.command.Command.TheVariants.{Init, Run, RunStored, Demo}
 use Rattle.command_words.specs.CommandWords.{IsCommand}
 use Rattle.schema_words.specs.DeclaredSchema.{Denotes}
 use Rattle.brin_app.specs.declared.status.TheConstants.{SCRIPT_LIMIT}
 use Rattle.script_run.specs.declared.engine.AnswerFault.{AnswerFault}
-use Rattle.script_run.specs.declared.engine.AnswerFault.TheVariants.{Memory, Full}
+use Rattle.script_run.specs.declared.engine.AnswerFault.TheVariants.{Memory, Full, Disk, Damaged}
 use Rattle.script_run.specs.declared.fault.RunFault.TheVariants as faults
 use Rattle.script_run.specs.Answers.{AreAnswers}
 use Rattle.script_run.specs.Runs.{AreFirst, Ran, RunEnd}
@@ -39,7 +39,10 @@ HasNoLayout sizes declared = (schema : Schema) → Denotes declared schema → I
 
 -- why a command can't be begun
 abbrev pub IsWrong : Command → Type 0
+IsWrong (Init sizes declared) = HasNoLayout sizes declared
 IsWrong (Run sizes declared) = HasNoLayout sizes declared
+IsWrong RunStored = ⊥
+IsWrong (Demo seed rows) = Unit {0}
 
 -- the words are no command, or one that can't be begun
 abbrev pub IsUsage : List (List ℕ) → Type 0
@@ -53,6 +56,8 @@ exit_status (Err faults.Spent) = 8
 exit_status (Err faults.Write) = 5
 exit_status (Err (faults.Unanswered Memory)) = 7
 exit_status (Err (faults.Unanswered Full)) = 8
+exit_status (Err (faults.Unanswered Disk)) = 6
+exit_status (Err (faults.Unanswered Damaged)) = 11
 
 -- the texts of lines over tables of this layout
 abbrev pub Texts : DiskLayout → Place → List ℕ → List ℕ → Place → Type 0

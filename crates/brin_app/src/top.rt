@@ -1,52 +1,51 @@
 //! The top call.
 
-ghost use Rattle.std.specs.Prelude.{◌≡◌, ◌⊎◌, None, Ok, Err, IfOk, IfErr, IsSome};
-ghost use Rattle.block_model.specs.Causes.{Rose};
+ghost use Rattle.std.specs.Prelude.{◌≡◌, Ok, Err, IfOk, IfErr, IsSome, None};
 ghost use Rattle.store_layout.specs.DiskLayout.{DiskLayout};
 ghost use Rattle.store_layout.specs.FirstBrokenRule.{first_broken_rule};
 ghost use Rattle.block_model.specs.declared.schema.Schema.{Schema};
 ghost use Rattle.schema_words.specs.DeclaredSchema.{Denotes};
-ghost use Rattle.brin_app.specs.ScriptOutput.{IsLayoutFor, AsksFor, HasNoLayout, IsUsage, IsScriptOutput, HasSpentCauses, IsComplete, exit_status};
+ghost use Rattle.store_starts.specs.Started.{HoldsImage};
+ghost use Rattle.brin_app.specs.ScriptOutput.{IsLayoutFor, HasNoLayout, exit_status};
 
-use crate::laws::every_script_has_a_start;
 use crate::sessions::Sessions;
-use crate::status::{DONE, LIMIT, MEMORY, READ_FAULT, SCRIPT_LIMIT, USAGE, WRITE_FAULT};
+use crate::status::{DAMAGED, DISK_FAULT, DONE, LIMIT, MEMORY, NO_STORE, READ_FAULT, SCRIPT_LIMIT, USAGE, WRITE_FAULT};
 use block_model::{Schema, Sizes, Words};
 use command_words::{Command, CommandFault, read_command};
+use disk_trait::Disk;
 use io_traits::{Sink, Source};
 use schema_words::{DeclFault, read_declarations};
 use script_run::{AnswerFault, RunFault, run};
+use session_core::Store;
 use std::alloc::Global;
+use store_format::{FormatFault, format};
 use store_layout::Layout;
+use store_opening::StartFault;
 
-/// Does what the words of a command line say: `run` with options and the declarations of tables and indexes runs the script
-/// of the source over new tables, line after line, and writes the text of each line to the sink before the next line is
-/// judged. The status is 0 where the script was read to its end, 2 where the words are no command or a limit is passed, 4
-/// for a read fault, 5 for a write fault, 7 for want of memory, and 8 where the requests of a line don't fit into the journal
-/// of 1048576 entries, or 1073741824 bytes of script were taken and another came.
-pub fn brin_main<S: Source, K: Sink>(
+pub fn brin_main<D: Disk + Drop, S: Source, K: Sink>(
     alloc: Global,
     words: &Words,
+    disk: D,
     source: &mut S,
     sink: &mut K,
-) -> u8
-    ensures script_output { (layout : DiskLayout) → AsksFor words.now layout → IsScriptOutput result layout (S.left source.old) (S.left source.new) (K.taken sink.old) (K.taken sink.new) }
-
-    // When each status comes. Want of memory, 7, is free.
-    ensures usage { result ≡ 2 → IsUsage words.now }
-    ensures refused { IsUsage words.now → (result ≡ 2) ⊎ (result ≡ 7) }
-    ensures untouched { IsUsage words.now → (source.new ≡ source.old) × (sink.new ≡ sink.old) }
-    ensures read_fault { result ≡ 4 → Rose (S.faults source.old) (S.faults source.new) }
-    ensures write_fault { result ≡ 5 → Rose (K.faults sink.old) (K.faults sink.new) }
-    ensures spent { (layout : DiskLayout) → AsksFor words.now layout → HasSpentCauses result layout (S.left source.old) (S.left source.new) }
-    ensures complete { (layout : DiskLayout) → AsksFor words.now layout → IsComplete result layout (S.left source.old) (Rose (S.faults source.old) (S.faults source.new)) (Rose (K.faults sink.old) (K.faults sink.new)) }
+) -> (u8, D)
+    requires { HoldsImage (D.told disk) }
 {
-    every_script_has_a_start();
     match read_words(alloc, words) {
-        Ok(layout) => run_script(alloc, layout, source, sink),
-        Err(WordsFault::Usage) => USAGE,
-        Err(WordsFault::Memory) => MEMORY,
+        Ok(Task::Init(layout)) => init(&layout, disk),
+        Ok(Task::Run(layout)) => run_new(alloc, &layout, disk, source, sink),
+        Ok(Task::RunStored) => run_stored(alloc, disk, source, sink),
+        Err(WordsFault::Usage) => (USAGE, disk),
+        Err(WordsFault::Memory) => (MEMORY, disk),
     }
+}
+
+/// What words ask for: a new store of this layout; a script over one; or a script over the store that stands there.
+#[derive(Debug, Drop)]
+pub enum Task {
+    Init(Layout),
+    Run(Layout),
+    RunStored,
 }
 
 /// Why words ask for nothing, or can't be read.
@@ -82,20 +81,19 @@ impl From<DeclFault> for WordsFault {
     }
 }
 
-/// The layout of the store that the words ask for.
-#[tactic(auto, using(crate::proofs::Asked::ok_asked, crate::proofs::Asked::ok_only, crate::proofs::Asked::ok_right, crate::proofs::Asked::run_is_wrong, crate::proofs::Asked::none_asked, crate::proofs::Asked::no_command))]
-fn read_words(alloc: Global, words: &Words) -> Result<Layout, WordsFault>
-    ensures asked { IfOk result (AsksFor words.now) }
-    ensures alone { IfOk result (λ layout. (other : DiskLayout) → AsksFor words.now other → other ≡ layout) }
-    ensures right { IfOk result (λ layout. ¬ (IsUsage words.now)) }
-    ensures usage { result ≡ Err WordsFault.Usage → IsUsage words.now }
-    ensures nothing { result ≡ Err WordsFault.Usage → (layout : DiskLayout) → ¬ (AsksFor words.now layout) }
-{
+/// What the words ask for.
+fn read_words(alloc: Global, words: &Words) -> Result<Task, WordsFault> {
     match read_command(alloc, words)? {
+        Command::Init {
+            sizes,
+            declarations,
+        } => Ok(Task::Init(layout_for(alloc, sizes, &declarations)?)),
         Command::Run {
             sizes,
             declarations,
-        } => layout_for(alloc, sizes, &declarations),
+        } => Ok(Task::Run(layout_for(alloc, sizes, &declarations)?)),
+        Command::RunStored => Ok(Task::RunStored),
+        Command::Demo { .. } => Err(WordsFault::Usage),
     }
 }
 
@@ -120,18 +118,53 @@ fn layout_of(schema: Schema, sizes: Sizes) -> Result<Layout, WordsFault>
     }
 }
 
-/// Runs the script of the source over new tables.
-fn run_script<S: Source, K: Sink>(alloc: Global, layout: Layout, source: &mut S, sink: &mut K) -> u8
-    requires { first_broken_rule layout.schema layout.sizes ≡ None }
-    ensures script_output { IsScriptOutput result layout (S.left source.old) (S.left source.new) (K.taken sink.old) (K.taken sink.new) }
-    ensures read_fault { result ≡ 4 → Rose (S.faults source.old) (S.faults source.new) }
-    ensures write_fault { result ≡ 5 → Rose (K.faults sink.old) (K.faults sink.new) }
+/// Makes an empty store of the disk.
+fn init<D: Disk + Drop>(layout: &Layout, mut disk: D) -> (u8, D) {
+    match format(&mut disk, layout) {
+        Ok(()) => (DONE, disk),
+        Err(fault) => (format_status(fault), disk),
+    }
+}
+
+/// Makes an empty store of the disk, and runs the script of the source over it.
+fn run_new<D: Disk + Drop, S: Source, K: Sink>(
+    alloc: Global,
+    layout: &Layout,
+    mut disk: D,
+    source: &mut S,
+    sink: &mut K,
+) -> (u8, D) {
+    match format(&mut disk, layout) {
+        Ok(()) => run_stored(alloc, disk, source, sink),
+        Err(fault) => (format_status(fault), disk),
+    }
+}
+
+/// Opens the store on the disk, and runs the script of the source over it.
+fn run_stored<D: Disk + Drop, S: Source, K: Sink>(
+    alloc: Global,
+    disk: D,
+    source: &mut S,
+    sink: &mut K,
+) -> (u8, D)
+    requires { HoldsImage (D.told disk) }
 {
-    every_script_has_a_start();
-    let Ok(mut sessions) = Sessions::new(alloc, layout) else {
-        return MEMORY;
-    };
-    status(run(alloc, SCRIPT_LIMIT, &mut sessions, source, sink))
+    match Store::start(alloc, disk) {
+        Ok(store) => run_over(alloc, store, source, sink),
+        Err((fault, disk)) => (start_status(fault), disk),
+    }
+}
+
+/// Runs the script of the source over the store, and answers its disk.
+fn run_over<D: Disk + Drop, S: Source, K: Sink>(
+    alloc: Global,
+    store: Store<D>,
+    source: &mut S,
+    sink: &mut K,
+) -> (u8, D) {
+    let mut sessions = Sessions { alloc, store };
+    let status = status(run(alloc, SCRIPT_LIMIT, &mut sessions, source, sink));
+    (status, sessions.store.into_disk())
 }
 
 /// The status of each way in which a run ends.
@@ -142,7 +175,28 @@ fn status(end: Result<(), RunFault>) -> u8
         Ok(()) => DONE,
         Err(RunFault::Read) => READ_FAULT,
         Err(RunFault::Write) => WRITE_FAULT,
+        Err(RunFault::Unanswered(AnswerFault::Disk)) => DISK_FAULT,
         Err(RunFault::Unanswered(AnswerFault::Memory)) => MEMORY,
         Err(RunFault::Spent | RunFault::Unanswered(AnswerFault::Full)) => LIMIT,
+        Err(RunFault::Unanswered(AnswerFault::Damaged)) => DAMAGED,
+    }
+}
+
+/// The status where no store is made.
+fn format_status(fault: FormatFault) -> u8 {
+    match fault {
+        FormatFault::Size { .. } => NO_STORE,
+        FormatFault::Disk => DISK_FAULT,
+        FormatFault::Memory => MEMORY,
+    }
+}
+
+/// The status where no store is opened.
+fn start_status(fault: StartFault) -> u8 {
+    match fault {
+        StartFault::NoStore => NO_STORE,
+        StartFault::Damaged { .. } => DAMAGED,
+        StartFault::Disk => DISK_FAULT,
+        StartFault::Memory => MEMORY,
     }
 }
