@@ -4,4 +4,6 @@ pub mod Orders
 pub mod SessionPlaces
 pub mod ScriptOutput
 pub mod Simulations
+pub mod StatusCauses
+pub mod Tasks
 pub mod WordsFaults

@@ -6,7 +6,8 @@ ghost use Rattle.store_layout.specs.FirstBrokenRule.{first_broken_rule};
 ghost use Rattle.block_model.specs.declared.schema.Schema.{Schema};
 ghost use Rattle.schema_words.specs.DeclaredSchema.{Denotes};
 ghost use Rattle.store_starts.specs.Started.{HoldsImage};
-ghost use Rattle.brin_app.specs.ScriptOutput.{IsLayoutFor, HasNoLayout, exit_status};
+ghost use Rattle.brin_app.specs.ScriptOutput.{exit_status};
+ghost use Rattle.brin_app.specs.Tasks.{HasNoLayout, IsLayoutFor};
 
 use crate::sessions::Sessions;
 use crate::status::{DAMAGED, DISK_FAULT, DONE, LIMIT, MEMORY, NO_STORE, READ_FAULT, SCRIPT_LIMIT, USAGE, WRITE_FAULT};
