@@ -226,7 +226,10 @@ named_keeps p name = record { layout = refl; opening = refl; journal = refl }
 pub naming_keeps : (p q : Place) (name : List ℕ) → q ≡ named p name → KeepsJournal p q
 naming_keeps p q name is = subst (KeepsJournal p) (sym is) (named_keeps p name)
 
+submission_keeps : (p : Place) (n : ℕ) (statement : Statement) (refusal : Option Refusal) (q : Place) → Submits p n statement refusal q → KeepsJournal p q
+submission_keeps p n statement _ _ (Taken none) = record { layout = refl; opening = refl; journal = refl }
+submission_keeps p n statement _ _ (NotTaken refusal is) = record { layout = refl; opening = refl; journal = refl }
+submission_keeps p n statement _ _ (WantsMemory none may) = record { layout = refl; opening = refl; journal = refl }
+
 pub submit_keeps : (p q : Place) (n : ℕ) (statement : Statement) (refusal : Option Refusal) → Submits p n statement refusal q → KeepsJournal p q
-submit_keeps p _ n statement _ (Taken none) = record { layout = refl; opening = refl; journal = refl }
-submit_keeps p _ n statement _ (NotTaken refusal is) = record { layout = refl; opening = refl; journal = refl }
-submit_keeps p _ n statement _ (WantsMemory none may) = record { layout = refl; opening = refl; journal = refl }
+submit_keeps p q n statement refusal submits = submission_keeps p n statement refusal q submits

@@ -6,7 +6,7 @@ ghost use Rattle.session_core.specs.Sessions.{NamesASession};
 ghost use Rattle.query_words.specs.LineFits.{IsOrderFor};
 ghost use Rattle.statements.specs.StatementFits.{IsStatementFor};
 ghost use Rattle.brin_app.specs.Leading.{PlacesLead, PlacesStop};
-ghost use Rattle.brin_app.specs.Orders.{IsCutShort, DoesSo, FinishesSo, IsHalted, IsInHandStill, IsNotMade, StepsSo, step_answer};
+ghost use Rattle.brin_app.specs.Orders.{IsCutShort, DoesSo, FinishesSo, IsHalted, IsInHandStill, IsNotMade, StepsSo, fault_of_step, step_answer};
 
 use block_model::{Point, Refusal, Reply};
 use disk_trait::Disk;
@@ -124,7 +124,6 @@ fn finish<D: Disk + Drop>(store: &mut Store<D>, session: u32) -> Result<Answer, 
 }
 
 /// Makes one step of the session's statement.
-#[tactic(none)]
 fn step<D: Disk + Drop>(store: &mut Store<D>, session: u32) -> Result<Answer, AnswerFault>
     requires hand { IsSome (hand_at store.old session) }
     ensures names { store.new.names ≡ store.old.names }
