@@ -1,6 +1,11 @@
 pub mod Asked
+pub mod Crash
+pub mod Doing
 pub mod Leading
+pub mod Making
 pub mod Outputs
+pub mod Performed
+pub mod Running
 pub mod Saying
 pub mod Simulated
 pub mod Starting

@@ -1,33 +1,43 @@
 -- steps of a store as those of the definition of texts
-use Rattle.std.proofs.Common.{◌≡◌, ◌≢◌, ℕ, List, Option, None, Some, false, refl, sym, subst}
-use Rattle.std.specs.Prelude.{IfErr, IsSome, OnErr, Result, Ok, Err}
+use Rattle.std.proofs.Common.{◌≡◌, ◌≢◌, ◌∙◌, ℕ, List, Option, None, Some, IfSome, false, refl, sym, subst}
+use Rattle.std.specs.Prelude.{IsSome, Result, Ok, Err}
 use Rattle.std.specs.Option.{is_some}
 use Rattle.std.proofs.lemmas.Bool.{false≢true}
+use Rattle.std.proofs.lemmas.Option.{none-some}
+use Rattle.disk_trait.specs.Told.{Told}
+use Rattle.page_store.specs.Keeps.{Leaves, Tells}
 use Rattle.block_model.specs.declared.reply.Point.{Point}
 use Rattle.block_model.specs.declared.reply.Refusal.{Refusal}
 use Rattle.block_model.specs.declared.reply.Refusal.TheVariants as refusals
 use Rattle.statements.specs.declared.statement.Statement.{Statement}
 use Rattle.query_words.specs.declared.line.Order.TheVariants as orders
 use Rattle.script_run.specs.declared.engine.AnswerFault.{AnswerFault}
-use Rattle.script_run.specs.declared.engine.AnswerFault.TheVariants.{Full}
+use Rattle.script_run.specs.declared.engine.AnswerFault.TheVariants.{Memory, Full, Disk, Damaged}
 use Rattle.table_coverage.specs.Accounts.{Account}
-use Rattle.line_texts.specs.LineTexts.{Finishes, LastStep, Further, Starts, RefusesStart, StepsOnce, IsFinished, NoStep, NoFinish, Plain, RefusesPlain, Submits}
+use Rattle.line_texts.specs.LineTexts.{NotTaken, Taken, WantsMemory, named, Finishes, LastStep, Further, Starts, RefusesStart, StepsOnce, IsFinished, NoStep, NoFinish, Plain, RefusesPlain, Submits}
 use Rattle.line_texts.specs.Place.{Hand as HandAt, Place}
-use Rattle.line_texts.specs.StatementSteps.{Outcome, Moved, Ended, Waits, Steps, LacksRoom}
+use Rattle.line_texts.specs.Laws.{EntersItsOwn}
+use Rattle.line_texts.specs.StatementSteps.{Outcome, Moved, Ended, Waits, Steps, LacksRoom, StepsTo, GoesOn, Replies, MeetsConflict, IsRefused, AtOnce, NothingAsked, LacksMemoryAtOnce, NoNumber, IsWaiting}
 use Rattle.line_texts.specs.Stops.{ComesTo, OfStep, OfFinish, OfPlain, MovedTo, Still, OnTo}
 use Rattle.store_parts.specs.declared.faults.Step.{Step}
 use Rattle.store_parts.specs.declared.faults.Step.TheVariants as steps
+use Rattle.store_parts.specs.declared.faults.StoreFault.{StoreFault}
 use Rattle.store_parts.specs.declared.faults.StoreFault.TheVariants as stops
 use Rattle.store_parts.specs.declared.hand.Hand.{Hand}
 use Rattle.store_parts.specs.Hands.{HandShows}
 use Rattle.store_parts.specs.ShowsPlace.{ShowsPlace}
-use Rattle.store_parts.specs.StepIs.{StepIs}
+use Rattle.store_parts.specs.StepAnswers.{HasFaultCause, StaysReady}
+use Rattle.store_parts.specs.StepIs.{LeadsOn, StepIs}
+use Rattle.store_images.specs.ImageLaws.{ShownIsImage, StepCommits}
+use Rattle.store_images.specs.StopRule.{AllHaveTable, StopsWhole}
+use Rattle.store_images.specs.Stops.{StopsSo}
 use Rattle.store_parts.specs.StoreStates.{StoreState, hand_at}
 use Rattle.brin_app.specs.declared.orders.Answer.{Answer}
 use Rattle.brin_app.specs.declared.orders.Answer.TheVariants as answers
-use Rattle.brin_app.specs.Leading.{PlacesLead}
-use Rattle.brin_app.specs.Orders.{DoesSo, FinishesSo, IsCutShort, IsHalted, IsNotMade, StepsSo, step_answer}
-use Rattle.brin_app.proofs.Leading.{led_as}
+use Rattle.brin_app.specs.CrashRule.{IsFurther}
+use Rattle.brin_app.specs.Leading.{PlacesLead, PlacesStop}
+use Rattle.brin_app.specs.Orders.{DoesSo, FinishesSo, IsCutShort, IsHalted, IsNotMade, StepsSo, fault_of_step, step_answer}
+use Rattle.brin_app.proofs.Crash.{KeepsJournal, answered_between, failed_amid, passes_in_hand, still, unmade_between}
 
 -- ---- one step
 
@@ -36,10 +46,89 @@ step_told n names (steps.Moved point) p q same is = is
 step_told n names (steps.Done reply) p q same is = is
 step_told n names (steps.Blocked what by) p q same is = subst (λ (l : List (List ℕ)). StepsSo n (step_answer l (steps.Blocked what by)) p q) same is
 
-pub not_made : (n entries : ℕ) (p q : Place) → StepIs p n (Err (stops.Spent entries)) q → IsNotMade n p q
-not_made n entries p q is = (subst (λ (r : Place). LacksRoom r n) (sym is.2) is.0, is.2)
+-- a step enters requests, and changes neither layout nor opening
+same_opening : (p : Place) (n : ℕ) (hand : HandAt) (outcome : Outcome) (q : Place) → StepsTo p n hand outcome q → (q.layout ≡ p.layout) × (q.opening ≡ p.opening)
+same_opening p n hand _ _ (GoesOn point c q turn named on made leads) = (leads.layout, leads.opening)
+same_opening p n hand _ _ (Replies point c reply q turn named rests all replied leads) = (leads.layout, leads.opening)
+same_opening p n hand _ _ (MeetsConflict id c q turn named all replied leads) = (leads.layout, leads.opening)
+same_opening p n hand _ _ (IsRefused why tag told q turn named so leads) = (leads.layout, leads.opening)
+same_opening p n hand _ _ (AtOnce c reply q once all replied stay leads) = (leads.layout, leads.opening)
+same_opening p n hand _ _ (NothingAsked q work rest empty stay leads) = (leads.layout, leads.opening)
+same_opening p n hand _ _ (LacksMemoryAtOnce q looking rest stay leads) = (leads.layout, leads.opening)
+same_opening p n hand _ _ (NoNumber q begin next stay leads) = (leads.layout, leads.opening)
+same_opening p n hand _ _ (IsWaiting table told on own blocked waits) = (refl, refl)
+
+abbrev pub EnterTheirOwn : Type 0
+EnterTheirOwn = (p q : Place) (n : ℕ) (hand : HandAt) (outcome : Outcome) → StepsTo p n hand outcome q → EntersItsOwn p n q
+
+steps_further : (p q : Place) (n : ℕ) (outcome : Outcome) → EnterTheirOwn → Steps p n outcome q → IsFurther p q
+steps_further p q n outcome law steps =
+    let same = same_opening p n steps.hand outcome q steps.steps in
+    let own = law p q n steps.hand outcome steps.steps in
+    record { layout = same.0; opening = same.1; more = own.entries; journal = own.behind }
+
+step_further : (p q : Place) (n : ℕ) (step : Step) → EnterTheirOwn → StepIs p n (Ok step) q → IsFurther p q
+step_further p q n (steps.Moved point) law is = steps_further p q n _ law is
+step_further p q n (steps.Done reply) law is = steps_further p q n _ law is
+step_further p q n (steps.Blocked what by) law is = steps_further p q n _ law is
+
+module _ {D : Type 0} (told : D → Told) (shown_law : ShownIsImage) (commit_law : StepCommits) (own_law : EnterTheirOwn) (s s' : StoreState D) (n : ℕ) (leaves : Leaves told s.pages s'.pages) where
+  pub step_led : (step : Step) → LeadsOn told s s' (λ p q. StepIs p n (Ok step) q) → StaysReady s.pages s'.pages → s'.names ≡ s.names
+      → ((p : Place) → ShowsPlace s p → AllHaveTable told s.pages p → StopsWhole told s s' p n (Ok step)) → PlacesLead told s s' (StepsSo n (step_answer s'.names step))
+  step_led step leads ready names whole = record {
+    leaves = leaves;
+    ready = λ _. ready.1;
+    places = λ tells was p shown.
+        let far = leads tells was ready.1 p shown in
+        let further = step_further p far.0 n step own_law far.2 in
+        record {
+          place = far.0;
+          shown = far.1;
+          so = step_told n s'.names step p far.0 (shown.names ∙ sym names) far.2;
+          further = further;
+          stops = answered_between told s s' p n far.0 step further commit_law far.2 ready.1 far.1 (whole p shown);
+        };
+  }
+
+  pub step_unmade : (fault : StoreFault) → LeadsOn told s s' (λ p q. StepIs p n (Err fault) q) → HasFaultCause told s.pages s'.pages fault → IsSome (hand_at s n)
+      → IfSome (hand_at s n) (λ hand. StopsSo told s.transactions n s.pages s'.pages hand (Err fault)) → ((p : Place) → ShowsPlace s p → AllHaveTable told s.pages p → StopsWhole told s s' p n (Err fault))
+      → PlacesStop told s s' (fault_of_step fault) (IsNotMade n (fault_of_step fault))
+  step_unmade (stops.Spent entries) leads cause hand survives whole = record {
+    leaves = leaves;
+    cause = tt;
+    places = λ tells was p shown.
+        let far = leads tells was cause.1 p shown in
+        record {
+          place = p;
+          so = (far.2.0, refl);
+          further = still p;
+          left = (
+            subst (λ (r : Place). ShowsPlace s' r) far.2.2 far.1,
+            unmade_between told s s' p shown_law shown (passes_in_hand told s.transactions n entries s.pages s'.pages (hand_at s n) hand survives),
+          );
+        };
+  }
+  step_unmade stops.Disk leads cause hand survives whole = record {
+    leaves = leaves;
+    cause = λ _. cause.1;
+    places = λ tells was p shown. record { place = p; so = (tt, refl); further = still p; left = failed_amid told s s' p n stops.Disk (whole p shown) };
+  }
+  step_unmade (stops.Reopen faults) leads cause hand survives whole = record {
+    leaves = leaves;
+    cause = λ was. absurd (none-some faults (sym was ∙ cause.0));
+    places = λ tells was p shown. absurd (none-some faults (sym was ∙ cause.0));
+  }
+  step_unmade (stops.Damaged at) leads cause hand survives whole = record {
+    leaves = leaves;
+    cause = λ tells was. cause.3 tells;
+    places = λ tells was p shown. absurd (cause.3 tells);
+  }
 
 -- ---- all steps
+
+-- no disk that tells its contents leads so far
+pub no_damage : {D : Type 0} (told : D → Told) (s s' : StoreState D) (P Q : Place → Place → Type 0) → PlacesLead told s s' P → (Tells told s.pages → s.pages.failed ≡ None → ⊥) → PlacesStop told s s' Damaged Q
+no_damage told s s' P Q leads never = record { leaves = leads.leaves; cause = never; places = λ tells was p shown. absurd (never tells was) }
 
 finishes_behind : (n : ℕ) (p q r : Place) (outcome : Outcome) → MovedTo n p q → Finishes n q outcome r → Finishes n p outcome r
 finishes_behind n _ _ r outcome (Still p) finishes = finishes
@@ -54,8 +143,14 @@ finished_by n (answers.Moved point) p q r last before step = absurd (last point 
 finished_by n (answers.Ended reply) p q r last before step = ended n (Ended reply) p q r (λ point is. cc) before step
 finished_by n (answers.Refused refusal) p q r last before step = ended n (Waits refusal) p q r (λ point is. cc) before step
 
-pub halted : (n : ℕ) (fault : AnswerFault) (p q r : Place) → fault ≡ Full → MovedTo n p q → IsNotMade n q r → IsHalted n fault p r
-halted n fault p q r full before stops = subst (λ f. IsHalted n f p r) (sym full) (stops.0, subst (λ (x : Place). MovedTo n p x) (sym stops.1) before)
+halted_at : (n : ℕ) (p q r : Place) → MovedTo n p q → r ≡ q → MovedTo n p r
+halted_at n p q r before same = subst (λ (x : Place). MovedTo n p x) (sym same) before
+
+pub halted : (n : ℕ) (fault : AnswerFault) (p q r : Place) → MovedTo n p q → IsNotMade n fault q r → IsHalted n fault p r
+halted n Memory p q r before stops = absurd stops
+halted n Full p q r before stops = (stops.0, halted_at n p q r before stops.1)
+halted n Disk p q r before stops = (tt, halted_at n p q r before stops.1)
+halted n Damaged p q r before stops = (tt, halted_at n p q r before stops.1)
 
 -- ---- orders
 
@@ -108,16 +203,33 @@ no_step n p none name = NoStep none
 pub no_finish : (n : ℕ) (p : Place) → p.hands n ≡ None → DoesSo n orders.Finish (answers.Refused refusals.NothingStarted) p p
 no_finish n p none name = NoFinish none
 
-step_cut : (n : ℕ) (fault : AnswerFault) (p q : Place) → fault ≡ Full → IsNotMade n p q → IsCutShort n orders.Step fault p q
-step_cut n fault p q full stops = subst (λ f. IsCutShort n orders.Step f p q) (sym full) (stops.0, subst (λ (r : Place). ComesTo p n orders.Step r) (sym stops.1) OfStep)
+came_to_step : (n : ℕ) (p q : Place) → q ≡ p → ComesTo p n orders.Step q
+came_to_step n p q same = subst (λ (r : Place). ComesTo p n orders.Step r) (sym same) OfStep
 
-pub step_stops : {D : Type 0} (s s' : StoreState D) (n : ℕ) (result : Result Answer AnswerFault) → IfErr result (λ fault. fault ≡ Full) → OnErr result (PlacesLead s s' (IsNotMade n))
-    → IfErr result (λ fault. PlacesLead s s' (IsCutShort n orders.Step fault))
-step_stops s s' n (Ok answer) full stops = tt
-step_stops s s' n (Err fault) full stops = led_as s s' (IsNotMade n) (IsCutShort n orders.Step fault) stops (λ p q _ _ is. step_cut n fault p q full is)
+pub step_cut : (n : ℕ) (fault : AnswerFault) (p q : Place) → IsNotMade n fault p q → IsCutShort n orders.Step fault p q
+step_cut n Memory p q stops = absurd stops
+step_cut n Full p q stops = (stops.0, came_to_step n p q stops.1)
+step_cut n Disk p q stops = (tt, came_to_step n p q stops.1)
+step_cut n Damaged p q stops = (tt, came_to_step n p q stops.1)
 
 pub finish_cut : (n : ℕ) (fault : AnswerFault) (p q : Place) → IsHalted n fault p q → IsCutShort n orders.Finish fault p q
 finish_cut n fault p q stops = (stops.0, OfFinish q stops.1)
 
 pub plain_cut : (n : ℕ) (statement : Statement) (fault : AnswerFault) (p q r : Place) → Submits p n statement None q → IsHalted n fault q r → IsCutShort n (orders.Whole statement) fault p r
 plain_cut n statement fault p q r taken stops = (stops.0, OfPlain statement q r taken stops.1)
+
+-- ---- what enters no request
+
+named_keeps : (p : Place) (name : List ℕ) → KeepsJournal p (named p name)
+named_keeps p name = record { layout = refl; opening = refl; journal = refl }
+
+pub naming_keeps : (p q : Place) (name : List ℕ) → q ≡ named p name → KeepsJournal p q
+naming_keeps p q name is = subst (KeepsJournal p) (sym is) (named_keeps p name)
+
+submission_keeps : (p : Place) (n : ℕ) (statement : Statement) (refusal : Option Refusal) (q : Place) → Submits p n statement refusal q → KeepsJournal p q
+submission_keeps p n statement _ _ (Taken none) = record { layout = refl; opening = refl; journal = refl }
+submission_keeps p n statement _ _ (NotTaken refusal is) = record { layout = refl; opening = refl; journal = refl }
+submission_keeps p n statement _ _ (WantsMemory none may) = record { layout = refl; opening = refl; journal = refl }
+
+pub submit_keeps : (p q : Place) (n : ℕ) (statement : Statement) (refusal : Option Refusal) → Submits p n statement refusal q → KeepsJournal p q
+submit_keeps p q n statement refusal submits = submission_keeps p n statement refusal q submits

@@ -1,6 +1,10 @@
+pub mod CrashRule
 pub mod Leading
 pub mod Orders
 pub mod SessionPlaces
 pub mod ScriptOutput
 pub mod Simulations
+pub mod Statuses
+pub mod StatusCauses
+pub mod Tasks
 pub mod WordsFaults

@@ -10,13 +10,15 @@ use Rattle.reply_texts.specs.DroppedTexts.{dropped_text}
 use Rattle.reply_texts.specs.StepTexts.{moved_text, started_text}
 use Rattle.reply_texts.specs.Texts.{reply_text}
 use Rattle.script_run.specs.declared.engine.AnswerFault.{AnswerFault}
-use Rattle.script_run.specs.declared.engine.AnswerFault.TheVariants.{Memory, Full}
+use Rattle.script_run.specs.declared.engine.AnswerFault.TheVariants.{Memory, Full, Disk, Damaged}
 use Rattle.line_texts.specs.LineTexts.{Does, Finishes, dropped_at, refused_text}
 use Rattle.line_texts.specs.Place.{Place}
 use Rattle.line_texts.specs.StatementSteps.{Moved, Ended, Waits, LacksRoom, Steps}
 use Rattle.line_texts.specs.Stops.{ComesTo, IsLineStopped, MovedTo}
 use Rattle.store_parts.specs.declared.faults.Step.{Step}
 use Rattle.store_parts.specs.declared.faults.Step.TheVariants as steps
+use Rattle.store_parts.specs.declared.faults.StoreFault.{StoreFault}
+use Rattle.store_parts.specs.declared.faults.StoreFault.TheVariants as stops
 use Rattle.brin_app.specs.declared.orders.Answer.{Answer}
 use Rattle.brin_app.specs.declared.orders.Answer.TheVariants as answers
 
@@ -55,14 +57,22 @@ FinishesSo n answer p q = ⊥
 abbrev pub DoesSo : ℕ → Order → Answer → Place → Place → Type 0
 DoesSo n order answer p q = (name : List ℕ) → Does p n name order (answer_text name (dropped_at q n) answer) q
 
+-- why a line isn't answered that has such a step
+abbrev pub fault_of_step : StoreFault → AnswerFault
+fault_of_step (stops.Spent entries) = Full
+fault_of_step stops.Disk = Disk
+fault_of_step (stops.Reopen faults) = Disk
+fault_of_step (stops.Damaged at) = Damaged
+
 -- where an order stops for want of room, it is for the next step of session n
 abbrev pub WantsRoom : ℕ → AnswerFault → Place → Type 0
-WantsRoom n Memory q = Unit {0}
 WantsRoom n Full q = LacksRoom q n
+WantsRoom n fault q = Unit {0}
 
--- the journal has no room for the next step of session n, and nothing is changed
-abbrev pub IsNotMade : ℕ → Place → Place → Type 0
-IsNotMade n p q = LacksRoom q n × (q ≡ p)
+-- the next step of session n isn't made, for want of room or by a fault of the disk, and nothing is changed
+abbrev pub IsNotMade : ℕ → AnswerFault → Place → Place → Type 0
+IsNotMade n Memory p q = ⊥
+IsNotMade n fault p q = WantsRoom n fault q × (q ≡ p)
 
 -- the steps of session n's statement stop, behind some that were made
 abbrev pub IsHalted : ℕ → AnswerFault → Place → Place → Type 0

@@ -1,58 +1,38 @@
--- what the program writes for a script, and when each status comes
-use Rattle.std.specs.Prelude.{◌≡◌, ◌⊎◌, ℕ, ◌+◌, ◌≤◌, List, [], ◌∷◌, ◌++◌, length, Option, None, Some, Ok, Err, IsSome, IsSomeAnd}
-use Rattle.std.specs.Io.KnownBytes.{Consumes}
-use Rattle.store_layout.specs.DiskLayout.{DiskLayout}
-use Rattle.store_layout.specs.FirstBrokenRule.{first_broken_rule}
-use Rattle.block_model.specs.declared.schema.Schema.{Schema}
-use Rattle.block_model.specs.declared.schema.Sizes.{Sizes}
+-- what the program writes for a script, and what becomes of the disk
+use Rattle.std.specs.Prelude.{◌≡◌, ◌≢◌, ◌⊎◌, ℕ, IsTrue, List, Option, Ok, Err}
+use Rattle.block_model.specs.DatabaseState.{initial_state}
+use Rattle.block_model.specs.TableState.{TableState}
+use Rattle.disk_trait.specs.Told.{Told}
+use Rattle.disk_trait.specs.Throughout.{Throughout}
+use Rattle.store_layout.specs.DiskLayout.{DiskLayout, disk_size}
+use Rattle.page_store.specs.PageMap.{PageMap}
+use Rattle.store_opening.specs.Opens.{OpensAs}
+use Rattle.fresh_store.specs.FreshPages.{IsNoStore, fresh_pages}
 use Rattle.line_texts.specs.LineTexts.{IsLineText}
-use Rattle.line_texts.specs.Place.{Place}
-use Rattle.line_texts.specs.Starts.{IsStart}
+use Rattle.line_texts.specs.Place.{Place, database_at}
+use Rattle.line_texts.specs.Starts.{IsOpening, IsStart}
 use Rattle.line_texts.specs.Stops.{IsLineStopped}
-use Rattle.command_words.specs.declared.command.Command.{Command}
-use Rattle.command_words.specs.declared.command.Command.TheVariants.{Run}
-use Rattle.command_words.specs.CommandWords.{IsCommand}
-use Rattle.schema_words.specs.DeclaredSchema.{Denotes}
-use Rattle.brin_app.specs.declared.status.TheConstants.{SCRIPT_LIMIT}
 use Rattle.script_run.specs.declared.engine.AnswerFault.{AnswerFault}
-use Rattle.script_run.specs.declared.engine.AnswerFault.TheVariants.{Memory, Full}
+use Rattle.script_run.specs.declared.engine.AnswerFault.TheVariants.{Memory, Full, Disk, Damaged}
 use Rattle.script_run.specs.declared.fault.RunFault.TheVariants as faults
-use Rattle.script_run.specs.Answers.{AreAnswers}
-use Rattle.script_run.specs.Runs.{AreFirst, Ran, RunEnd}
-
--- a layout of these sizes and of what is declared, which passes no limit
-pub record IsLayoutFor (sizes : Sizes) (declared : List (List ℕ)) (layout : DiskLayout) : Type 0 where
-  pub sizes_are : layout.sizes ≡ sizes
-  pub schema : Denotes declared layout.schema
-  pub within : first_broken_rule layout.schema sizes ≡ None
-
--- the words are `run` with options and declarations, which make this layout
-pub record AsksFor (words : List (List ℕ)) (layout : DiskLayout) : Type 0 where
-  pub sizes : Sizes
-  pub declared : List (List ℕ)
-  pub command : IsCommand words (Run sizes declared)
-  pub makes : IsLayoutFor sizes declared layout
-
--- what is declared is no schema, or it passes a limit with these sizes
-abbrev pub HasNoLayout : Sizes → List (List ℕ) → Type 0
-HasNoLayout sizes declared = (schema : Schema) → Denotes declared schema → IsSome (first_broken_rule schema sizes)
-
--- why a command can't be begun
-abbrev pub IsWrong : Command → Type 0
-IsWrong (Run sizes declared) = HasNoLayout sizes declared
-
--- the words are no command, or one that can't be begun
-abbrev pub IsUsage : List (List ℕ) → Type 0
-IsUsage words = ((command : Command) → ¬ (IsCommand words command)) ⊎ ((command : Command) × IsCommand words command × IsWrong command)
+use Rattle.script_run.specs.Runs.{Ran, RunEnd}
+use Rattle.store_images.specs.StopRule.{IsImageWith}
+use Rattle.store_images.specs.StoreImage.{IsStoreImage, database_with}
+use Rattle.brin_app.specs.declared.status.TheConstants.{SCRIPT_LIMIT}
+use Rattle.brin_app.specs.declared.top.Task.{Task}
+use Rattle.brin_app.specs.declared.top.Task.TheVariants.{Init, Run, RunStored}
+use Rattle.brin_app.specs.CrashRule.{HasTableOf, IsFurther, IsOfStop}
 
 -- the status of each way in which a run ends: too long a script and a full journal have one
 abbrev pub exit_status : RunEnd → ℕ
 exit_status (Ok done) = 0
 exit_status (Err faults.Read) = 4
-exit_status (Err faults.Spent) = 8
 exit_status (Err faults.Write) = 5
+exit_status (Err (faults.Unanswered Disk)) = 6
 exit_status (Err (faults.Unanswered Memory)) = 7
+exit_status (Err faults.Spent) = 8
 exit_status (Err (faults.Unanswered Full)) = 8
+exit_status (Err (faults.Unanswered Damaged)) = 11
 
 -- the texts of lines over tables of this layout
 abbrev pub Texts : DiskLayout → Place → List ℕ → List ℕ → Place → Type 0
@@ -62,52 +42,107 @@ Texts layout = IsLineText layout.schema
 abbrev pub Stops : DiskLayout → Place → List ℕ → AnswerFault → Place → Type 0
 Stops layout = IsLineStopped layout.schema
 
--- The script of the source was run from a place at which a script over new tables of this layout starts: what was written are the texts of
--- its lines, and the status says how far that went.
-pub record IsScriptOutput (status : ℕ) (layout : DiskLayout) (left left' taken taken' : Option (List ℕ)) : Type 0 where
+-- ---- disks
+
+-- each image that a stop may leave has the table
+abbrev pub EachImageHas : Told → DiskLayout → TableState → Type 0
+EachImageHas disk layout table = (image : List ℕ) → IsTrue (disk.now image) → IsImageWith layout table image
+
+-- the disk holds a store of this layout with the table
+pub record HoldsTable (disk : Told) (layout : DiskLayout) (table : TableState) : Type 0 where
+  pub sized : disk_size layout ≡ disk.size
+  pub pages : PageMap
+  pub opens : OpensAs layout disk.contents pages
+  pub image : IsStoreImage layout pages table
+
+-- the disk holds a new store of the layout
+pub record HoldsFresh (disk : Told) (layout : DiskLayout) : Type 0 where
+  pub sized : disk_size layout ≡ disk.size
+  pub opens : OpensAs layout disk.contents (fresh_pages layout)
+  pub image : IsStoreImage layout (fresh_pages layout) initial_state.table
+
+-- a script over a store with the table starts there
+abbrev pub StartsOver : DiskLayout → TableState → Place → Type 0
+StartsOver layout table p = (next : ℕ) × IsOpening layout (database_with next table) p
+
+-- the image was there before, or is no store
+abbrev pub IsOldOrNone : Told → List ℕ → Type 0
+IsOldOrNone old image = IsTrue (old.now image) ⊎ IsNoStore image
+
+-- or it has the empty table
+abbrev pub IsOldOrEmpty : DiskLayout → Told → List ℕ → Type 0
+IsOldOrEmpty layout old image = IsOldOrNone old image ⊎ IsImageWith layout initial_state.table image
+
+-- ---- runs
+
+-- At every moment of a run over a store that stands there, each image has a table of the run, where each had the table of its start.
+abbrev pub StopsOfRun : (old new : Told) → (start after : Place) → Type 0
+StopsOfRun old new start after = EachImageHas old start.layout (database_at start).table → Throughout old new (IsOfStop start after)
+
+-- the same from its start on
+abbrev pub RunsThrough : (old new : Told) → (start after : Place) → Type 0
+RunsThrough old new start after = Throughout old new (IsOfStop start after)
+
+-- While a store is made, and a script runs over it, each was there before, or is no store, or has a table of the run.
+abbrev pub StopsOfNewRun : (old new : Told) → (start after : Place) → Type 0
+StopsOfNewRun old new start after = Throughout old new (λ image. IsOldOrNone old image ⊎ IsOfStop start after image)
+
+-- The script of the source was run from the place: what was written are the texts of its lines, and the status says how far that went. At the end each
+-- image has the table of the whole journal; where the disk failed, a commit that was in hand may be in it as well.
+pub record IsScriptRun (status : ℕ) (layout : DiskLayout) (AnyMoment : Place → Place → Type 0) (new : Told) (left left' taken taken' : Option (List ℕ)) (start : Place) : Type 0 where
   pub end : RunEnd
   pub status_is : status ≡ exit_status end
-  pub start : Place
-  pub starts : IsStart layout start
   pub after : Place
   pub ran : Ran (Texts layout) (Stops layout) start after SCRIPT_LIMIT end left left' taken taken'
+  pub further : IsFurther start after
+  pub any_moment : AnyMoment start after
+  pub at_end : (image : List ℕ) → IsTrue (new.now image) → HasTableOf after image
+  pub whole : status ≢ 6 → EachImageHas new after.layout (database_at after).table
 
--- first lines of this script, with texts of theirs, lead from a start to a journal that has no room for the requests of the next one
-pub record FillsJournal (layout : DiskLayout) (script : List ℕ) (left : Option (List ℕ)) : Type 0 where
-  pub start : Place
-  pub starts : IsStart layout start
-  pub done : List (List ℕ)
-  pub texts : List (List ℕ)
-  pub place : Place
-  pub line : List ℕ
-  pub after : Place
-  pub first : AreFirst (done ++ line ∷ []) script left
-  pub answers : AreAnswers (Texts layout) start done texts place
-  pub past : Stops layout place line Full after
+-- nothing is read and nothing written
+pub record IsIdle (left left' taken taken' : Option (List ℕ)) : Type 0 where
+  pub source : left' ≡ left
+  pub sink : taken' ≡ taken
 
--- the script that was taken fills the journal
-abbrev pub JournalWasFull : DiskLayout → Option (List ℕ) → Option (List ℕ) → Type 0
-JournalWasFull layout left left' = (script : List ℕ) × Consumes left left' script × FillsJournal layout script left'
+-- The store isn't opened, since the disk failed or for want of memory. Each image keeps the table.
+pub record IsUnopened (status : ℕ) (layout : DiskLayout) (table : TableState) (old new : Told) (left left' taken taken' : Option (List ℕ)) : Type 0 where
+  pub why : (status ≡ 6) ⊎ (status ≡ 7)
+  pub idle : IsIdle left left' taken taken'
+  pub any_moment : EachImageHas old layout table → Throughout old new (IsImageWith layout table)
 
--- Where the source tells its bytes, 8 comes where as many as the limit were taken and then another, and else only where
--- the journal was full.
-pub record IsSpentExactly (status : ℕ) (layout : DiskLayout) (old new : List ℕ) : Type 0 where
-  pub past_limit : length old ≡ (SCRIPT_LIMIT + 1) + length new → status ≡ 8
-  pub only : status ≡ 8 → (length old ≡ (SCRIPT_LIMIT + 1) + length new) ⊎ JournalWasFull layout (Some old) (Some new)
+-- The store isn't made or not opened, since the disk failed or hasn't the size, or for want of memory.
+pub record IsUnmade (status : ℕ) (layout : DiskLayout) (old new : Told) (left left' taken taken' : Option (List ℕ)) : Type 0 where
+  pub why : (status ≡ 6) ⊎ ((status ≡ 7) ⊎ (status ≡ 9))
+  pub idle : IsIdle left left' taken taken'
+  pub any_moment : Throughout old new (IsOldOrEmpty layout old)
 
-abbrev pub HasSpentCauses : ℕ → DiskLayout → Option (List ℕ) → Option (List ℕ) → Type 0
-HasSpentCauses status layout (Some old) (Some new) = IsSpentExactly status layout old new
-HasSpentCauses status layout old new = Unit {0}
+-- a store is made where the status is 0
+pub record IsMade (status : ℕ) (layout : DiskLayout) (old new : Told) : Type 0 where
+  pub any_moment : Throughout old new (IsOldOrEmpty layout old)
+  pub made : status ≡ 0 → EachImageHas new layout initial_state.table
+  pub holds : status ≡ 0 → IsTrue old.tells_contents → HoldsTable new layout initial_state.table
 
--- the source tells its bytes, and has no more than are taken
-abbrev pub FitsLimit : Option (List ℕ) → Type 0
-FitsLimit left = IsSomeAnd left (λ bytes. length bytes ≤ SCRIPT_LIMIT)
+-- what a run writes over new tables, and over those that stand there, where the disk tells its contents
+abbrev pub IsNewOutput : ℕ → DiskLayout → (old new : Told) → (left left' taken taken' : Option (List ℕ)) → Type 0
+IsNewOutput status layout old new left left' taken taken' =
+    IsTrue old.tells_contents → IsUnmade status layout old new left left' taken taken'
+    ⊎ ((start : Place) × IsStart layout start × IsScriptRun status layout (StopsOfNewRun old new) new left left' taken taken' start)
 
--- no part of the source's bytes fills the journal
-abbrev pub FitsJournal : DiskLayout → Option (List ℕ) → Type 0
-FitsJournal layout left = (left' : Option (List ℕ)) → JournalWasFull layout left left' → ⊥
+abbrev pub IsStoredOutput : ℕ → (old new : Told) → (left left' taken taken' : Option (List ℕ)) → Type 0
+IsStoredOutput status old new left left' taken taken' =
+    IsTrue old.tells_contents → (layout : DiskLayout) (table : TableState) → HoldsTable old layout table
+    → IsUnopened status layout table old new left left' taken taken'
+    ⊎ ((start : Place) × StartsOver layout table start × IsScriptRun status layout (StopsOfRun old new) new left left' taken taken' start)
 
--- where neither count rose, the script isn't too long and its requests fit the journal, it was run to its end or memory ran out
-abbrev pub IsComplete : ℕ → DiskLayout → Option (List ℕ) → Type 0 → Type 0 → Type 0
-IsComplete status layout left read_fault write_fault =
-    ¬ read_fault → ¬ write_fault → FitsLimit left → FitsJournal layout left → (status ≡ 0) ⊎ (status ≡ 7)
+-- the same over a store that was just made
+abbrev pub IsFreshOutput : ℕ → (old new : Told) → (left left' taken taken' : Option (List ℕ)) → Type 0
+IsFreshOutput status old new left left' taken taken' =
+    IsTrue old.tells_contents → (layout : DiskLayout) → HoldsFresh old layout
+    → IsUnopened status layout initial_state.table old new left left' taken taken'
+    ⊎ ((start : Place) × IsStart layout start × IsScriptRun status layout (StopsOfRun old new) new left left' taken taken' start)
+
+-- what becomes of a task
+abbrev pub IsOutputOf : Task → ℕ → (old new : Told) → (left left' taken taken' : Option (List ℕ)) → Type 0
+IsOutputOf (Init layout) status old new left left' taken taken' = IsIdle left left' taken taken' × IsMade status layout old new
+IsOutputOf (Run layout) status old new left left' taken taken' = IsNewOutput status layout old new left left' taken taken'
+IsOutputOf RunStored status old new left left' taken taken' = IsStoredOutput status old new left left' taken taken'

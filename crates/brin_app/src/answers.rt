@@ -1,29 +1,29 @@
 //! What a line of a script is answered.
 
-ghost use Rattle.std.specs.Prelude.{◌≡◌, ◌≢◌, ◌<◌, ◌++◌, None, Ok, IfErr, OnOk, IsErrOf, ℕ, List, length};
+ghost use Rattle.std.specs.Prelude.{◌≡◌, ◌≢◌, ◌<◌, ◌++◌, Ok, IfErr, OnOk, ℕ, List, length};
 ghost use Rattle.query_words.specs.LineFits.{IsLineFor, IsOrderFor};
 ghost use Rattle.line_texts.specs.LineTexts.{Answers, Does, fault_text, refused_text};
-ghost use Rattle.brin_app.specs.Leading.{PlacesLead};
+ghost use Rattle.brin_app.specs.Leading.{PlacesLead, PlacesStop};
 ghost use Rattle.brin_app.specs.Orders.{IsLost, IsStoppedSaying, answer_text};
 ghost use Rattle.brin_app.specs.SessionPlaces.{AnswersLine, StopsLine};
 
 use crate::orders::{Answer, act};
 use crate::sessions::Sessions;
 use block_model::{Name, NoMemory, Refusal, Reply};
-use disk_trait::SteadyDisk;
+use disk_trait::Disk;
 use query_words::{Line, LineFault, Order, read_line};
 use reply_texts::{Dropped, render, render_dropped, render_moved, render_refusal, render_started};
 use script_run::AnswerFault;
 use session_core::{SessionFault, Store};
 
 /// Appends the text of a line, and does what it says.
-pub(crate) fn answer_line(
-    sessions: &mut Sessions,
+pub(crate) fn answer_line<D: Disk + Drop>(
+    sessions: &mut Sessions<D>,
     line: &[u8],
     out: &mut Vec<u8>,
 ) -> Result<(), AnswerFault>
-    ensures ok { OnOk result ((text : List ℕ) × (out.new.items ≡ out.old.items ++ text) × AnswersLine sessions.old line.now text sessions.new) }
-    ensures stops { IfErr result (λ fault. StopsLine sessions.old line.now fault sessions.new) }
+    ensures ok { OnOk result ((text : List ℕ) × (out.new.items ≡ out.old.items ++ text) × AnswersLine D.told sessions.old line.now text sessions.new) }
+    ensures stops { IfErr result (λ fault. StopsLine D.told sessions.old line.now fault sessions.new) }
 {
     match read_line(sessions.alloc, line, sessions.store.layout()) {
         Ok(line) => obey(&mut sessions.store, line, out),
@@ -35,7 +35,7 @@ pub(crate) fn answer_line(
 fn refuse(fault: LineFault, out: &mut Vec<u8>) -> Result<(), AnswerFault>
     ensures ok { OnOk result (out.new.items ≡ out.old.items ++ fault_text fault) }
     ensures read { OnOk result (fault ≢ LineFault.Memory) }
-    ensures full { ¬ (IsErrOf result AnswerFault.Full) }
+    ensures memory { IfErr result (λ why. why ≡ AnswerFault.Memory) }
 {
     let Some(refusal) = fault.refusal() else {
         return Err(AnswerFault::Memory);
@@ -45,12 +45,10 @@ fn refuse(fault: LineFault, out: &mut Vec<u8>) -> Result<(), AnswerFault>
 }
 
 /// Does what a line says, and appends its text.
-fn obey(store: &mut Store<SteadyDisk>, line: Line, out: &mut Vec<u8>) -> Result<(), AnswerFault>
-    requires line { IsLineFor store.old.pages.layout.schema line }
-    requires ready { store.old.pages.failed ≡ None }
-    ensures ready { store.new.pages.failed ≡ None }
-    ensures ok { OnOk result ((text : List ℕ) × (out.new.items ≡ out.old.items ++ text) × PlacesLead store.old store.new (λ p q. Answers p (Ok line) text q)) }
-    ensures stops { IfErr result (λ fault. PlacesLead store.old store.new (IsStoppedSaying line fault)) }
+fn obey<D: Disk + Drop>(store: &mut Store<D>, line: Line, out: &mut Vec<u8>) -> Result<(), AnswerFault>
+    requires { IsLineFor store.old.pages.layout.schema line }
+    ensures ok { OnOk result ((text : List ℕ) × (out.new.items ≡ out.old.items ++ text) × PlacesLead D.told store.old store.new (λ p q. Answers p (Ok line) text q)) }
+    ensures stops { IfErr result (λ fault. PlacesStop D.told store.old store.new fault (IsStoppedSaying line fault)) }
 {
     match line {
         Line::Nothing => Ok(()),
@@ -59,17 +57,15 @@ fn obey(store: &mut Store<SteadyDisk>, line: Line, out: &mut Vec<u8>) -> Result<
 }
 
 /// Does what an order of the session of that name says, and appends its text. The session is made where it is new.
-fn say(
-    store: &mut Store<SteadyDisk>,
+fn say<D: Disk + Drop>(
+    store: &mut Store<D>,
     session: &Name,
     order: Order,
     out: &mut Vec<u8>,
 ) -> Result<(), AnswerFault>
-    requires order { IsOrderFor store.old.pages.layout.schema order }
-    requires ready { store.old.pages.failed ≡ None }
-    ensures ready { store.new.pages.failed ≡ None }
-    ensures ok { OnOk result ((text : List ℕ) × (out.new.items ≡ out.old.items ++ text) × PlacesLead store.old store.new (λ p q. Answers p (Ok (Line.Say session.now order)) text q)) }
-    ensures stops { IfErr result (λ fault. PlacesLead store.old store.new (IsStoppedSaying (Line.Say session.now order) fault)) }
+    requires { IsOrderFor store.old.pages.layout.schema order }
+    ensures ok { OnOk result ((text : List ℕ) × (out.new.items ≡ out.old.items ++ text) × PlacesLead D.told store.old store.new (λ p q. Answers p (Ok (Line.Say session.now order)) text q)) }
+    ensures stops { IfErr result (λ fault. PlacesStop D.told store.old store.new fault (IsStoppedSaying (Line.Say session.now order) fault)) }
 {
     match store.session(*session) {
         Ok(number) => answer_order(store, number, session, order, out),
@@ -78,8 +74,8 @@ fn say(
 }
 
 /// Does what an order of the session of that number and name says, and appends its text.
-fn answer_order(
-    store: &mut Store<SteadyDisk>,
+fn answer_order<D: Disk + Drop>(
+    store: &mut Store<D>,
     number: u32,
     session: &Name,
     order: Order,
@@ -87,10 +83,8 @@ fn answer_order(
 ) -> Result<(), AnswerFault>
     requires session { number < length store.old.names }
     requires order { IsOrderFor store.old.pages.layout.schema order }
-    requires ready { store.old.pages.failed ≡ None }
-    ensures ready { store.new.pages.failed ≡ None }
-    ensures ok { OnOk result ((text : List ℕ) × (out.new.items ≡ out.old.items ++ text) × PlacesLead store.old store.new (λ p q. Does p number session.now order text q)) }
-    ensures stops { IfErr result (λ fault. PlacesLead store.old store.new (IsLost number session.now order fault)) }
+    ensures ok { OnOk result ((text : List ℕ) × (out.new.items ≡ out.old.items ++ text) × PlacesLead D.told store.old store.new (λ p q. Does p number session.now order text q)) }
+    ensures stops { IfErr result (λ fault. PlacesStop D.told store.old store.new fault (IsLost number session.now order fault)) }
 {
     let answer = act(store, number, order)?;
     tell(session, &answer, store.dropped(number), out)?;

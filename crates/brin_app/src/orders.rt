@@ -1,19 +1,21 @@
 //! What an order of a session does.
 
-ghost use Rattle.std.specs.Prelude.{◌≡◌, ◌<◌, None, IfOk, IfErr, OnErr, IsSome, length};
+ghost use Rattle.std.specs.Prelude.{◌≡◌, ◌<◌, IfOk, IfErr, IsSome, length};
 ghost use Rattle.store_parts.specs.StoreStates.{hand_at};
 ghost use Rattle.session_core.specs.Sessions.{NamesASession};
 ghost use Rattle.query_words.specs.LineFits.{IsOrderFor};
 ghost use Rattle.statements.specs.StatementFits.{IsStatementFor};
-ghost use Rattle.brin_app.specs.Leading.{PlacesLead};
-ghost use Rattle.brin_app.specs.Orders.{IsCutShort, DoesSo, FinishesSo, IsHalted, IsInHandStill, IsNotMade, StepsSo, step_answer};
+ghost use Rattle.brin_app.specs.Leading.{PlacesLead, PlacesStop};
+ghost use Rattle.brin_app.specs.Orders.{IsCutShort, DoesSo, FinishesSo, IsHalted, IsInHandStill, IsNotMade, StepsSo, fault_of_step, step_answer};
 
 use block_model::{Point, Refusal, Reply};
-use disk_trait::SteadyDisk;
+use disk_trait::Disk;
+use line_texts::requests_are_entered_in_place;
 use query_words::Order;
 use script_run::AnswerFault;
 use session_core::{Step, Store, StoreFault};
 use statements::Statement;
+use store_images::{a_commit_makes_its_table, a_shown_store_is_an_image};
 use step_bounds::{a_finished_statement_ends, moves_are_counted};
 
 /// What an order of a session is answered: its statement is started; goes on behind a step of this name; ends with this reply; or this is why
@@ -27,14 +29,12 @@ pub enum Answer {
 }
 
 /// Does what an order of the session says.
-pub fn act(store: &mut Store<SteadyDisk>, session: u32, order: Order) -> Result<Answer, AnswerFault>
+pub fn act<D: Disk + Drop>(store: &mut Store<D>, session: u32, order: Order) -> Result<Answer, AnswerFault>
     requires session { session < length store.old.names }
     requires order { IsOrderFor store.old.pages.layout.schema order }
-    requires ready { store.old.pages.failed ≡ None }
-    ensures ready { store.new.pages.failed ≡ None }
     ensures names { store.new.names ≡ store.old.names }
-    ensures ok { IfOk result (λ answer. PlacesLead store.old store.new (DoesSo session order answer)) }
-    ensures stops { IfErr result (λ fault. PlacesLead store.old store.new (IsCutShort session order fault)) }
+    ensures ok { IfOk result (λ answer. PlacesLead D.told store.old store.new (DoesSo session order answer)) }
+    ensures stops { IfErr result (λ fault. PlacesStop D.told store.old store.new fault (IsCutShort session order fault)) }
 {
     match order {
         Order::Whole(statement) => whole(store, session, statement),
@@ -45,18 +45,16 @@ pub fn act(store: &mut Store<SteadyDisk>, session: u32, order: Order) -> Result<
 }
 
 /// Takes the statement and makes its steps, or says why it isn't taken.
-fn whole(
-    store: &mut Store<SteadyDisk>,
+fn whole<D: Disk + Drop>(
+    store: &mut Store<D>,
     session: u32,
     statement: Statement,
 ) -> Result<Answer, AnswerFault>
     requires session { session < length store.old.names }
     requires statement { IsStatementFor store.old.pages.layout.schema statement }
-    requires ready { store.old.pages.failed ≡ None }
-    ensures ready { store.new.pages.failed ≡ None }
     ensures names { store.new.names ≡ store.old.names }
-    ensures ok { IfOk result (λ answer. PlacesLead store.old store.new (DoesSo session (Order.Whole statement) answer)) }
-    ensures stops { IfErr result (λ fault. PlacesLead store.old store.new (IsCutShort session (Order.Whole statement) fault)) }
+    ensures ok { IfOk result (λ answer. PlacesLead D.told store.old store.new (DoesSo session (Order.Whole statement) answer)) }
+    ensures stops { IfErr result (λ fault. PlacesStop D.told store.old store.new fault (IsCutShort session (Order.Whole statement) fault)) }
 {
     match store.submit(session, statement) {
         Ok(()) => finish(store, session),
@@ -65,13 +63,11 @@ fn whole(
 }
 
 /// Takes the statement, or says why it isn't taken.
-fn start(store: &mut Store<SteadyDisk>, session: u32, statement: Statement) -> Answer
+fn start<D: Disk + Drop>(store: &mut Store<D>, session: u32, statement: Statement) -> Answer
     requires session { session < length store.old.names }
     requires statement { IsStatementFor store.old.pages.layout.schema statement }
-    requires ready { store.old.pages.failed ≡ None }
-    ensures ready { store.new.pages.failed ≡ None }
     ensures names { store.new.names ≡ store.old.names }
-    ensures ok { PlacesLead store.old store.new (DoesSo session (Order.Start statement) result) }
+    ensures ok { PlacesLead D.told store.old store.new (DoesSo session (Order.Start statement) result) }
 {
     match store.submit(session, statement) {
         Ok(()) => Answer::Started,
@@ -80,13 +76,11 @@ fn start(store: &mut Store<SteadyDisk>, session: u32, statement: Statement) -> A
 }
 
 /// Makes one step of the session's statement, or says that there is none.
-fn step_once(store: &mut Store<SteadyDisk>, session: u32) -> Result<Answer, AnswerFault>
+fn step_once<D: Disk + Drop>(store: &mut Store<D>, session: u32) -> Result<Answer, AnswerFault>
     requires session { session < length store.old.names }
-    requires ready { store.old.pages.failed ≡ None }
-    ensures ready { store.new.pages.failed ≡ None }
     ensures names { store.new.names ≡ store.old.names }
-    ensures ok { IfOk result (λ answer. PlacesLead store.old store.new (DoesSo session Order.Step answer)) }
-    ensures stops { IfErr result (λ fault. PlacesLead store.old store.new (IsCutShort session Order.Step fault)) }
+    ensures ok { IfOk result (λ answer. PlacesLead D.told store.old store.new (DoesSo session Order.Step answer)) }
+    ensures stops { IfErr result (λ fault. PlacesStop D.told store.old store.new fault (IsCutShort session Order.Step fault)) }
 {
     if !store.in_hand(session) {
         return Ok(Answer::Refused(Refusal::NothingStarted));
@@ -95,13 +89,11 @@ fn step_once(store: &mut Store<SteadyDisk>, session: u32) -> Result<Answer, Answ
 }
 
 /// Makes all steps that are left of the session's statement, or says that there is none.
-fn step_through(store: &mut Store<SteadyDisk>, session: u32) -> Result<Answer, AnswerFault>
+fn step_through<D: Disk + Drop>(store: &mut Store<D>, session: u32) -> Result<Answer, AnswerFault>
     requires session { session < length store.old.names }
-    requires ready { store.old.pages.failed ≡ None }
-    ensures ready { store.new.pages.failed ≡ None }
     ensures names { store.new.names ≡ store.old.names }
-    ensures ok { IfOk result (λ answer. PlacesLead store.old store.new (DoesSo session Order.Finish answer)) }
-    ensures stops { IfErr result (λ fault. PlacesLead store.old store.new (IsCutShort session Order.Finish fault)) }
+    ensures ok { IfOk result (λ answer. PlacesLead D.told store.old store.new (DoesSo session Order.Finish answer)) }
+    ensures stops { IfErr result (λ fault. PlacesStop D.told store.old store.new fault (IsCutShort session Order.Finish fault)) }
 {
     if !store.in_hand(session) {
         return Ok(Answer::Refused(Refusal::NothingStarted));
@@ -109,15 +101,14 @@ fn step_through(store: &mut Store<SteadyDisk>, session: u32) -> Result<Answer, A
     finish(store, session)
 }
 
-/// Makes the steps of the session's statement up to its reply, or up to one that waits: it comes to one of them before the last round.
-fn finish(store: &mut Store<SteadyDisk>, session: u32) -> Result<Answer, AnswerFault>
+/// Makes the steps of the session's statement up to its reply, or up to one that waits: over a disk that tells its contents it comes to one of them
+/// before the last round. Over another one nothing bounds the steps but the rounds.
+fn finish<D: Disk + Drop>(store: &mut Store<D>, session: u32) -> Result<Answer, AnswerFault>
     requires session { session < length store.old.names }
     requires hand { IsSome (hand_at store.old session) }
-    requires ready { store.old.pages.failed ≡ None }
-    ensures ready { store.new.pages.failed ≡ None }
     ensures names { store.new.names ≡ store.old.names }
-    ensures ok { IfOk result (λ answer. PlacesLead store.old store.new (FinishesSo session answer)) }
-    ensures stops { IfErr result (λ fault. PlacesLead store.old store.new (IsHalted session fault)) }
+    ensures ok { IfOk result (λ answer. PlacesLead D.told store.old store.new (FinishesSo session answer)) }
+    ensures stops { IfErr result (λ fault. PlacesStop D.told store.old store.new fault (IsHalted session fault)) }
 {
     moves_are_counted();
     a_finished_statement_ends();
@@ -129,31 +120,39 @@ fn finish(store: &mut Store<SteadyDisk>, session: u32) -> Result<Answer, AnswerF
             answer => return Ok(answer),
         }
     }
-    unreachable!()
+    Err(AnswerFault::Damaged)
 }
 
 /// Makes one step of the session's statement.
-fn step(store: &mut Store<SteadyDisk>, session: u32) -> Result<Answer, AnswerFault>
+fn step<D: Disk + Drop>(store: &mut Store<D>, session: u32) -> Result<Answer, AnswerFault>
     requires hand { IsSome (hand_at store.old session) }
-    requires ready { store.old.pages.failed ≡ None }
-    ensures ready { store.new.pages.failed ≡ None }
     ensures names { store.new.names ≡ store.old.names }
     ensures hand { IfOk result (λ answer. IsInHandStill answer (hand_at store.new session)) }
-    ensures ok { IfOk result (λ answer. PlacesLead store.old store.new (StepsSo session answer)) }
-    ensures full { IfErr result (λ fault. fault ≡ AnswerFault.Full) }
-    ensures stops { OnErr result (PlacesLead store.old store.new (IsNotMade session)) }
+    ensures ok { IfOk result (λ answer. PlacesLead D.told store.old store.new (StepsSo session answer)) }
+    ensures stops { IfErr result (λ fault. PlacesStop D.told store.old store.new fault (IsNotMade session fault)) }
 {
+    a_shown_store_is_an_image();
+    a_commit_makes_its_table();
+    requests_are_entered_in_place();
     match store.step(session) {
         Ok(step) => Ok(told(store, step)),
-        Err(StoreFault::Spent { .. }) => Err(AnswerFault::Full),
-        Err(StoreFault::Disk | StoreFault::Reopen { .. } | StoreFault::Damaged { .. }) => {
-            unreachable!()
-        }
+        Err(fault) => Err(fault_of_step(fault)),
+    }
+}
+
+/// Why a line isn't answered that has such a step.
+fn fault_of_step(fault: StoreFault) -> AnswerFault
+    ensures { result ≡ fault_of_step fault }
+{
+    match fault {
+        StoreFault::Spent { .. } => AnswerFault::Full,
+        StoreFault::Disk | StoreFault::Reopen { .. } => AnswerFault::Disk,
+        StoreFault::Damaged { .. } => AnswerFault::Damaged,
     }
 }
 
 /// What is told of a step. A session for which it waits goes by its name.
-fn told(store: &Store<SteadyDisk>, step: Step) -> Answer
+fn told<D: Disk + Drop>(store: &Store<D>, step: Step) -> Answer
     requires { NamesASession (length store.now.names) step }
     ensures { result ≡ step_answer store.now.names step }
 {

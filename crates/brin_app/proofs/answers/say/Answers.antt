@@ -1,29 +1,32 @@
-use Rattle.std.proofs.Common.{◌≡◌, refl, ap}
-use Rattle.disk_trait.specs.Steady.{told_by_steady}
+use Rattle.std.proofs.Common.{◌≡◌, ap}
 use Rattle.line_texts.specs.LineTexts.{named}
 use Rattle.line_texts.specs.Place.{Place}
 use Rattle.brin_app.proofs.Leading.{led_beside}
+use Rattle.store_parts.specs.StoreStates.{StoreState}
+use Rattle.brin_app.proofs.Stepping.{naming_keeps}
 use Rattle.brin_app.proofs.Saying.{say_done, say_lost, say_refused, say_unmade}
 use Rattle.brin_app.proofs.answers.say.Goals as goal
 
 pub returns-in-Ok-clause-ok : goal.returns-in-Ok-clause-ok
-returns-in-Ok-clause-ok c =
+returns-in-Ok-clause-ok g c =
     let Made = λ (p m : Place). m ≡ named p c.args.session.now in
-    say_done c.args.store.now c.session.new.self c.answer_order.new.store c.args.session.now c.args.order c.in-Ok.number c.args.out.now.items c.answer_order.new.out.items c.answer_order.result
+    say_done g.D.Disk.told c.args.store.now c.session.new.self c.answer_order.new.store c.args.session.now c.args.order c.in-Ok.number c.args.out.now.items c.answer_order.new.out.items c.answer_order.result
     c.in-Ok.ensures.named.0 c.in-Ok.ensures.named.1
-    (led_beside told_by_steady c.args.store.now c.session.new.self Made Made refl c.requires.ready (ap (λ t. t.pages) c.in-Ok.ensures.named.2) c.in-Ok.ensures.places (λ p m is. is)) c.answer_order.ensures.ok
+    (led_beside g.D.Disk.told c.args.store.now c.session.new.self Made Made (g.met.D.Disk.since_now_is_now c.args.store.now.pages.disk) (ap (λ (t : StoreState _). t.pages) c.in-Ok.ensures.named.2) c.in-Ok.ensures.places
+    (λ p m is. naming_keeps p m c.args.session.now is) (λ p m is. is)) c.answer_order.ensures.ok
 
 pub returns-in-Ok-clause-stops : goal.returns-in-Ok-clause-stops
-returns-in-Ok-clause-stops c =
+returns-in-Ok-clause-stops g c =
     let Made = λ (p m : Place). m ≡ named p c.args.session.now in
-    say_lost c.args.store.now c.session.new.self c.answer_order.new.store c.args.session.now c.args.order c.in-Ok.number c.answer_order.result c.in-Ok.ensures.named.0 c.in-Ok.ensures.named.1
-    (led_beside told_by_steady c.args.store.now c.session.new.self Made Made refl c.requires.ready (ap (λ t. t.pages) c.in-Ok.ensures.named.2) c.in-Ok.ensures.places (λ p m is. is)) c.answer_order.ensures.stops
+    say_lost g.D.Disk.told c.args.store.now c.session.new.self c.answer_order.new.store c.args.session.now c.args.order c.in-Ok.number c.answer_order.result c.in-Ok.ensures.named.0 c.in-Ok.ensures.named.1
+    (led_beside g.D.Disk.told c.args.store.now c.session.new.self Made Made (g.met.D.Disk.since_now_is_now c.args.store.now.pages.disk) (ap (λ (t : StoreState _). t.pages) c.in-Ok.ensures.named.2) c.in-Ok.ensures.places
+    (λ p m is. naming_keeps p m c.args.session.now is) (λ p m is. is)) c.answer_order.ensures.stops
 
 pub returns-in-Err-clause-ok : goal.returns-in-Err-clause-ok
-returns-in-Err-clause-ok c =
-    say_refused c.args.store.now c.session.new.self c.args.session.now c.args.order c.in-Err.fault c.args.out.now.items c.refuse_session.new.out.items c.refuse_session.result c.in-Err.ensures.named
+returns-in-Err-clause-ok g c =
+    say_refused g.D.Disk.told c.args.store.now c.session.new.self c.args.session.now c.args.order c.in-Err.fault c.args.out.now.items c.refuse_session.new.out.items c.refuse_session.result (g.met.D.Disk.since_now_is_now c.args.store.now.pages.disk) c.in-Err.ensures.named
     c.refuse_session.ensures.ok
 
 pub returns-in-Err-clause-stops : goal.returns-in-Err-clause-stops
-returns-in-Err-clause-stops c =
-    say_unmade c.args.store.now c.session.new.self c.args.session.now c.args.order c.in-Err.fault c.refuse_session.result c.in-Err.ensures.named c.refuse_session.ensures.memory
+returns-in-Err-clause-stops g c =
+    say_unmade g.D.Disk.told c.args.store.now c.session.new.self c.args.session.now c.args.order c.in-Err.fault c.refuse_session.result (g.met.D.Disk.since_now_is_now c.args.store.now.pages.disk) c.in-Err.ensures.named c.refuse_session.ensures.memory

@@ -1,4 +1,4 @@
-use Rattle.std.proofs.Common.{◌≡◌, None}
+use Rattle.std.proofs.Common.{◌≡◌}
 use Rattle.std.specs.Prelude.{IsSome}
 use Rattle.step_bounds.specs.Moves.{MovedIn}
 use Rattle.store_parts.specs.StoreStates.{hand_at}
@@ -6,9 +6,8 @@ use Rattle.brin_app.specs.Leading.{PlacesLead}
 use Rattle.brin_app.proofs.orders.finish.Given as goal
 
 abbrev pub invariant-steps : goal.invariant-steps
-invariant-steps l = record {
-  ready : l.store.pages.failed ≡ None;
+invariant-steps g l = record {
   names : l.store.names ≡ l.initial.store.names;
   hand : IsSome (hand_at l.store l.session);
-  leads : PlacesLead l.initial.store l.store (MovedIn l.session l.counter);
+  leads : PlacesLead g.D.Disk.told l.initial.store l.store (MovedIn l.session l.counter);
 }

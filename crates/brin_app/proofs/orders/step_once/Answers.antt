@@ -2,19 +2,21 @@ use Rattle.std.proofs.Common.{refl, sym}
 use Rattle.query_words.specs.declared.line.Order.TheVariants as orders
 use Rattle.block_model.specs.declared.reply.Refusal.TheVariants as refusals
 use Rattle.brin_app.specs.declared.orders.Answer.TheVariants as answers
-use Rattle.brin_app.specs.Orders.{DoesSo, StepsSo}
-use Rattle.brin_app.proofs.Leading.{led_still, ok_led}
-use Rattle.brin_app.proofs.Stepping.{no_step, nothing_in_hand, step_stops, stepped}
+use Rattle.brin_app.specs.Orders.{DoesSo, IsCutShort, IsNotMade, StepsSo}
+use Rattle.brin_app.proofs.Leading.{err_stops, led_still, ok_led}
+use Rattle.brin_app.proofs.Stepping.{no_step, nothing_in_hand, step_cut, stepped}
 use Rattle.brin_app.proofs.orders.step_once.Goals as goal
 
 pub returns-then-not-in_hand-clause-ok : goal.returns-then-not-in_hand-clause-ok
-returns-then-not-in_hand-clause-ok c =
-    led_still c.args.store.now c.args.store.now (DoesSo c.args.session orders.Step (answers.Refused refusals.NothingStarted)) refl
+returns-then-not-in_hand-clause-ok g c =
+    led_still g.D.Disk.told c.args.store.now c.args.store.now (DoesSo c.args.session orders.Step (answers.Refused refusals.NothingStarted)) (g.met.D.Disk.since_now_is_now c.args.store.now.pages.disk) refl
     (λ p shown. no_step c.args.session p (nothing_in_hand c.args.store.now c.args.session p (sym c.if-not-in_hand.ensures) shown))
 
 pub returns-clause-ok : goal.returns-clause-ok
-returns-clause-ok c =
-    ok_led c.args.store.now c.step.new.store c.step.result (StepsSo c.args.session) (DoesSo c.args.session orders.Step) c.step.ensures.ok (λ answer p q _ _ step. stepped c.args.session answer p q step)
+returns-clause-ok g c =
+    ok_led g.D.Disk.told c.args.store.now c.step.new.store c.step.result (StepsSo c.args.session) (DoesSo c.args.session orders.Step) c.step.ensures.ok (λ answer p q _ _ step. stepped c.args.session answer p q step)
 
 pub returns-clause-stops : goal.returns-clause-stops
-returns-clause-stops c = step_stops c.args.store.now c.step.new.store c.args.session c.step.result c.step.ensures.full c.step.ensures.stops
+returns-clause-stops g c =
+    err_stops g.D.Disk.told c.args.store.now c.step.new.store c.step.result (IsNotMade c.args.session) (IsCutShort c.args.session orders.Step) c.step.ensures.stops
+    (λ fault p q stops. step_cut c.args.session fault p q stops)

@@ -3,21 +3,21 @@ use Rattle.query_words.specs.declared.line.Order.TheVariants as orders
 use Rattle.block_model.specs.declared.reply.Refusal.TheVariants as refusals
 use Rattle.brin_app.specs.declared.orders.Answer.TheVariants as answers
 use Rattle.brin_app.specs.Orders.{DoesSo, FinishesSo, IsCutShort, IsHalted}
-use Rattle.brin_app.proofs.Leading.{err_led, led_still, ok_led}
+use Rattle.brin_app.proofs.Leading.{err_stops, led_still, ok_led}
 use Rattle.brin_app.proofs.Stepping.{finish_cut, finished, no_finish, nothing_in_hand}
 use Rattle.brin_app.proofs.orders.step_through.Goals as goal
 
 pub returns-then-not-in_hand-clause-ok : goal.returns-then-not-in_hand-clause-ok
-returns-then-not-in_hand-clause-ok c =
-    led_still c.args.store.now c.args.store.now (DoesSo c.args.session orders.Finish (answers.Refused refusals.NothingStarted)) refl
+returns-then-not-in_hand-clause-ok g c =
+    led_still g.D.Disk.told c.args.store.now c.args.store.now (DoesSo c.args.session orders.Finish (answers.Refused refusals.NothingStarted)) (g.met.D.Disk.since_now_is_now c.args.store.now.pages.disk) refl
     (λ p shown. no_finish c.args.session p (nothing_in_hand c.args.store.now c.args.session p (sym c.if-not-in_hand.ensures) shown))
 
 pub returns-clause-ok : goal.returns-clause-ok
-returns-clause-ok c =
-    ok_led c.args.store.now c.finish.new.store c.finish.result (FinishesSo c.args.session) (DoesSo c.args.session orders.Finish) c.finish.ensures.ok
+returns-clause-ok g c =
+    ok_led g.D.Disk.told c.args.store.now c.finish.new.store c.finish.result (FinishesSo c.args.session) (DoesSo c.args.session orders.Finish) c.finish.ensures.ok
     (λ answer p q _ _ finish. finished c.args.session answer p q finish)
 
 pub returns-clause-stops : goal.returns-clause-stops
-returns-clause-stops c =
-    err_led c.args.store.now c.finish.new.store c.finish.result (IsHalted c.args.session) (IsCutShort c.args.session orders.Finish) c.finish.ensures.stops
-    (λ fault p q _ _ stops. finish_cut c.args.session fault p q stops)
+returns-clause-stops g c =
+    err_stops g.D.Disk.told c.args.store.now c.finish.new.store c.finish.result (IsHalted c.args.session) (IsCutShort c.args.session orders.Finish) c.finish.ensures.stops
+    (λ fault p q stops. finish_cut c.args.session fault p q stops)

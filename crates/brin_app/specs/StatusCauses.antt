@@ -1,0 +1,102 @@
+-- when each status comes
+use Rattle.std.specs.Prelude.{◌≡◌, ◌≢◌, ◌⊎◌, ℕ, ◌+◌, ◌≤◌, IsTrue, List, [], ◌∷◌, ◌++◌, length, Option, None, Some, IsSomeAnd}
+use Rattle.std.specs.Io.KnownBytes.{Consumes}
+use Rattle.block_model.specs.Causes.{Rose}
+use Rattle.block_model.specs.TableState.{TableState}
+use Rattle.disk_trait.specs.Told.{Told}
+use Rattle.store_layout.specs.DiskLayout.{DiskLayout, disk_size}
+use Rattle.store_opening.specs.StartCauses.{HasNoStore, IsDamagedStore}
+use Rattle.line_texts.specs.Place.{Place}
+use Rattle.line_texts.specs.Starts.{IsStart}
+use Rattle.script_run.specs.declared.engine.AnswerFault.TheVariants.{Full}
+use Rattle.script_run.specs.Answers.{AreAnswers}
+use Rattle.script_run.specs.Runs.{AreFirst}
+use Rattle.brin_app.specs.declared.status.TheConstants.{SCRIPT_LIMIT}
+use Rattle.brin_app.specs.declared.top.Task.{Task}
+use Rattle.brin_app.specs.declared.top.Task.TheVariants.{Init, Run, RunStored}
+use Rattle.brin_app.specs.ScriptOutput.{HoldsTable, IsOutputOf, StartsOver, Stops, Texts}
+
+-- ---- no store, and a damaged one
+
+-- the disk that is to be made a store hasn't the layout's size; or none stands there, where it tells its contents
+abbrev pub LacksStore : Task → Told → Type 0
+LacksStore (Init layout) disk = disk.size ≢ disk_size layout
+LacksStore (Run layout) disk = IsTrue disk.tells_contents → disk.size ≢ disk_size layout
+LacksStore RunStored disk = IsTrue disk.tells_contents → HasNoStore disk.size disk.contents
+
+-- the store that stands there is damaged, where the disk tells its contents; one that was made isn't
+abbrev pub HasDamage : Task → Told → Type 0
+HasDamage RunStored disk = IsTrue disk.tells_contents → (at : ℕ) × IsDamagedStore disk.size disk.contents at
+HasDamage (Run layout) disk = IsTrue disk.tells_contents → ⊥
+HasDamage (Init layout) disk = ⊥
+
+-- ---- a full journal, and too long a script
+
+-- first lines of this script, with texts of theirs, lead from a start to a journal that has no room for the requests of the next one
+pub record FillsJournal (Starts : Place → Type 0) (layout : DiskLayout) (script : List ℕ) (left : Option (List ℕ)) : Type 0 where
+  pub start : Place
+  pub starts : Starts start
+  pub done : List (List ℕ)
+  pub texts : List (List ℕ)
+  pub place : Place
+  pub line : List ℕ
+  pub after : Place
+  pub first : AreFirst (done ++ line ∷ []) script left
+  pub answers : AreAnswers (Texts layout) start done texts place
+  pub past : Stops layout place line Full after
+
+-- the script that was taken fills the journal
+abbrev pub JournalWasFull : (Place → Type 0) → DiskLayout → Option (List ℕ) → Option (List ℕ) → Type 0
+JournalWasFull Starts layout left left' = (script : List ℕ) × Consumes left left' script × FillsJournal Starts layout script left'
+
+-- Where the source tells its bytes, 8 comes where as many as the limit were taken and then another, and else only where
+-- the journal was full.
+pub record IsSpentExactly (status : ℕ) (Starts : Place → Type 0) (layout : DiskLayout) (old new : List ℕ) : Type 0 where
+  pub past_limit : length old ≡ (SCRIPT_LIMIT + 1) + length new → status ≡ 8
+  pub only : status ≡ 8 → (length old ≡ (SCRIPT_LIMIT + 1) + length new) ⊎ JournalWasFull Starts layout (Some old) (Some new)
+
+abbrev pub HasSpentCauses : ℕ → (Place → Type 0) → DiskLayout → Option (List ℕ) → Option (List ℕ) → Type 0
+HasSpentCauses status Starts layout (Some old) (Some new) = IsSpentExactly status Starts layout old new
+HasSpentCauses status Starts layout old new = Unit {0}
+
+-- where the disk tells its contents: over a new store, and over each that may stand there
+abbrev pub IsSpentOf : Task → ℕ → Told → Option (List ℕ) → Option (List ℕ) → Type 0
+IsSpentOf (Init layout) status disk left left' = status ≢ 8
+IsSpentOf (Run layout) status disk left left' = IsTrue disk.tells_contents → HasSpentCauses status (IsStart layout) layout left left'
+IsSpentOf RunStored status disk left left' =
+    IsTrue disk.tells_contents → (layout : DiskLayout) (table : TableState) → HoldsTable disk layout table → HasSpentCauses status (StartsOver layout table) layout left left'
+
+-- ---- no other status
+
+-- the source tells its bytes, and has no more than are taken
+abbrev pub FitsLimit : Option (List ℕ) → Type 0
+FitsLimit left = IsSomeAnd left (λ bytes. length bytes ≤ SCRIPT_LIMIT)
+
+-- no part of the source's bytes fills the journal
+abbrev pub FitsJournal : (Place → Type 0) → DiskLayout → Option (List ℕ) → Type 0
+FitsJournal Starts layout left = (left' : Option (List ℕ)) → JournalWasFull Starts layout left left' → ⊥
+
+-- where the script isn't too long and its requests fit the journal, it was run to its end or memory ran out
+abbrev pub IsComplete : ℕ → (Place → Type 0) → DiskLayout → Option (List ℕ) → Type 0
+IsComplete status Starts layout left = FitsLimit left → FitsJournal Starts layout left → (status ≡ 0) ⊎ (status ≡ 7)
+
+-- the same of a task, where the disk that is to be made a store has the size, or a store stands there
+abbrev pub IsCompleteOf : Task → ℕ → Told → Option (List ℕ) → Type 0
+IsCompleteOf (Init layout) status disk left = disk.size ≡ disk_size layout → (status ≡ 0) ⊎ (status ≡ 7)
+IsCompleteOf (Run layout) status disk left = IsTrue disk.tells_contents → disk.size ≡ disk_size layout → IsComplete status (IsStart layout) layout left
+IsCompleteOf RunStored status disk left =
+    IsTrue disk.tells_contents → (layout : DiskLayout) (table : TableState) → HoldsTable disk layout table → IsComplete status (StartsOver layout table) layout left
+
+-- ---- all of it
+
+-- What is done for a task, by the status and the disk; the counts of source and sink rose where these say so.
+pub record IsDoneSo (task : Task) (status : ℕ) (old new : Told) (left left' taken taken' : Option (List ℕ)) (read_rose write_rose : Type 0) : Type 0 where
+  pub output : IsOutputOf task status old new left left' taken taken'
+  pub read_fault : status ≡ 4 → read_rose
+  pub write_fault : status ≡ 5 → write_rose
+  pub disk_fault : status ≡ 6 → Rose old.faults new.faults
+  pub no_store : status ≡ 9 → LacksStore task old
+  pub damaged : status ≡ 11 → HasDamage task old
+  pub no_usage : status ≢ 2
+  pub spent : IsSpentOf task status old left left'
+  pub complete : ¬ read_rose → ¬ write_rose → ¬ (Rose old.faults new.faults) → IsCompleteOf task status old left

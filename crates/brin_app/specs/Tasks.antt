@@ -1,0 +1,46 @@
+-- what the words of a command line ask for
+use Rattle.std.specs.Prelude.{◌≡◌, ◌⊎◌, ℕ, List, None, IsSome}
+use Rattle.block_model.specs.declared.schema.Schema.{Schema}
+use Rattle.block_model.specs.declared.schema.Sizes.{Sizes}
+use Rattle.store_layout.specs.DiskLayout.{DiskLayout}
+use Rattle.store_layout.specs.FirstBrokenRule.{first_broken_rule}
+use Rattle.command_words.specs.declared.command.Command.{Command}
+use Rattle.command_words.specs.declared.command.Command.TheVariants as commands
+use Rattle.command_words.specs.CommandWords.{IsCommand}
+use Rattle.schema_words.specs.DeclaredSchema.{Denotes}
+use Rattle.brin_app.specs.declared.top.Task.{Task}
+use Rattle.brin_app.specs.declared.top.Task.TheVariants.{Init, Run, RunStored}
+
+-- a layout of these sizes and of what is declared, which passes no limit
+pub record IsLayoutFor (sizes : Sizes) (declared : List (List ℕ)) (layout : DiskLayout) : Type 0 where
+  pub sizes_are : layout.sizes ≡ sizes
+  pub schema : Denotes declared layout.schema
+  pub within : first_broken_rule layout.schema sizes ≡ None
+
+-- what a command asks for
+abbrev pub IsTaskOf : Command → Task → Type 0
+IsTaskOf (commands.Init sizes declared) (Init layout) = IsLayoutFor sizes declared layout
+IsTaskOf (commands.Run sizes declared) (Run layout) = IsLayoutFor sizes declared layout
+IsTaskOf commands.RunStored RunStored = Unit {0}
+IsTaskOf command task = ⊥
+
+-- the words are a command that asks for it
+pub record Asks (words : List (List ℕ)) (task : Task) : Type 0 where
+  pub command : Command
+  pub is : IsCommand words command
+  pub task_is : IsTaskOf command task
+
+-- what is declared is no schema, or it passes a limit with these sizes
+abbrev pub HasNoLayout : Sizes → List (List ℕ) → Type 0
+HasNoLayout sizes declared = (schema : Schema) → Denotes declared schema → IsSome (first_broken_rule schema sizes)
+
+-- why a command can't be begun; a demo can't yet
+abbrev pub IsWrong : Command → Type 0
+IsWrong (commands.Init sizes declared) = HasNoLayout sizes declared
+IsWrong (commands.Run sizes declared) = HasNoLayout sizes declared
+IsWrong commands.RunStored = ⊥
+IsWrong (commands.Demo seed rows) = Unit {0}
+
+-- the words are no command, or one that can't be begun
+abbrev pub IsUsage : List (List ℕ) → Type 0
+IsUsage words = ((command : Command) → ¬ (IsCommand words command)) ⊎ ((command : Command) × IsCommand words command × IsWrong command)
