@@ -72,7 +72,7 @@ behind_all p = let own : length p.journal ≤ length p.journal = omega arith in 
 
 -- ---- images
 
-image_as : (l m : DiskLayout) (a b : TableState) (image : List ℕ) → l ≡ m → a ≡ b → IsImageWith l a image → IsImageWith m b image
+pub image_as : (l m : DiskLayout) (a b : TableState) (image : List ℕ) → l ≡ m → a ≡ b → IsImageWith l a image → IsImageWith m b image
 image_as l m a b image same alike has = subst (λ (x : DiskLayout). IsImageWith x b image) same (subst (λ (t : TableState). IsImageWith l t image) alike has)
 
 -- one of the first place's journal is one of the run

@@ -16,13 +16,13 @@ use Rattle.brin_app.specs.Leading.{HasStopCause, IsLeftBy, LeadsTo, PlacesLead, 
 use Rattle.brin_app.proofs.Crash.{KeepsJournal, OnlyNow, amid_then, between_kept, between_then, further_on, kept_further, still}
 
 module _ {D : Type 0} (told : D → Told) where
-  leaves_as_is : (v : View D) → Leaves told v v
+  pub leaves_as_is : (v : View D) → Leaves told v v
   leaves_as_is v = record { layout = refl; tells = refl; faults = omega arith }
 
   leaves_same : (v w : View D) → w ≡ v → Leaves told v w
   leaves_same v w same = subst (λ (x : View D). Leaves told v x) (sym same) (leaves_as_is v)
 
-  leaves_on : (v w x : View D) → Leaves told v w → Leaves told w x → Leaves told v x
+  pub leaves_on : (v w x : View D) → Leaves told v w → Leaves told w x → Leaves told v x
   leaves_on v w x first second = record {
     layout = second.layout ∙ first.layout;
     tells = second.tells ∙ first.tells;
@@ -111,13 +111,13 @@ module _ {D : Type 0} (told : D → Told) where
         };
   }
 
-  cause_later : (s t u : StoreState D) (fault : AnswerFault) (P : Place → Place → Type 0) → PlacesLead told s t P → HasStopCause told t u fault → HasStopCause told s u fault
-  cause_later s t u Memory P first cause = tt
-  cause_later s t u Full P first cause = tt
-  cause_later s t u Disk P first cause = λ was. rose_earlier (told s.pages.disk).faults (told t.pages.disk).faults (told u.pages.disk).faults first.leaves.faults (cause (first.ready was))
-  cause_later s t u Damaged P first cause = λ tells was. cause (first.leaves.tells ∙ tells) (first.ready was)
+  pub cause_after : (s t u : StoreState D) (fault : AnswerFault) → Leaves told s.pages t.pages → (s.pages.failed ≡ None → t.pages.failed ≡ None) → HasStopCause told t u fault → HasStopCause told s u fault
+  cause_after s t u Memory leaves ready cause = tt
+  cause_after s t u Full leaves ready cause = tt
+  cause_after s t u Disk leaves ready cause = λ was. rose_earlier (told s.pages.disk).faults (told t.pages.disk).faults (told u.pages.disk).faults leaves.faults (cause (ready was))
+  cause_after s t u Damaged leaves ready cause = λ tells was. cause (leaves.tells ∙ tells) (ready was)
 
-  left_later : (s t u : StoreState D) (fault : AnswerFault) (p q r : Place) → IsFurther p q → IsFurther q r → StopsBetween told s t p q → IsLeftBy told t u fault q r → IsLeftBy told s u fault p r
+  pub left_later : (s t u : StoreState D) (fault : AnswerFault) (p q r : Place) → IsFurther p q → IsFurther q r → StopsBetween told s t p q → IsLeftBy told t u fault q r → IsLeftBy told s u fault p r
   left_later s t u Memory p q r further more stops left = (left.0, between_then told s t u p q r further more stops left.1)
   left_later s t u Full p q r further more stops left = (left.0, between_then told s t u p q r further more stops left.1)
   left_later s t u Disk p q r further more stops left = amid_then told s t u p q r further more stops left
@@ -127,7 +127,7 @@ module _ {D : Type 0} (told : D → Told) where
       → ((p q r : Place) → ShowsPlace s p → ShowsPlace t q → P p q → Q q r → R p r) → PlacesStop told s u fault R
   stops_further s t u fault P Q R first second so = record {
     leaves = leaves_on s.pages t.pages u.pages first.leaves second.leaves;
-    cause = cause_later s t u fault P first second.cause;
+    cause = cause_after s t u fault first.leaves first.ready second.cause;
     places = λ tells was p shown.
         let mid = first.places tells was p shown in
         let far = second.places (first.leaves.tells ∙ tells) (first.ready was) mid.place mid.shown in

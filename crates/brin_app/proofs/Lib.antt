@@ -1,8 +1,12 @@
 pub mod Asked
 pub mod Crash
+pub mod Doing
 pub mod Leading
+pub mod Making
 pub mod Outputs
+pub mod Performed
 pub mod Saying
+pub mod Sessions
 pub mod Simulated
 pub mod Starting
 pub mod Stepping

@@ -4,6 +4,7 @@ pub mod Orders
 pub mod SessionPlaces
 pub mod ScriptOutput
 pub mod Simulations
+pub mod Statuses
 pub mod StatusCauses
 pub mod Tasks
 pub mod WordsFaults

@@ -7,7 +7,7 @@ use Rattle.disk_trait.specs.Throughout.{Throughout}
 use Rattle.store_layout.specs.DiskLayout.{DiskLayout, disk_size}
 use Rattle.page_store.specs.PageMap.{PageMap}
 use Rattle.store_opening.specs.Opens.{OpensAs}
-use Rattle.fresh_store.specs.FreshPages.{IsNoStore}
+use Rattle.fresh_store.specs.FreshPages.{IsNoStore, fresh_pages}
 use Rattle.line_texts.specs.LineTexts.{IsLineText}
 use Rattle.line_texts.specs.Place.{Place, database_at}
 use Rattle.line_texts.specs.Starts.{IsOpening, IsStart}
@@ -55,7 +55,13 @@ pub record HoldsTable (disk : Told) (layout : DiskLayout) (table : TableState) :
   pub opens : OpensAs layout disk.contents pages
   pub image : IsStoreImage layout pages table
 
--- a script over such a store starts there
+-- the disk holds a new store of the layout
+pub record HoldsFresh (disk : Told) (layout : DiskLayout) : Type 0 where
+  pub sized : disk_size layout ≡ disk.size
+  pub opens : OpensAs layout disk.contents (fresh_pages layout)
+  pub image : IsStoreImage layout (fresh_pages layout) initial_state.table
+
+-- a script over a store with the table starts there
 abbrev pub StartsOver : DiskLayout → TableState → Place → Type 0
 StartsOver layout table p = (next : ℕ) × IsOpening layout (database_with next table) p
 
@@ -72,6 +78,10 @@ IsOldOrEmpty layout old image = IsOldOrNone old image ⊎ IsImageWith layout ini
 -- At every moment of a run over a store that stands there, each image has a table of the run, where each had the table of its start.
 abbrev pub StopsOfRun : (old new : Told) → (start after : Place) → Type 0
 StopsOfRun old new start after = EachImageHas old start.layout (database_at start).table → Throughout old new (IsOfStop start after)
+
+-- the same from its start on
+abbrev pub RunsThrough : (old new : Told) → (start after : Place) → Type 0
+RunsThrough old new start after = Throughout old new (IsOfStop start after)
 
 -- While a store is made, and a script runs over it, each was there before, or is no store, or has a table of the run.
 abbrev pub StopsOfNewRun : (old new : Told) → (start after : Place) → Type 0
@@ -107,8 +117,7 @@ pub record IsUnmade (status : ℕ) (layout : DiskLayout) (old new : Told) (left 
   pub any_moment : Throughout old new (IsOldOrEmpty layout old)
 
 -- a store is made where the status is 0
-pub record IsMade (status : ℕ) (layout : DiskLayout) (old new : Told) (left left' taken taken' : Option (List ℕ)) : Type 0 where
-  pub idle : IsIdle left left' taken taken'
+pub record IsMade (status : ℕ) (layout : DiskLayout) (old new : Told) : Type 0 where
   pub any_moment : Throughout old new (IsOldOrEmpty layout old)
   pub made : status ≡ 0 → EachImageHas new layout initial_state.table
   pub holds : status ≡ 0 → IsTrue old.tells_contents → HoldsTable new layout initial_state.table
@@ -125,8 +134,15 @@ IsStoredOutput status old new left left' taken taken' =
     → IsUnopened status layout table old new left left' taken taken'
     ⊎ ((start : Place) × StartsOver layout table start × IsScriptRun status layout (StopsOfRun old new) new left left' taken taken' start)
 
+-- the same over a store that was just made
+abbrev pub IsFreshOutput : ℕ → (old new : Told) → (left left' taken taken' : Option (List ℕ)) → Type 0
+IsFreshOutput status old new left left' taken taken' =
+    IsTrue old.tells_contents → (layout : DiskLayout) → HoldsFresh old layout
+    → IsUnopened status layout initial_state.table old new left left' taken taken'
+    ⊎ ((start : Place) × IsStart layout start × IsScriptRun status layout (StopsOfRun old new) new left left' taken taken' start)
+
 -- what becomes of a task
 abbrev pub IsOutputOf : Task → ℕ → (old new : Told) → (left left' taken taken' : Option (List ℕ)) → Type 0
-IsOutputOf (Init layout) status old new left left' taken taken' = IsMade status layout old new left left' taken taken'
+IsOutputOf (Init layout) status old new left left' taken taken' = IsIdle left left' taken taken' × IsMade status layout old new
 IsOutputOf (Run layout) status old new left left' taken taken' = IsNewOutput status layout old new left left' taken taken'
 IsOutputOf RunStored status old new left left' taken taken' = IsStoredOutput status old new left left' taken taken'

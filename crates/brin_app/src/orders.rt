@@ -124,6 +124,7 @@ fn finish<D: Disk + Drop>(store: &mut Store<D>, session: u32) -> Result<Answer, 
 }
 
 /// Makes one step of the session's statement.
+#[tactic(none)]
 fn step<D: Disk + Drop>(store: &mut Store<D>, session: u32) -> Result<Answer, AnswerFault>
     requires hand { IsSome (hand_at store.old session) }
     ensures names { store.new.names ≡ store.old.names }

@@ -1,28 +1,52 @@
 //! The top call.
 
-ghost use Rattle.std.specs.Prelude.{◌≡◌, Ok, Err, IfOk, IfErr, IsSome, None};
+ghost use Rattle.std.specs.Prelude.{◌≡◌, ◌≢◌, ◌⊎◌, ℕ, List, None, Ok, Err, IfOk, IfErr, OnOk, IsSome, IsTrue};
+ghost use Rattle.block_model.specs.Causes.{Rose};
+ghost use Rattle.block_model.specs.DatabaseState.{initial_state};
+ghost use Rattle.block_model.specs.declared.schema.Schema.{Schema};
+ghost use Rattle.disk_trait.specs.Throughout.{Throughout};
 ghost use Rattle.store_layout.specs.DiskLayout.{DiskLayout};
 ghost use Rattle.store_layout.specs.FirstBrokenRule.{first_broken_rule};
-ghost use Rattle.block_model.specs.declared.schema.Schema.{Schema};
 ghost use Rattle.schema_words.specs.DeclaredSchema.{Denotes};
+ghost use Rattle.page_store.specs.Keeps.{Tells};
+ghost use Rattle.page_store.specs.PageMap.{PageMap};
+ghost use Rattle.store_opening.specs.Opens.{Opens};
+ghost use Rattle.line_texts.specs.Place.{Place};
+ghost use Rattle.store_parts.specs.ShowsPlace.{ShowsPlace};
+ghost use Rattle.store_images.specs.StopRule.{AllHaveTable};
 ghost use Rattle.store_starts.specs.Started.{HoldsImage};
-ghost use Rattle.brin_app.specs.ScriptOutput.{exit_status};
-ghost use Rattle.brin_app.specs.Tasks.{HasNoLayout, IsLayoutFor};
+ghost use Rattle.brin_app.specs.ScriptOutput.{EachImageHas, HoldsFresh, IsFreshOutput, IsMade, IsOldOrEmpty, IsOutputOf, IsScriptRun, RunsThrough, exit_status};
+ghost use Rattle.brin_app.specs.StatusCauses.{HasDamage, IsCompleteOf, IsDoneSo, IsSpentOf, LacksStore};
+ghost use Rattle.brin_app.specs.Statuses.{IsFit, IsUnfit, format_status, start_status};
+ghost use Rattle.brin_app.specs.Tasks.{Asks, HasNoLayout, IsLayoutFor, IsTaskOf, IsUsage, IsWrong};
+ghost use Rattle.command_words.specs.declared.command.Command.TheVariants as commands;
+ghost use Rattle.brin_app.specs.declared.top.Task.{Task};
+ghost use Rattle.brin_app.specs.declared.top.Task.TheVariants as tasks;
 
+use crate::laws::a_stored_table_is_not_damaged;
 use crate::sessions::Sessions;
 use crate::status::{DAMAGED, DISK_FAULT, DONE, LIMIT, MEMORY, NO_STORE, READ_FAULT, SCRIPT_LIMIT, USAGE, WRITE_FAULT};
 use block_model::{Schema, Sizes, Words};
 use command_words::{Command, CommandFault, read_command};
+use control_page::one_layout;
 use disk_trait::Disk;
+use fresh_store::{a_format_leaves_old_or_none_or_new, a_new_store_opens_to_fresh_pages};
 use io_traits::{Sink, Source};
 use schema_words::{DeclFault, read_declarations};
 use script_run::{AnswerFault, RunFault, run};
 use session_core::Store;
 use std::alloc::Global;
 use store_format::{FormatFault, format};
+use store_images::a_new_store_is_an_image;
 use store_layout::Layout;
-use store_opening::StartFault;
+use store_opening::{StartFault, an_image_opens_to_one_map};
 
+/// Does what the words of a command line say. `init` with options and the declarations of tables and indexes makes an empty store of the disk; `run`
+/// with them does so first, and then runs the script of the source over it, line after line, and writes the text of each line to the sink before the
+/// next line is judged; `run` alone runs it over the store that stands on the disk. The status is 0 where all was done, 2 where the words are no
+/// command or a limit is passed, 4 for a read fault, 5 for a write fault, 6 for a disk fault, 7 for want of memory, 8 where the requests of a line
+/// don't fit into the journal of 1048576 entries, or 1073741824 bytes of script were taken and another came, 9 where no store stands on the disk, or
+/// it hasn't the size for one, and 11 where the store is damaged. The disk comes back with each.
 pub fn brin_main<D: Disk + Drop, S: Source, K: Sink>(
     alloc: Global,
     words: &Words,
@@ -31,11 +55,24 @@ pub fn brin_main<D: Disk + Drop, S: Source, K: Sink>(
     sink: &mut K,
 ) -> (u8, D)
     requires { HoldsImage (D.told disk) }
+    // What is written, and which table a stop at any moment leaves.
+    ensures script_output { (task : Task) → Asks words.now task → IsOutputOf task result.0 (D.told disk) (D.told result.1) (S.left source.old) (S.left source.new) (K.taken sink.old) (K.taken sink.new) }
+
+    // When each status comes. Want of memory, 7, is free.
+    ensures usage { result.0 ≡ 2 → IsUsage words.now }
+    ensures refused { IsUsage words.now → (result.0 ≡ 2) ⊎ (result.0 ≡ 7) }
+    ensures untouched { IsUsage words.now → (source.new ≡ source.old) × (sink.new ≡ sink.old) × (result.1 ≡ disk) }
+    ensures read_fault { result.0 ≡ 4 → Rose (S.faults source.old) (S.faults source.new) }
+    ensures write_fault { result.0 ≡ 5 → Rose (K.faults sink.old) (K.faults sink.new) }
+    ensures disk_fault { result.0 ≡ 6 → Rose (D.told disk).faults (D.told result.1).faults }
+    ensures no_store { result.0 ≡ 9 → (task : Task) → Asks words.now task → LacksStore task (D.told disk) }
+    ensures damaged { result.0 ≡ 11 → (task : Task) → Asks words.now task → HasDamage task (D.told disk) }
+    ensures spent { (task : Task) → Asks words.now task → IsSpentOf task result.0 (D.told disk) (S.left source.old) (S.left source.new) }
+    ensures complete { (task : Task) → Asks words.now task → ¬ (Rose (S.faults source.old) (S.faults source.new)) → ¬ (Rose (K.faults sink.old) (K.faults sink.new)) → ¬ (Rose (D.told disk).faults (D.told result.1).faults)
+        → IsCompleteOf task result.0 (D.told disk) (S.left source.old) }
 {
     match read_words(alloc, words) {
-        Ok(Task::Init(layout)) => init(&layout, disk),
-        Ok(Task::Run(layout)) => run_new(alloc, &layout, disk, source, sink),
-        Ok(Task::RunStored) => run_stored(alloc, disk, source, sink),
+        Ok(task) => perform(alloc, task, disk, source, sink),
         Err(WordsFault::Usage) => (USAGE, disk),
         Err(WordsFault::Memory) => (MEMORY, disk),
     }
@@ -83,18 +120,58 @@ impl From<DeclFault> for WordsFault {
 }
 
 /// What the words ask for.
-fn read_words(alloc: Global, words: &Words) -> Result<Task, WordsFault> {
-    match read_command(alloc, words)? {
+fn read_words(alloc: Global, words: &Words) -> Result<Task, WordsFault>
+    ensures asked { IfOk result (Asks words.now) }
+    ensures alone { IfOk result (λ task. (other : Task) → Asks words.now other → other ≡ task) }
+    ensures right { IfOk result (λ task. ¬ (IsUsage words.now)) }
+    ensures usage { result ≡ Err WordsFault.Usage → IsUsage words.now }
+    ensures nothing { result ≡ Err WordsFault.Usage → (task : Task) → ¬ (Asks words.now task) }
+{
+    let command = read_command(alloc, words)?;
+    task_of(alloc, command)
+}
+
+/// What the command asks for.
+fn task_of(alloc: Global, command: Command) -> Result<Task, WordsFault>
+    ensures asked { IfOk result (IsTaskOf command) }
+    ensures alone { IfOk result (λ task. (other : Task) → IsTaskOf command other → other ≡ task) }
+    ensures usage { result ≡ Err WordsFault.Usage → IsWrong command }
+{
+    match command {
         Command::Init {
             sizes,
             declarations,
-        } => Ok(Task::Init(layout_for(alloc, sizes, &declarations)?)),
+        } => init_task(alloc, sizes, &declarations),
         Command::Run {
             sizes,
             declarations,
-        } => Ok(Task::Run(layout_for(alloc, sizes, &declarations)?)),
+        } => run_task(alloc, sizes, &declarations),
         Command::RunStored => Ok(Task::RunStored),
         Command::Demo { .. } => Err(WordsFault::Usage),
+    }
+}
+
+/// A new store of these sizes and of what the words declare.
+fn init_task(alloc: Global, sizes: Sizes, declarations: &Words) -> Result<Task, WordsFault>
+    ensures asked { IfOk result (IsTaskOf (commands.Init sizes declarations.now)) }
+    ensures alone { IfOk result (λ task. (other : Task) → IsTaskOf (commands.Init sizes declarations.now) other → other ≡ task) }
+    ensures usage { result ≡ Err WordsFault.Usage → HasNoLayout sizes declarations.now }
+{
+    match layout_for(alloc, sizes, declarations) {
+        Ok(layout) => Ok(Task::Init(layout)),
+        Err(fault) => Err(fault),
+    }
+}
+
+/// A script over one.
+fn run_task(alloc: Global, sizes: Sizes, declarations: &Words) -> Result<Task, WordsFault>
+    ensures asked { IfOk result (IsTaskOf (commands.Run sizes declarations.now)) }
+    ensures alone { IfOk result (λ task. (other : Task) → IsTaskOf (commands.Run sizes declarations.now) other → other ≡ task) }
+    ensures usage { result ≡ Err WordsFault.Usage → HasNoLayout sizes declarations.now }
+{
+    match layout_for(alloc, sizes, declarations) {
+        Ok(layout) => Ok(Task::Run(layout)),
+        Err(fault) => Err(fault),
     }
 }
 
@@ -119,11 +196,49 @@ fn layout_of(schema: Schema, sizes: Sizes) -> Result<Layout, WordsFault>
     }
 }
 
+/// Does the task.
+fn perform<D: Disk + Drop, S: Source, K: Sink>(
+    alloc: Global,
+    task: Task,
+    disk: D,
+    source: &mut S,
+    sink: &mut K,
+) -> (u8, D)
+    requires { HoldsImage (D.told disk) }
+    ensures done { IsDoneSo task result.0 (D.told disk) (D.told result.1) (S.left source.old) (S.left source.new) (K.taken sink.old) (K.taken sink.new) (Rose (S.faults source.old) (S.faults source.new)) (Rose (K.faults sink.old) (K.faults sink.new)) }
+{
+    match task {
+        Task::Init(layout) => init(&layout, disk),
+        Task::Run(layout) => run_new(alloc, &layout, disk, source, sink),
+        Task::RunStored => run_stored(alloc, disk, source, sink),
+    }
+}
+
 /// Makes an empty store of the disk.
-fn init<D: Disk + Drop>(layout: &Layout, mut disk: D) -> (u8, D) {
-    match format(&mut disk, layout) {
+fn init<D: Disk + Drop>(layout: &Layout, mut disk: D) -> (u8, D)
+    ensures made { IsMade result.0 layout.now (D.told disk) (D.told result.1) }
+    ensures cause { ((result.0 ≡ 0) × IsFit layout.now (D.told disk) (D.told result.1)) ⊎ IsUnfit result.0 layout.now (D.told disk) (D.told result.1) }
+{
+    match make(layout, &mut disk) {
         Ok(()) => (DONE, disk),
-        Err(fault) => (format_status(fault), disk),
+        Err(status) => (status, disk),
+    }
+}
+
+/// Makes an empty store of the disk, or says with which status the program ends.
+fn make<D: Disk + Drop>(layout: &Layout, disk: &mut D) -> Result<(), u8>
+    ensures any_moment { Throughout (D.told disk.old) (D.told disk.new) (IsOldOrEmpty layout.now (D.told disk.old)) }
+    ensures made { OnOk result (EachImageHas (D.told disk.new) layout.now initial_state.table) }
+    ensures holds { OnOk result (IsTrue (D.told disk.old).tells_contents → HoldsFresh (D.told disk.new) layout.now) }
+    ensures fit { OnOk result (IsFit layout.now (D.told disk.old) (D.told disk.new)) }
+    ensures unfit { IfErr result (λ status. IsUnfit status layout.now (D.told disk.old) (D.told disk.new)) }
+{
+    a_format_leaves_old_or_none_or_new(layout);
+    a_new_store_opens_to_fresh_pages(layout);
+    a_new_store_is_an_image(layout);
+    match format(disk, layout) {
+        Ok(()) => Ok(()),
+        Err(fault) => Err(format_status(fault)),
     }
 }
 
@@ -134,10 +249,16 @@ fn run_new<D: Disk + Drop, S: Source, K: Sink>(
     mut disk: D,
     source: &mut S,
     sink: &mut K,
-) -> (u8, D) {
-    match format(&mut disk, layout) {
+) -> (u8, D)
+    ensures done { IsDoneSo (tasks.Run layout.now) result.0 (D.told disk) (D.told result.1) (S.left source.old) (S.left source.new) (K.taken sink.old) (K.taken sink.new) (Rose (S.faults source.old) (S.faults source.new)) (Rose (K.faults sink.old) (K.faults sink.new)) }
+{
+    one_layout();
+    an_image_opens_to_one_map(layout);
+    a_stored_table_is_not_damaged();
+    a_new_store_opens_to_fresh_pages(layout);
+    match make(layout, &mut disk) {
         Ok(()) => run_stored(alloc, disk, source, sink),
-        Err(fault) => (format_status(fault), disk),
+        Err(status) => (status, disk),
     }
 }
 
@@ -149,23 +270,48 @@ fn run_stored<D: Disk + Drop, S: Source, K: Sink>(
     sink: &mut K,
 ) -> (u8, D)
     requires { HoldsImage (D.told disk) }
+    ensures done { IsDoneSo tasks.RunStored result.0 (D.told disk) (D.told result.1) (S.left source.old) (S.left source.new) (K.taken sink.old) (K.taken sink.new) (Rose (S.faults source.old) (S.faults source.new)) (Rose (K.faults sink.old) (K.faults sink.new)) }
+    // Over a new store the tables are new as well.
+    ensures fresh { IsFreshOutput result.0 (D.told disk) (D.told result.1) (S.left source.old) (S.left source.new) (K.taken sink.old) (K.taken sink.new) }
 {
+    one_layout();
+    a_stored_table_is_not_damaged();
     match Store::start(alloc, disk) {
-        Ok(store) => run_over(alloc, store, source, sink),
-        Err((fault, disk)) => (start_status(fault), disk),
+        Ok(store) => run_opened(alloc, store, source, sink),
+        Err(refusal) => refused(refusal),
     }
 }
 
-/// Runs the script of the source over the store, and answers its disk.
-fn run_over<D: Disk + Drop, S: Source, K: Sink>(
+/// What is answered where no store is opened.
+fn refused<D: Disk + Drop>(refusal: (StartFault, D)) -> (u8, D)
+    ensures status { result.0 ≡ start_status refusal.0 }
+    ensures disk { result.1 ≡ refusal.1 }
+{
+    let (fault, disk) = refusal;
+    (start_status(fault), disk)
+}
+
+/// Runs the script of the source over the store that was opened, and answers its disk.
+fn run_opened<D: Disk + Drop, S: Source, K: Sink>(
     alloc: Global,
     store: Store<D>,
     source: &mut S,
     sink: &mut K,
-) -> (u8, D) {
+) -> (u8, D)
+    // The law of its layout, for the caller.
+    ensures one_map { (image : List ℕ) (a b : PageMap) → Opens store.pages.layout image a → Opens store.pages.layout image b → a ≡ b }
+    ensures runs { (start : Place) → Tells D.told store.pages → store.pages.failed ≡ None → ShowsPlace store start → AllHaveTable D.told store.pages start
+        → IsScriptRun result.0 store.pages.layout (RunsThrough (D.told store.pages.disk) (D.told result.1)) (D.told result.1) (S.left source.old) (S.left source.new) (K.taken sink.old) (K.taken sink.new) start }
+    ensures read_fault { result.0 ≡ 4 → Rose (S.faults source.old) (S.faults source.new) }
+    ensures write_fault { result.0 ≡ 5 → Rose (K.faults sink.old) (K.faults sink.new) }
+    ensures disk_fault { result.0 ≡ 6 → store.pages.failed ≡ None → Rose (D.told store.pages.disk).faults (D.told result.1).faults }
+    ensures damaged { result.0 ≡ 11 → Tells D.told store.pages → store.pages.failed ≡ None → ⊥ }
+    ensures others { (result.0 ≢ 2) × (result.0 ≢ 9) }
+{
+    an_image_opens_to_one_map(store.layout());
     let mut sessions = Sessions { alloc, store };
-    let status = status(run(alloc, SCRIPT_LIMIT, &mut sessions, source, sink));
-    (status, sessions.store.into_disk())
+    let end = run(alloc, SCRIPT_LIMIT, &mut sessions, source, sink);
+    (status(end), sessions.store.into_disk())
 }
 
 /// The status of each way in which a run ends.
@@ -184,7 +330,9 @@ fn status(end: Result<(), RunFault>) -> u8
 }
 
 /// The status where no store is made.
-fn format_status(fault: FormatFault) -> u8 {
+fn format_status(fault: FormatFault) -> u8
+    ensures { result ≡ format_status fault }
+{
     match fault {
         FormatFault::Size { .. } => NO_STORE,
         FormatFault::Disk => DISK_FAULT,
@@ -193,7 +341,9 @@ fn format_status(fault: FormatFault) -> u8 {
 }
 
 /// The status where no store is opened.
-fn start_status(fault: StartFault) -> u8 {
+fn start_status(fault: StartFault) -> u8
+    ensures { result ≡ start_status fault }
+{
     match fault {
         StartFault::NoStore => NO_STORE,
         StartFault::Damaged { .. } => DAMAGED,

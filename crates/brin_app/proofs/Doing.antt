@@ -1,0 +1,402 @@
+-- what is done for a task, by what is done with its disk
+use Rattle.std.proofs.Common.{◌≡◌, ◌≢◌, ℕ, ◌≤◌, List, [], take, Option, None, refl, sym, ap, ◌∙◌, subst, arith, ◌⊎◌, inl, inr}
+use Rattle.std.specs.Prelude.{IsTrue}
+use Rattle.block_model.specs.Causes.{Rose, rose_earlier}
+use Rattle.block_model.specs.DatabaseState.{DatabaseState, initial_state}
+use Rattle.block_model.specs.SerialRun.{serial_run}
+use Rattle.block_model.specs.TableState.{TableState}
+use Rattle.block_model.specs.declared.limits.TheConstants.{PAGE_SIZE}
+use Rattle.block_model.specs.declared.request.Entry.{Entry}
+use Rattle.control_page.specs.ControlPage.{HasControl}
+use Rattle.disk_trait.specs.Told.{Told}
+use Rattle.disk_trait.specs.Throughout.{Throughout}
+use Rattle.disk_trait.specs.ThroughoutLaws.{joined, started, weaker}
+use Rattle.store_layout.specs.DiskLayout.{DiskLayout, disk_size}
+use Rattle.page_store.specs.Keeps.{Tells}
+use Rattle.page_store.specs.PageMap.{PageMap}
+use Rattle.store_opening.specs.Damaged.{IsDamaged}
+use Rattle.store_opening.specs.Opens.{Opens, OpensAs}
+use Rattle.store_opening.specs.PageOrder.{AreInOrder}
+use Rattle.store_opening.specs.StartCauses.{HasStore, IsDamagedStore}
+use Rattle.store_opening.specs.declared.fault.StartFault.{StartFault}
+use Rattle.store_opening.specs.declared.fault.StartFault.TheVariants as starts
+use Rattle.logged_pages.specs.Refused.{IsRefused}
+use Rattle.fresh_store.specs.FreshPages.{fresh_pages}
+use Rattle.line_texts.specs.Place.{Place, database_at}
+use Rattle.line_texts.specs.Starts.{IsOpening, IsStart}
+use Rattle.store_parts.specs.ShowsPlace.{ShowsPlace}
+use Rattle.store_parts.specs.StoreStates.{StoreState}
+use Rattle.store_images.specs.StopRule.{AllHaveTable, IsImageWith}
+use Rattle.store_images.specs.StoreImage.{IsStoreImage, database_with}
+use Rattle.store_starts.specs.OpenedParts.{ShowsStart}
+use Rattle.store_starts.specs.Started.{HoldsImage, ImagesStay, OpensTable}
+use Rattle.brin_app.specs.declared.top.Task.{Task}
+use Rattle.brin_app.specs.declared.top.Task.TheVariants.{Init, Run, RunStored}
+use Rattle.brin_app.specs.CrashRule.{IsOfStop}
+use Rattle.brin_app.specs.ScriptOutput.{EachImageHas, HoldsFresh, HoldsTable, IsFreshOutput, IsIdle, IsMade, IsOldOrEmpty, IsOldOrNone, IsOutputOf, IsScriptRun, IsUnopened, RunsThrough, StartsOver, StopsOfNewRun, StopsOfRun}
+use Rattle.brin_app.specs.StatusCauses.{HasSpentCauses, IsCompleteOf, IsDoneSo, IsSpentOf}
+use Rattle.brin_app.specs.Statuses.{IsFit, IsUnfit, start_status}
+use Rattle.brin_app.proofs.Crash.{image_as, run_of}
+use Rattle.brin_app.proofs.Outputs.{idle_spent, run_complete, run_spent}
+
+-- ---- laws of the layers below
+
+abbrev pub HaveOneLayout : Type 0
+HaveOneLayout = (page : List ℕ) (a b : DiskLayout) → HasControl a page → HasControl b page → a ≡ b
+
+abbrev pub OpenToOneMap : DiskLayout → Type 0
+OpenToOneMap layout = (image : List ℕ) (a b : PageMap) → Opens layout image a → Opens layout image b → a ≡ b
+
+abbrev pub AreNotDamaged : Type 0
+AreNotDamaged = (layout : DiskLayout) (image : List ℕ) (pages : PageMap) (at : ℕ) → Opens layout image pages → AreInOrder layout pages → IsDamaged layout image at → ⊥
+
+-- ---- disks
+
+pub held : (disk : Told) (layout : DiskLayout) → HoldsFresh disk layout → HoldsTable disk layout initial_state.table
+held disk layout fresh = record { sized = fresh.sized; pages = fresh_pages layout; opens = fresh.opens; image = fresh.image }
+
+has_store : (disk : Told) (layout : DiskLayout) (table : TableState) → HoldsTable disk layout table → HasStore layout disk.size disk.contents
+has_store disk layout table holds = record { control = holds.opens.control; sized = holds.sized }
+
+undamaged : HaveOneLayout → AreNotDamaged → (disk : Told) (layout : DiskLayout) (table : TableState) (at : ℕ) → HoldsTable disk layout table → IsDamagedStore disk.size disk.contents at → ⊥
+undamaged one law disk layout table at holds damaged =
+    let same : damaged.0 ≡ layout = one (take PAGE_SIZE disk.contents) damaged.0 layout damaged.1.control holds.opens.control in
+    law layout disk.contents holds.pages at holds.opens.opens holds.image.order (subst (λ (m : DiskLayout). IsDamaged m disk.contents at) same damaged.2)
+
+-- a new store is an image of one
+pub fresh_image : HaveOneLayout → (disk : Told) (layout : DiskLayout) → OpenToOneMap layout → (IsTrue disk.tells_contents → HoldsFresh disk layout) → HoldsImage disk
+fresh_image one disk layout map fresh tells other pages opens =
+    let held_ = fresh tells in
+    let same : layout ≡ other = one (take PAGE_SIZE disk.contents) layout other held_.opens.control opens.control in
+    let own : OpensAs layout disk.contents pages = subst (λ (m : DiskLayout). OpensAs m disk.contents pages) (sym same) opens in
+    let pages_ : fresh_pages layout ≡ pages = map disk.contents (fresh_pages layout) pages held_.opens.opens own.opens in
+    (initial_state.table, subst (λ (m : DiskLayout). IsStoreImage m pages initial_state.table) same (subst (λ (x : PageMap). IsStoreImage layout x initial_state.table) pages_ held_.image))
+
+idle : (l k : Option (List ℕ)) → IsIdle l l k k
+idle l k = record { source = refl; sink = refl }
+
+-- ---- init
+
+pub init_done : (layout : DiskLayout) (status : ℕ) (old new : Told) (l k : Option (List ℕ)) (r w : Type 0) → IsMade status layout old new → ((status ≡ 0) × IsFit layout old new) ⊎ IsUnfit status layout old new
+    → IsDoneSo (Init layout) status old new l l k k r w
+init_done layout status old new l k r w made (inl fit) = record {
+  output = (idle l k, made);
+  read_fault = λ e. absurd (omega (arith, fit.0, e));
+  write_fault = λ e. absurd (omega (arith, fit.0, e));
+  disk_fault = λ e. absurd (omega (arith, fit.0, e));
+  no_store = λ e. absurd (omega (arith, fit.0, e));
+  damaged = λ e. absurd (omega (arith, fit.0, e));
+  no_usage = λ e. absurd (omega (arith, fit.0, e));
+  spent = λ e. absurd (omega (arith, fit.0, e));
+  complete = λ _ _ _ _. inl fit.0;
+}
+init_done layout status old new l k r w made (inr (inl six)) = record {
+  output = (idle l k, made);
+  read_fault = λ e. absurd (omega (arith, six.0, e));
+  write_fault = λ e. absurd (omega (arith, six.0, e));
+  disk_fault = λ _. six.1;
+  no_store = λ e. absurd (omega (arith, six.0, e));
+  damaged = λ e. absurd (omega (arith, six.0, e));
+  no_usage = λ e. absurd (omega (arith, six.0, e));
+  spent = λ e. absurd (omega (arith, six.0, e));
+  complete = λ _ _ not _. absurd (not six.1);
+}
+init_done layout status old new l k r w made (inr (inr nine)) = record {
+  output = (idle l k, made);
+  read_fault = λ e. absurd (omega (arith, nine.0, e));
+  write_fault = λ e. absurd (omega (arith, nine.0, e));
+  disk_fault = λ e. absurd (omega (arith, nine.0, e));
+  no_store = λ _. nine.1;
+  damaged = λ e. absurd (omega (arith, nine.0, e));
+  no_usage = λ e. absurd (omega (arith, nine.0, e));
+  spent = λ e. absurd (omega (arith, nine.0, e));
+  complete = λ _ _ _ fits. absurd (nine.1 fits);
+}
+
+pub unfit_made : (status : ℕ) (layout : DiskLayout) (old new : Told) → Throughout old new (IsOldOrEmpty layout old) → IsUnfit status layout old new → IsMade status layout old new
+unfit_made status layout old new moments (inl six) = record { any_moment = moments; made = λ e. absurd (omega (arith, six.0, e)); holds = λ e. absurd (omega (arith, six.0, e)) }
+unfit_made status layout old new moments (inr nine) = record { any_moment = moments; made = λ e. absurd (omega (arith, nine.0, e)); holds = λ e. absurd (omega (arith, nine.0, e)) }
+
+-- ---- want of memory before anything is done
+
+module _ (old : Told) (l k : Option (List ℕ)) (only : (image : List ℕ) → IsTrue (old.since old.moment image) → IsTrue (old.now image)) where
+  pub idle_output : (task : Task) → IsOutputOf task 7 old old l l k k
+  idle_output (Init layout) = (
+    idle l k,
+    record {
+      any_moment = started old (IsOldOrEmpty layout old) (λ image since. inl (inl (only image since)));
+      made = λ e. absurd (omega (arith, e));
+      holds = λ e. absurd (omega (arith, e));
+    },
+  )
+  idle_output (Run layout) tells =
+      inl (record { why = inr (inl refl); idle = idle l k; any_moment = started old (IsOldOrEmpty layout old) (λ image since. inl (inl (only image since))) })
+  idle_output RunStored tells layout table holds =
+      inl (record { why = inr refl; idle = idle l k; any_moment = λ each. started old (IsImageWith layout table) (λ image since. each image (only image since)) })
+
+  pub idle_spent_of : (task : Task) → IsSpentOf task 7 old l l
+  idle_spent_of (Init layout) e = omega (arith, e)
+  idle_spent_of (Run layout) tells = idle_spent 7 (IsStart layout) layout l (λ e. omega (arith, e))
+  idle_spent_of RunStored tells layout table holds = idle_spent 7 (StartsOver layout table) layout l (λ e. omega (arith, e))
+
+  pub idle_complete_of : (task : Task) → IsCompleteOf task 7 old l
+  idle_complete_of (Init layout) fits = inr refl
+  idle_complete_of (Run layout) tells fits limit room = inr refl
+  idle_complete_of RunStored tells layout table holds limit room = inr refl
+
+-- ---- a store that isn't opened
+
+module _ (one : HaveOneLayout) (law : AreNotDamaged) (old new : Told) (l k : Option (List ℕ)) (stay : ImagesStay old new) where
+  pub refused_done : (fault : StartFault) (r w : Type 0) → IsRefused old new fault → IsDoneSo RunStored (start_status fault) old new l l k k r w
+  refused_done starts.NoStore r w cause = record {
+    output = λ tells layout table holds. absurd (cause.0 tells layout (has_store old layout table holds));
+    read_fault = λ e. absurd (omega (arith, e));
+    write_fault = λ e. absurd (omega (arith, e));
+    disk_fault = λ e. absurd (omega (arith, e));
+    no_store = λ _. cause.0;
+    damaged = λ e. absurd (omega (arith, e));
+    no_usage = λ e. absurd (omega (arith, e));
+    spent = λ tells layout table holds. idle_spent 9 (StartsOver layout table) layout l (λ e. omega (arith, e));
+    complete = λ _ _ _ tells layout table holds. absurd (cause.0 tells layout (has_store old layout table holds));
+  }
+  refused_done (starts.Damaged at) r w cause = record {
+    output = λ tells layout table holds. absurd (undamaged one law old layout table at holds (cause.0 tells));
+    read_fault = λ e. absurd (omega (arith, e));
+    write_fault = λ e. absurd (omega (arith, e));
+    disk_fault = λ e. absurd (omega (arith, e));
+    no_store = λ e. absurd (omega (arith, e));
+    damaged = λ _ tells. (at, cause.0 tells);
+    no_usage = λ e. absurd (omega (arith, e));
+    spent = λ tells layout table holds. idle_spent 11 (StartsOver layout table) layout l (λ e. omega (arith, e));
+    complete = λ _ _ _ tells layout table holds. absurd (undamaged one law old layout table at holds (cause.0 tells));
+  }
+  refused_done starts.Disk r w cause = record {
+    output = λ tells layout table holds. inl (record { why = inl refl; idle = idle l k; any_moment = stay layout table });
+    read_fault = λ e. absurd (omega (arith, e));
+    write_fault = λ e. absurd (omega (arith, e));
+    disk_fault = λ _. cause.1;
+    no_store = λ e. absurd (omega (arith, e));
+    damaged = λ e. absurd (omega (arith, e));
+    no_usage = λ e. absurd (omega (arith, e));
+    spent = λ tells layout table holds. idle_spent 6 (StartsOver layout table) layout l (λ e. omega (arith, e));
+    complete = λ _ _ not. absurd (not cause.1);
+  }
+  refused_done starts.Memory r w cause = record {
+    output = λ tells layout table holds. inl (record { why = inr refl; idle = idle l k; any_moment = stay layout table });
+    read_fault = λ e. absurd (omega (arith, e));
+    write_fault = λ e. absurd (omega (arith, e));
+    disk_fault = λ e. absurd (omega (arith, e));
+    no_store = λ e. absurd (omega (arith, e));
+    damaged = λ e. absurd (omega (arith, e));
+    no_usage = λ e. absurd (omega (arith, e));
+    spent = λ tells layout table holds. idle_spent 7 (StartsOver layout table) layout l (λ e. omega (arith, e));
+    complete = λ _ _ _ tells layout table holds limit room. inr refl;
+  }
+
+  pub refused_fresh : (fault : StartFault) → IsRefused old new fault → IsFreshOutput (start_status fault) old new l l k k
+  refused_fresh starts.NoStore cause tells layout fresh = absurd (cause.0 tells layout (has_store old layout initial_state.table (held old layout fresh)))
+  refused_fresh (starts.Damaged at) cause tells layout fresh = absurd (undamaged one law old layout initial_state.table at (held old layout fresh) (cause.0 tells))
+  refused_fresh starts.Disk cause tells layout fresh = inl (record { why = inl refl; idle = idle l k; any_moment = stay layout initial_state.table })
+  refused_fresh starts.Memory cause tells layout fresh = inl (record { why = inr refl; idle = idle l k; any_moment = stay layout initial_state.table })
+
+-- ---- a run over a store that was opened
+
+table_at : (p : Place) (opening : DatabaseState) → p.opening ≡ opening → p.journal ≡ [] → (database_at p).table ≡ opening.table
+table_at p opening is none = ap (λ (j : List Entry). (serial_run p.opening j).table) none ∙ ap (λ (o : DatabaseState). o.table) is
+
+-- from a moment before its start on
+earlier_run : (status : ℕ) (layout : DiskLayout) (old mid new : Told) (l l' k k' : Option (List ℕ)) (p : Place) → ImagesStay old mid → IsScriptRun status layout (RunsThrough mid new) new l l' k k' p
+    → IsScriptRun status layout (StopsOfRun old new) new l l' k k' p
+earlier_run status layout old mid new l l' k k' p stay o = record {
+  end = o.end;
+  status_is = o.status_is;
+  after = o.after;
+  ran = o.ran;
+  further = o.further;
+  any_moment = λ each.
+      joined old mid new (IsOfStop p o.after)
+      (weaker old mid (IsImageWith p.layout (database_at p).table) (IsOfStop p o.after) (stay p.layout (database_at p).table each) (λ image has. inl (run_of p o.after image o.further has)))
+      o.any_moment;
+  at_end = o.at_end;
+  whole = o.whole;
+}
+
+module _ {D : Type 0} (told : D → Told) (one : HaveOneLayout) (old new : Told) (s : StoreState D) (status : ℕ) (l l' k k' : Option (List ℕ)) (map : OpenToOneMap s.pages.layout)
+    (there : IsTrue old.tells_contents → HasStore s.pages.layout old.size old.contents) (pages : IsTrue old.tells_contents → OpensAs s.pages.layout old.contents s.pages.pages)
+    (same_tells : (told s.pages.disk).tells_contents ≡ old.tells_contents) (ready : s.pages.failed ≡ None) (opens : OpensTable told s) (stay : ImagesStay old (told s.pages.disk))
+    (runs : (start : Place) → Tells told s.pages → s.pages.failed ≡ None → ShowsPlace s start → AllHaveTable told s.pages start
+    → IsScriptRun status s.pages.layout (RunsThrough (told s.pages.disk) new) new l l' k k' start) where
+  its_layout : (layout : DiskLayout) (table : TableState) → IsTrue old.tells_contents → HoldsTable old layout table → s.pages.layout ≡ layout
+  its_layout layout table tells holds = one (take PAGE_SIZE old.contents) s.pages.layout layout (there tells).control holds.opens.control
+
+  its_pages : (layout : DiskLayout) (table : TableState) → IsTrue old.tells_contents → (holds : HoldsTable old layout table) → s.pages.pages ≡ holds.pages
+  its_pages layout table tells holds =
+      let own : OpensAs s.pages.layout old.contents holds.pages = subst (λ (m : DiskLayout). OpensAs m old.contents holds.pages) (sym (its_layout layout table tells holds)) holds.opens in
+      map old.contents s.pages.pages holds.pages (pages tells).opens own.opens
+
+  its_image : (layout : DiskLayout) (table : TableState) → IsTrue old.tells_contents → HoldsTable old layout table → IsStoreImage s.pages.layout s.pages.pages table
+  its_image layout table tells holds =
+      subst (λ (m : DiskLayout). IsStoreImage m s.pages.pages table) (sym (its_layout layout table tells holds))
+      (subst (λ (x : PageMap). IsStoreImage layout x table) (sym (its_pages layout table tells holds)) holds.image)
+
+  run_at : (layout : DiskLayout) → s.pages.layout ≡ layout → IsTrue old.tells_contents → (start : Place) → ShowsPlace s start → AllHaveTable told s.pages start
+      → IsScriptRun status layout (StopsOfRun old new) new l l' k k' start
+  run_at layout same tells start shown all =
+      subst (λ (m : DiskLayout). IsScriptRun status m (StopsOfRun old new) new l l' k k' start) same
+      (earlier_run status s.pages.layout old (told s.pages.disk) new l l' k k' start stay (runs start (same_tells ∙ tells) ready shown all))
+
+  pub stored_run : IsTrue old.tells_contents → (layout : DiskLayout) (table : TableState) → HoldsTable old layout table
+      → (start : Place) × StartsOver layout table start × IsScriptRun status layout (StopsOfRun old new) new l l' k k' start
+  stored_run tells layout table holds =
+      let same = its_layout layout table tells holds in
+      let start = opens (same_tells ∙ tells) table (its_image layout table tells holds) in (
+        start.0,
+        subst (λ (m : DiskLayout). StartsOver m table start.0) same (s.transactions.tx.next, start.1),
+        run_at layout same tells start.0 start.2 start.3,
+      )
+
+  -- a place at which a new script starts has the table of the opening
+  all_new : (p q : Place) (next : ℕ) → IsOpening s.pages.layout (database_with next initial_state.table) p → IsStart s.pages.layout q → AllHaveTable told s.pages p → AllHaveTable told s.pages q
+  all_new p q next opening start all = λ image now.
+      image_as p.layout q.layout (database_at p).table (database_at q).table image (opening.layout_is ∙ sym start.layout_is)
+      (table_at p (database_with next initial_state.table) opening.opening_is opening.journal ∙ sym (table_at q initial_state start.opening start.journal)) (all image now)
+
+  pub fresh_run : (Tells told s.pages → s.pages.pages ≡ fresh_pages s.pages.layout → ShowsStart s.pages.layout s) → IsFreshOutput status old new l l' k k'
+  fresh_run begins tells layout fresh =
+      let holds = held old layout fresh in
+      let same = its_layout layout initial_state.table tells holds in
+      let own : s.pages.pages ≡ fresh_pages s.pages.layout = its_pages layout initial_state.table tells holds ∙ ap fresh_pages (sym same) in
+      let start = begins (same_tells ∙ tells) own in
+      let opening = opens (same_tells ∙ tells) initial_state.table (its_image layout initial_state.table tells holds) in
+      inr (start.0, subst (λ (m : DiskLayout). IsStart m start.0) same start.1, run_at layout same tells start.0 start.2 (all_new opening.0 start.0 s.transactions.tx.next opening.1 start.1 opening.3))
+
+  pub stored_done : (r w : Type 0) → (status ≡ 4 → r) → (status ≡ 5 → w) → (old.faults ≤ (told s.pages.disk).faults) → (status ≡ 6 → s.pages.failed ≡ None → Rose (told s.pages.disk).faults new.faults)
+      → (status ≡ 11 → Tells told s.pages → s.pages.failed ≡ None → ⊥) → (status ≢ 2) × (status ≢ 9) → IsDoneSo RunStored status old new l l' k k' r w
+  stored_done r w read write later disk_ damage others =
+      let rose = λ (six : status ≡ 6). rose_earlier old.faults (told s.pages.disk).faults new.faults later (disk_ six ready) in
+      record {
+        output = λ tells layout table holds. inr (stored_run tells layout table holds);
+        read_fault = read;
+        write_fault = write;
+        disk_fault = rose;
+        no_store = λ nine. absurd (others.1 nine);
+        damaged = λ eleven tells. absurd (damage eleven (same_tells ∙ tells) ready);
+        no_usage = others.0;
+        spent = λ tells layout table holds.
+            let run = stored_run tells layout table holds in
+            run_spent (StartsOver layout table) layout status (StopsOfRun old new) new run.0 run.1 l l' k k' run.2;
+        complete = λ no_read no_write no_disk tells layout table holds.
+            let run = stored_run tells layout table holds in
+            run_complete (StartsOver layout table) layout status (StopsOfRun old new) new run.0 run.1 l l' k k' run.2 (λ e. no_read (read e)) (λ e. no_write (write e)) (λ e. no_disk (rose e))
+            (λ e. damage e (same_tells ∙ tells) ready);
+      }
+
+-- ---- a run over a store that was made
+
+module _ (one : HaveOneLayout) (law : AreNotDamaged) (layout : DiskLayout) (old mid : Told) (moments : Throughout old mid (IsOldOrEmpty layout old)) where
+  unfit_output : (status : ℕ) (l k : Option (List ℕ)) → (status ≡ 6) ⊎ ((status ≡ 7) ⊎ (status ≡ 9)) → IsOutputOf (Run layout) status old mid l l k k
+  unfit_output status l k why tells = inl (record { why = why; idle = idle l k; any_moment = moments })
+
+  pub unfit_done : (status : ℕ) (l k : Option (List ℕ)) (r w : Type 0) → IsUnfit status layout old mid → IsDoneSo (Run layout) status old mid l l k k r w
+  unfit_done status l k r w (inl six) = record {
+    output = unfit_output status l k (inl six.0);
+    read_fault = λ e. absurd (omega (arith, six.0, e));
+    write_fault = λ e. absurd (omega (arith, six.0, e));
+    disk_fault = λ _. six.1;
+    no_store = λ e. absurd (omega (arith, six.0, e));
+    damaged = λ e. absurd (omega (arith, six.0, e));
+    no_usage = λ e. absurd (omega (arith, six.0, e));
+    spent = λ tells. idle_spent status (IsStart layout) layout l (λ e. omega (arith, six.0, e));
+    complete = λ _ _ not. absurd (not six.1);
+  }
+  unfit_done status l k r w (inr nine) = record {
+    output = unfit_output status l k (inr (inr nine.0));
+    read_fault = λ e. absurd (omega (arith, nine.0, e));
+    write_fault = λ e. absurd (omega (arith, nine.0, e));
+    disk_fault = λ e. absurd (omega (arith, nine.0, e));
+    no_store = λ _ tells. nine.1;
+    damaged = λ e. absurd (omega (arith, nine.0, e));
+    no_usage = λ e. absurd (omega (arith, nine.0, e));
+    spent = λ tells. idle_spent status (IsStart layout) layout l (λ e. omega (arith, nine.0, e));
+    complete = λ _ _ _ tells fits. absurd (nine.1 fits);
+  }
+
+  module _ (new : Told) (status : ℕ) (l l' k k' : Option (List ℕ)) (made : EachImageHas mid layout initial_state.table) where
+    -- from before the store was made on
+    new_run : (p : Place) → IsStart layout p → IsScriptRun status layout (StopsOfRun mid new) new l l' k k' p → IsScriptRun status layout (StopsOfNewRun old new) new l l' k k' p
+    new_run p start o =
+        let table : initial_state.table ≡ (database_at p).table = sym (table_at p initial_state start.opening start.journal) in
+        let At = λ (image : List ℕ). IsOldOrNone old image ⊎ IsOfStop p o.after image in
+        let own = λ (image : List ℕ) (has : IsImageWith layout initial_state.table image). image_as layout p.layout initial_state.table (database_at p).table image (sym start.layout_is) table has in
+        record {
+          end = o.end;
+          status_is = o.status_is;
+          after = o.after;
+          ran = o.ran;
+          further = o.further;
+          any_moment = joined old mid new At
+              (weaker old mid (IsOldOrEmpty layout old) At moments (λ image at. elim at [
+                | inl was ↦ inl was
+                | inr has ↦ inr (inl (run_of p o.after image o.further (own image has)))
+              ]))
+              (weaker mid new (IsOfStop p o.after) At (o.any_moment (λ image now. own image (made image now))) (λ image of. inr of));
+          at_end = o.at_end;
+          whole = o.whole;
+        }
+
+    unopened_why : (status ≡ 6) ⊎ (status ≡ 7) → (status ≡ 6) ⊎ ((status ≡ 7) ⊎ (status ≡ 9))
+    unopened_why (inl six) = inl six
+    unopened_why (inr seven) = inr (inl seven)
+
+    not_eight : (status ≡ 6) ⊎ (status ≡ 7) → status ≢ 8
+    not_eight (inl six) e = omega (arith, six, e)
+    not_eight (inr seven) e = omega (arith, seven, e)
+
+    new_output : IsTrue old.tells_contents → IsUnopened status layout initial_state.table mid new l l' k k' ⊎ ((start : Place) × IsStart layout start × IsScriptRun status layout (StopsOfRun mid new) new l l' k k' start)
+        → IsOutputOf (Run layout) status old new l l' k k'
+    new_output _ (inl un) tells =
+        inl (record {
+          why = unopened_why un.why;
+          idle = un.idle;
+          any_moment = joined old mid new (IsOldOrEmpty layout old) moments (weaker mid new (IsImageWith layout initial_state.table) (IsOldOrEmpty layout old) (un.any_moment made) (λ image has. inr has));
+        })
+    new_output _ (inr run) tells = inr (run.0, run.1, new_run run.0 run.1 run.2)
+
+    new_spent : IsUnopened status layout initial_state.table mid new l l' k k' ⊎ ((start : Place) × IsStart layout start × IsScriptRun status layout (StopsOfRun mid new) new l l' k k' start)
+        → IsSpentOf (Run layout) status old l l'
+    new_spent (inl un) tells = subst (λ (m : Option (List ℕ)). HasSpentCauses status (IsStart layout) layout l m) (sym un.idle.source) (idle_spent status (IsStart layout) layout l (not_eight un.why))
+    new_spent (inr run) tells = run_spent (IsStart layout) layout status (StopsOfRun mid new) new run.0 run.1 l l' k k' run.2
+
+    new_complete : status ≢ 4 → status ≢ 5 → status ≢ 6 → status ≢ 11
+        → IsUnopened status layout initial_state.table mid new l l' k k' ⊎ ((start : Place) × IsStart layout start × IsScriptRun status layout (StopsOfRun mid new) new l l' k k' start)
+        → IsCompleteOf (Run layout) status old l
+    new_complete read write disk_ damage (inl un) tells fits limit room = elim un.why [
+      | inl six ↦ absurd (disk_ six)
+      | inr seven ↦ inr seven
+    ]
+    new_complete read write disk_ damage (inr run) tells fits = run_complete (IsStart layout) layout status (StopsOfRun mid new) new run.0 run.1 l l' k k' run.2 read write disk_ damage
+
+    module _ (r w : Type 0) (holds : IsTrue old.tells_contents → HoldsFresh mid layout) (done : IsDoneSo RunStored status mid new l l' k k' r w) where
+      no_damage_then : status ≡ 11 → IsTrue old.tells_contents → ⊥
+      no_damage_then eleven tells =
+          let damage = done.damaged eleven (moments.tells_contents ∙ tells) in
+          undamaged one law mid layout initial_state.table damage.0 (held mid layout (holds tells)) damage.1
+
+      rose_then : IsFit layout old mid → status ≡ 6 → Rose old.faults new.faults
+      rose_then fit six = rose_earlier old.faults mid.faults new.faults fit.1 (done.disk_fault six)
+
+      pub new_done : IsFit layout old mid → IsFreshOutput status mid new l l' k k' → IsDoneSo (Run layout) status old new l l' k k' r w
+      new_done fit fresh =
+          let far = λ (tells : IsTrue old.tells_contents). fresh (moments.tells_contents ∙ tells) layout (holds tells) in
+          record {
+            output = λ tells. new_output tells (far tells) tells;
+            read_fault = done.read_fault;
+            write_fault = done.write_fault;
+            disk_fault = rose_then fit;
+            no_store = λ nine tells. absurd (done.no_store nine (moments.tells_contents ∙ tells) layout (has_store mid layout initial_state.table (held mid layout (holds tells))));
+            damaged = no_damage_then;
+            no_usage = done.no_usage;
+            spent = λ tells. new_spent (far tells) tells;
+            complete = λ no_read no_write no_disk tells.
+                new_complete (λ e. no_read (done.read_fault e)) (λ e. no_write (done.write_fault e)) (λ e. no_disk (rose_then fit e)) (λ e. no_damage_then e tells) (far tells) tells;
+          }

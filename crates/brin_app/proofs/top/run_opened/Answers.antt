@@ -1,0 +1,32 @@
+use Rattle.std.proofs.Common.{refl, sym, ◌∙◌, subst}
+use Rattle.block_model.specs.Causes.{Rose}
+use Rattle.store_layout.specs.DiskLayout.{DiskLayout}
+use Rattle.brin_app.proofs.Doing.{OpenToOneMap}
+use Rattle.brin_app.proofs.Outputs.{read_ended, write_ended}
+use Rattle.brin_app.proofs.Sessions.{damage_cause, disk_cause, no_other, script_run}
+use Rattle.brin_app.proofs.top.run_opened.Goals as goal
+
+pub returns-clause-one_map : goal.returns-clause-one_map
+returns-clause-one_map g c = subst (λ (m : DiskLayout). OpenToOneMap m) c.layout.ensures c.an_image_opens_to_one_map.ensures
+
+pub returns-clause-runs : goal.returns-clause-runs
+returns-clause-runs g c = λ start tells ready shown all.
+    script_run g.D.Disk.told c.args.store start _ c.run-end.new.engine c.run-end.result _ _ _ _ c.run-end.ensures.ran c.status.result c.into_disk.result refl c.into_disk.ensures c.status.ensures
+    (g.met.D.Disk.since_now_is_now c.args.store.pages.disk) tells ready shown all
+
+pub returns-clause-read_fault : goal.returns-clause-read_fault
+returns-clause-read_fault g c = read_ended c.run-end.result c.status.result _ c.status.ensures c.run-end.ensures.read
+
+pub returns-clause-write_fault : goal.returns-clause-write_fault
+returns-clause-write_fault g c = write_ended c.run-end.result c.status.result _ c.status.ensures c.run-end.ensures.write
+
+pub returns-clause-disk_fault : goal.returns-clause-disk_fault
+returns-clause-disk_fault g c = λ six ready.
+    subst (λ (d : _). Rose (g.D.Disk.told c.args.store.pages.disk).faults (g.D.Disk.told d).faults) (sym c.into_disk.ensures)
+    (disk_cause g.D.Disk.told _ c.run-end.new.engine c.run-end.result _ _ _ _ c.run-end.ensures.ran (sym c.status.ensures ∙ six) ready)
+
+pub returns-clause-damaged : goal.returns-clause-damaged
+returns-clause-damaged g c = λ eleven. damage_cause g.D.Disk.told _ c.run-end.new.engine c.run-end.result _ _ _ _ c.run-end.ensures.ran (sym c.status.ensures ∙ eleven)
+
+pub returns-clause-others : goal.returns-clause-others
+returns-clause-others g c = no_other c.run-end.result c.status.result c.status.ensures

@@ -1,0 +1,37 @@
+use Rattle.std.proofs.Common.{◌≡◌, sym, subst}
+use Rattle.std.specs.Prelude.{IfOk}
+use Rattle.command_words.specs.declared.command.Command.{Command}
+use Rattle.brin_app.specs.declared.top.Task.{Task}
+use Rattle.brin_app.specs.declared.top.Task.TheVariants as tasks
+use Rattle.brin_app.specs.Tasks.{IsTaskOf, IsWrong}
+use Rattle.brin_app.proofs.Asked.{stored_alone}
+use Rattle.brin_app.proofs.top.task_of.Goals as goal
+
+pub returns-in-Init-clause-asked : goal.returns-in-Init-clause-asked
+returns-in-Init-clause-asked c = subst (λ (m : Command). IfOk c.init_task.result (IsTaskOf m)) (sym c.in-Init.is) c.init_task.ensures.asked
+
+pub returns-in-Init-clause-alone : goal.returns-in-Init-clause-alone
+returns-in-Init-clause-alone c =
+    subst (λ (m : Command). IfOk c.init_task.result (λ task. (other : Task) → IsTaskOf m other → other ≡ task)) (sym c.in-Init.is) c.init_task.ensures.alone
+
+pub returns-in-Init-clause-usage : goal.returns-in-Init-clause-usage
+returns-in-Init-clause-usage c = λ e. subst IsWrong (sym c.in-Init.is) (c.init_task.ensures.usage e)
+
+pub returns-in-Run-clause-asked : goal.returns-in-Run-clause-asked
+returns-in-Run-clause-asked c = subst (λ (m : Command). IfOk c.run_task.result (IsTaskOf m)) (sym c.in-Run.is) c.run_task.ensures.asked
+
+pub returns-in-Run-clause-alone : goal.returns-in-Run-clause-alone
+returns-in-Run-clause-alone c =
+    subst (λ (m : Command). IfOk c.run_task.result (λ task. (other : Task) → IsTaskOf m other → other ≡ task)) (sym c.in-Run.is) c.run_task.ensures.alone
+
+pub returns-in-Run-clause-usage : goal.returns-in-Run-clause-usage
+returns-in-Run-clause-usage c = λ e. subst IsWrong (sym c.in-Run.is) (c.run_task.ensures.usage e)
+
+pub returns-in-RunStored-clause-asked : goal.returns-in-RunStored-clause-asked
+returns-in-RunStored-clause-asked c = subst (λ (m : Command). IsTaskOf m tasks.RunStored) (sym c.in-RunStored.is) tt
+
+pub returns-in-RunStored-clause-alone : goal.returns-in-RunStored-clause-alone
+returns-in-RunStored-clause-alone c = subst (λ (m : Command). (other : Task) → IsTaskOf m other → other ≡ tasks.RunStored) (sym c.in-RunStored.is) stored_alone
+
+pub returns-in-Demo-clause-usage : goal.returns-in-Demo-clause-usage
+returns-in-Demo-clause-usage c = λ _. subst IsWrong (sym c.in-Demo.is) tt

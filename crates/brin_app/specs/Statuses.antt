@@ -1,0 +1,30 @@
+-- the status of each refusal of a disk
+use Rattle.std.specs.Prelude.{◌≡◌, ◌≢◌, ◌⊎◌, ◌≤◌, ℕ}
+use Rattle.block_model.specs.Causes.{Rose}
+use Rattle.disk_trait.specs.Told.{Told}
+use Rattle.store_layout.specs.DiskLayout.{DiskLayout, disk_size}
+use Rattle.store_format.specs.declared.fault.FormatFault.{FormatFault}
+use Rattle.store_format.specs.declared.fault.FormatFault.TheVariants as formats
+use Rattle.store_opening.specs.declared.fault.StartFault.{StartFault}
+use Rattle.store_opening.specs.declared.fault.StartFault.TheVariants as starts
+
+-- where no store is made
+abbrev pub format_status : FormatFault → ℕ
+format_status (formats.Size wanted found) = 9
+format_status formats.Disk = 6
+format_status formats.Memory = 7
+
+-- where none is opened
+abbrev pub start_status : StartFault → ℕ
+start_status starts.NoStore = 9
+start_status (starts.Damaged at) = 11
+start_status starts.Disk = 6
+start_status starts.Memory = 7
+
+-- a disk of the layout's size is made a store
+abbrev pub IsFit : DiskLayout → (old new : Told) → Type 0
+IsFit layout old new = (old.size ≡ disk_size layout) × (old.faults ≤ new.faults)
+
+-- it isn't: the disk failed, or hasn't the size
+abbrev pub IsUnfit : ℕ → DiskLayout → (old new : Told) → Type 0
+IsUnfit status layout old new = ((status ≡ 6) × Rose old.faults new.faults) ⊎ ((status ≡ 9) × (old.size ≢ disk_size layout))
