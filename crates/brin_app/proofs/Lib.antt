@@ -5,8 +5,9 @@ pub mod Leading
 pub mod Making
 pub mod Outputs
 pub mod Performed
+pub mod Running
 pub mod Saying
-pub mod Sessions
 pub mod Simulated
 pub mod Starting
 pub mod Stepping
+pub mod WantedDisk

@@ -3,7 +3,7 @@ use Rattle.block_model.specs.Causes.{Rose}
 use Rattle.store_layout.specs.DiskLayout.{DiskLayout}
 use Rattle.brin_app.proofs.Doing.{OpenToOneMap}
 use Rattle.brin_app.proofs.Outputs.{read_ended, write_ended}
-use Rattle.brin_app.proofs.Sessions.{damage_cause, disk_cause, no_other, script_run}
+use Rattle.brin_app.proofs.Running.{damage_cause, disk_cause, no_other, script_run}
 use Rattle.brin_app.proofs.top.run_opened.Goals as goal
 
 pub returns-clause-one_map : goal.returns-clause-one_map
