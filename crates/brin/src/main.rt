@@ -30,7 +30,10 @@ ghost use Rattle.std.specs.IoError.{error_kind};
 ghost use Rattle.brin_app.specs.declared.status.TheConstants.{DONE, MEMORY, USAGE};
 
 use block_model::Words;
-use brin_app::{DAMAGED, DISK_FAULT, DONE, MEMORY, NO_STORE, READ_FAULT, USAGE, WRITE_FAULT, brin_main, wanted_size};
+use brin_app::{
+    DAMAGED, DISK_FAULT, DONE, MEMORY, NO_STORE, READ_FAULT, USAGE, WRITE_FAULT, brin_main,
+    wanted_size,
+};
 use disk_trait::FileDisk;
 use io_traits::{ReaderSource, WriterSink};
 use std::fs::{File, OpenOptions};
@@ -39,6 +42,7 @@ use std::process::ExitCode;
 use std::{env, io};
 
 /// What the program was given: the path of the store's file, and the words behind it.
+#[derive(Debug, Drop)]
 struct Given {
     path: String,
     words: Words,

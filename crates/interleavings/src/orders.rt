@@ -131,7 +131,13 @@ fn written(alloc: Global, script: Vec<u8>) -> Result<(u8, MemorySink), Fail> {
     let disk = disk_for(alloc, &words)?;
     let mut source = MemorySource::new(script, PIECE, Vec::new(alloc));
     let mut sink = MemorySink::new(alloc, ROOM, PIECE, Vec::new(alloc))?;
-    let (status, _) = brin_main(alloc, &words, VeiledDisk::over(disk), &mut source, &mut sink);
+    let (status, _) = brin_main(
+        alloc,
+        &words,
+        VeiledDisk::over(disk),
+        &mut source,
+        &mut sink,
+    );
     Ok((status, sink))
 }
 

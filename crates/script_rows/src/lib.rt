@@ -96,7 +96,11 @@ pub fn holds(alloc: Global, row: &Row<'_>, piece: usize, faults: &Faults<'_>) ->
 }
 
 /// Whether the row's words and script give its output and status over this disk, and the disk that they leave.
-pub fn holds_over(alloc: Global, row: &Row<'_>, disk: SteadyDisk) -> Result<(bool, SteadyDisk), Fail> {
+pub fn holds_over(
+    alloc: Global,
+    row: &Row<'_>,
+    disk: SteadyDisk,
+) -> Result<(bool, SteadyDisk), Fail> {
     let script = Vec::from_slice(alloc, row.script)?;
     let words = words_of(alloc, row.words)?;
     let mut source = MemorySource::new(script, PIECE, Vec::new(alloc));
