@@ -4,8 +4,9 @@ use crate::row_checks::{check, check_scripts};
 use script_rows::{Faults, NO_FAULTS, Row, Script, holds, written};
 use std::test::Fail;
 
-/// The words of the first script.
-const WORDS: &str = "run|table t(a int8)";
+/// The words of a run over a small store.
+const WORDS: &str =
+    "run|--heap-blocks|8|--index-blocks|4|--status-blocks|1|--log-pages|16|table t(a int8)";
 
 /// Tables without a free slot.
 const FULL_TABLES: [Script; 4] = [
@@ -114,12 +115,20 @@ s1 explain t where a is null -> s1 blocks 3",
 
 #[test]
 fn full_tables_take_no_row(rt: HostRuntime) -> Result<(), Fail> {
-    check_scripts(&rt, "run", &FULL_TABLES)
+    check_scripts(
+        &rt,
+        "run|--index-blocks|4|--status-blocks|1|--log-pages|16",
+        &FULL_TABLES,
+    )
 }
 
 #[test]
 fn full_indexes_take_no_tuple(rt: HostRuntime) -> Result<(), Fail> {
-    check_scripts(&rt, "run|--index-blocks=3", &FULL_INDEXES)
+    check_scripts(
+        &rt,
+        "run|--heap-blocks|8|--index-blocks=3|--status-blocks|1|--log-pages|16",
+        &FULL_INDEXES,
+    )
 }
 
 #[test]
@@ -130,7 +139,7 @@ fn transaction_numbers_run_out(rt: HostRuntime) -> Result<(), Fail> {
         script.extend_from_slice(b"s1 begin\ns1 rollback\n")?;
     }
     script.extend_from_slice(b"s1 begin\ns1 commit\n")?;
-    let words = "run|--status-blocks=1|table t(a int8)";
+    let words = "run|--heap-blocks=1|--status-blocks=1|table t(a int8)";
     let (status, sink) = written(rt.alloc(), words, script, 1 << 20)?;
     let last = b"\ns1 begun 32639\ns1 rolled back\ns1 error 8 status 32640\ns1 error 4\n";
     assert_eq!(rt; (status, sink.bytes().ends_with(last)), (0, true));
@@ -165,7 +174,7 @@ fn begins_and_rollbacks_fill_the_journal(rt: HostRuntime) -> Result<(), Fail> {
         script.extend_from_slice(b"s begin\ns rollback\n")?;
     }
     script.extend_from_slice(b"s begin\n")?;
-    let words = "run|--status-blocks=17|table t(a int8)";
+    let words = "run|--heap-blocks=1|--status-blocks=17|table t(a int8)";
     let (status, sink) = written(rt.alloc(), words, script, 1 << 24)?;
     let last = b"\ns begun 524288\ns rolled back\n";
     assert_eq!(rt; (status, sink.bytes().ends_with(last)), (8, true));

@@ -126,7 +126,7 @@ fn a_full_queue_drops_a_request(rt: HostRuntime) -> Result<(), Fail> {
     }
     lines.push_str("\ns1 insert t 65 -> - dropped i 64 | s1 inserted 1.65")?;
     let words =
-        "run|--heap-blocks|100|table t(a int8) rows_per_page 1|index i on t(a minmax) pages_per_range 1 autosummarize";
+        "run|--heap-blocks|100|--index-blocks|4|--status-blocks|1|--log-pages|16|table t(a int8) rows_per_page 1|index i on t(a minmax) pages_per_range 1 autosummarize";
     let (script, output) = parted(alloc, lines.as_str())?;
     check(
         &rt,

@@ -1,11 +1,11 @@
-//! Command lines: those that ask for a run, and those that ask for nothing.
+//! Command lines: those that ask for a run over a new store, and those that ask for nothing.
 
 use crate::row_checks::check_words;
 use block_model::Words;
 use script_rows::{Row, ran};
 use std::test::Fail;
 
-/// Command lines that ask for a run, one a line.
+/// Command lines that ask for a run over a new store, one a line.
 const LAWFUL: &str = "run|table t(a int8)
 run|--heap-blocks|8|table t(a int8)
 run|--heap-blocks=8|table t(a int8)
@@ -17,7 +17,6 @@ run|table t(a int8)|--
 run|--frames|0016|table t(a int8)
 run|--frames=00000000000000000000000000000016|table t(a int8)
 run|--heap-blocks=1|--index-blocks=3|--status-blocks=1|--log-pages=16|--frames=16|table t(a int8)
-run|--heap-blocks=131072|--index-blocks=16384|--status-blocks=64|--log-pages=4096|--frames=65536|table t(a int8)
 run|--log-pages=16|table t(a int8)|--status-blocks|2|index i on t(a minmax)|--index-blocks=3
 run|table t(a int8)|table u(b int8range,c inet)|index i on t(a minmax) pages_per_range 1|index j on t(a minmax) pages_per_range 131072
 run|table t(a int8) rows_per_page 1
@@ -39,12 +38,15 @@ run|table abcdefghijklmnop(a int8)";
 /// Command lines that ask for nothing, or pass a limit.
 const REFUSED: &str = "
 runn|table t(a int8)
-run
 Run|table t(a int8)
 run |table t(a int8)
 run|
 run|table t(a int8)|
-init|table t(a int8)
+init
+init|--heap-blocks=0|table t(a int8)
+init|--frames=16
+init|index i on t(a minmax)
+Init|table t(a int8)
 threads|table t(a int8)
 demo|--seed|1|--rows|1
 help
@@ -54,7 +56,6 @@ run|--help
 run|-h|table t(a int8)
 run|--version
 run|--frames=16
-run|--
 run|--heap|8|table t(a int8)
 run|--frame=16|table t(a int8)
 run|--heap-blocks|table t(a int8)

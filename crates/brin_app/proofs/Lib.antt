@@ -10,3 +10,4 @@ pub mod Saying
 pub mod Simulated
 pub mod Starting
 pub mod Stepping
+pub mod WantedDisk

@@ -7,4 +7,5 @@ pub mod Simulations
 pub mod Statuses
 pub mod StatusCauses
 pub mod Tasks
+pub mod WantedSizes
 pub mod WordsFaults

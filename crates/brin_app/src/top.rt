@@ -88,7 +88,7 @@ pub enum Task {
 
 /// Why words ask for nothing, or can't be read.
 #[derive(Clone, Copy, Debug, PartialEq, Eq)]
-enum WordsFault {
+pub(crate) enum WordsFault {
     Usage,
     Memory,
 }
@@ -120,7 +120,7 @@ impl From<DeclFault> for WordsFault {
 }
 
 /// What the words ask for.
-fn read_words(alloc: Global, words: &Words) -> Result<Task, WordsFault>
+pub(crate) fn read_words(alloc: Global, words: &Words) -> Result<Task, WordsFault>
     ensures asked { IfOk result (Asks words.now) }
     ensures alone { IfOk result (λ task. (other : Task) → Asks words.now other → other ≡ task) }
     ensures right { IfOk result (λ task. ¬ (IsUsage words.now)) }

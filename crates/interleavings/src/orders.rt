@@ -3,11 +3,13 @@
 ghost use Rattle.std.specs.Prelude.{◌+◌, ◌<◌, ◌≤◌};
 
 use block_model::Words;
-use brin_app::{DONE, brin_main};
+use brin_app::{DONE, brin_main, wanted_size};
+use disk_trait::SteadyDisk;
 use io_traits::{MemorySink, MemorySource};
 use std::alloc::Global;
 use std::str;
 use std::test::Fail;
+use veiled_disk::VeiledDisk;
 
 /// How many bytes of output a script has room for.
 const ROOM: usize = 4096;
@@ -126,8 +128,21 @@ fn written(alloc: Global, script: Vec<u8>) -> Result<(u8, MemorySink), Fail> {
     for word in WORDS.split('|') {
         words.push(word.as_bytes())?;
     }
+    let disk = disk_for(alloc, &words)?;
     let mut source = MemorySource::new(script, PIECE, Vec::new(alloc));
     let mut sink = MemorySink::new(alloc, ROOM, PIECE, Vec::new(alloc))?;
-    let status = brin_main(alloc, &words, &mut source, &mut sink);
+    let (status, _) = brin_main(
+        alloc,
+        &words,
+        VeiledDisk::over(disk),
+        &mut source,
+        &mut sink,
+    );
     Ok((status, sink))
+}
+
+/// A disk of zeros of the size that the words want.
+fn disk_for(alloc: Global, words: &Words) -> Result<SteadyDisk, Fail> {
+    let size = wanted_size(alloc, words)?.unwrap_or(0);
+    Ok(SteadyDisk::new(alloc, size)?)
 }

@@ -1,17 +1,23 @@
 //! Worked scripts and command lines as data, and their run in memory: what is written and the status are those of the row, whether bytes come and
-//! go one by one or in large pieces. Tests of scripts stand on it; it stands on brin_app.
+//! go one by one or in large pieces. A row has a disk of its own, of the size that its words want, or stands over one that an earlier row left. Tests of
+//! scripts stand on it; it stands on brin_app.
 #![tactic(auto)]
 
 ghost use Rattle.std.specs.Prelude.{◌<◌};
 
 use block_model::Words;
-use brin_app::brin_main;
+use brin_app::{brin_main, wanted_size};
+use disk_trait::SteadyDisk;
 use io_traits::{MemorySink, MemorySource};
 use std::alloc::Global;
 use std::test::Fail;
+use veiled_disk::VeiledDisk;
 
 /// How many bytes of output a row has room for.
 const ROOM: usize = 4096;
+
+/// How many bytes come or go in one call, where a row doesn't say so.
+const PIECE: usize = 65536;
 
 /// The words of a command line with `|` between them, a script, and what is written for it.
 #[derive(Clone, Copy, Debug)]
@@ -89,6 +95,32 @@ pub fn holds(alloc: Global, row: &Row<'_>, piece: usize, faults: &Faults<'_>) ->
     ran(alloc, &words, script, reads, writes, piece, row)
 }
 
+/// Whether the row's words and script give its output and status over this disk, and the disk that they leave.
+pub fn holds_over(
+    alloc: Global,
+    row: &Row<'_>,
+    disk: SteadyDisk,
+) -> Result<(bool, SteadyDisk), Fail> {
+    let script = Vec::from_slice(alloc, row.script)?;
+    let words = words_of(alloc, row.words)?;
+    let mut source = MemorySource::new(script, PIECE, Vec::new(alloc));
+    let mut sink = MemorySink::new(alloc, ROOM, PIECE, Vec::new(alloc))?;
+    let (status, disk) = run_over(alloc, &words, disk, &mut source, &mut sink);
+    Ok((status == row.status && sink.bytes() == row.output, disk))
+}
+
+/// How many bytes these words want of a disk, `|` between them.
+pub fn wanted(alloc: Global, words: &str) -> Result<Option<u64>, Fail> {
+    let words = words_of(alloc, words)?;
+    Ok(wanted_size(alloc, &words)?)
+}
+
+/// A disk of zeros of the size that these words want; of none, where they want none.
+pub fn disk_for(alloc: Global, words: &str) -> Result<SteadyDisk, Fail> {
+    let words = words_of(alloc, words)?;
+    wanted_disk(alloc, &words)
+}
+
 /// Whether these words give the row's output and status.
 pub fn ran(
     alloc: Global,
@@ -101,9 +133,10 @@ pub fn ran(
 ) -> Result<bool, Fail>
     requires { 0 < piece }
 {
+    let disk = wanted_disk(alloc, words)?;
     let mut source = MemorySource::new(script, piece, reads);
     let mut sink = MemorySink::new(alloc, ROOM, piece, writes)?;
-    let status = brin_main(alloc, words, &mut source, &mut sink);
+    let (status, _) = run_over(alloc, words, disk, &mut source, &mut sink);
     Ok(status == row.status && sink.bytes() == row.output)
 }
 
@@ -115,8 +148,27 @@ pub fn written(
     room: usize,
 ) -> Result<(u8, MemorySink), Fail> {
     let words = words_of(alloc, words)?;
-    let mut source = MemorySource::new(script, 65536, Vec::new(alloc));
-    let mut sink = MemorySink::new(alloc, room, 65536, Vec::new(alloc))?;
-    let status = brin_main(alloc, &words, &mut source, &mut sink);
+    let disk = wanted_disk(alloc, &words)?;
+    let mut source = MemorySource::new(script, PIECE, Vec::new(alloc));
+    let mut sink = MemorySink::new(alloc, room, PIECE, Vec::new(alloc))?;
+    let (status, _) = run_over(alloc, &words, disk, &mut source, &mut sink);
     Ok((status, sink))
+}
+
+/// A disk of zeros of the size that the words want; of none, where they want none.
+fn wanted_disk(alloc: Global, words: &Words) -> Result<SteadyDisk, Fail> {
+    let size = wanted_size(alloc, words)?.unwrap_or(0);
+    Ok(SteadyDisk::new(alloc, size)?)
+}
+
+/// Runs the words and the script over the disk, and answers it. No row has to show what its disk holds, so it is veiled.
+fn run_over(
+    alloc: Global,
+    words: &Words,
+    disk: SteadyDisk,
+    source: &mut MemorySource,
+    sink: &mut MemorySink,
+) -> (u8, SteadyDisk) {
+    let (status, disk) = brin_main(alloc, words, VeiledDisk::over(disk), source, sink);
+    (status, disk.into_inner())
 }
