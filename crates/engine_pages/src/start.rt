@@ -1,6 +1,6 @@
 //! A store that is opened.
 
-ghost use Rattle.std.specs.Prelude.{◌≡◌, ℕ, List, IsTrue, None, IfErr, IfOk, MatchResult};
+ghost use Rattle.std.specs.Prelude.{◌≡◌, ◌≤◌, ℕ, List, IsTrue, None, IfErr, IfOk, MatchResult};
 ghost use Rattle.disk_trait.specs.Throughout.{Throughout};
 ghost use Rattle.page_store.specs.Keeps.{Tells};
 ghost use Rattle.store_opening.specs.Opens.{OpensAs};
@@ -30,6 +30,7 @@ impl<D: Disk + Drop> PageStore<D> {
         // Whatever a crash leaves now opens to these pages.
         ensures sure { IfOk result (λ store. (image : List ℕ) → IsTrue ((D.told store.disk).now image) → OpensAs store.layout image store.pages) }
         ensures fresh { IfOk result (λ store. store.failed ≡ None) }
+        ensures faults { IfOk result (λ store. (D.told disk).faults ≤ (D.told store.disk).faults) }
         // At every moment, also of a call that refuses.
         ensures any_moment { MatchResult result (λ store. Throughout (D.told disk) (D.told store.disk) (OpensAsBefore (D.told disk))) (λ e. Throughout (D.told disk) (D.told e.1) (OpensAsBefore (D.told disk))) }
         // Where no store is there, nothing was written.

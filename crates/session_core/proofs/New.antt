@@ -3,15 +3,17 @@ use Rattle.std.proofs.Common.{◌≡◌, ℕ, zero, suc, ◌<◌, List, [], get_
 use Rattle.std.proofs.lemmas.Option.{none-some}
 use Rattle.disk_trait.specs.Told.{Told}
 use Rattle.statements.specs.declared.limits.TheConstants.{MAX_SESSIONS}
-use Rattle.store_layout.specs.DiskLayout.{DiskLayout}
+use Rattle.page_store.specs.Keeps.{Tells}
+use Rattle.line_texts.specs.Place.{Place}
 use Rattle.row_versions.specs.declared.sessions.Open.{Open}
 use Rattle.row_versions.specs.StoredVersions.{transaction_of}
 use Rattle.store_parts.specs.declared.parts.Parts.{Parts}
 use Rattle.store_parts.specs.HandFits.{FitsStore}
 use Rattle.store_parts.specs.ShareLaws.{shares_below}
+use Rattle.store_parts.specs.ShowsPlace.{ShowsPlace}
 use Rattle.store_parts.specs.Shares.{share_of}
 use Rattle.store_parts.specs.StoreStates.{hand_in, store_of}
-use Rattle.store_starts.specs.OpenedParts.{AreOpened, ShowsStart}
+use Rattle.store_starts.specs.OpenedParts.{AreOpened}
 use Rattle.session_core.specs.StoreKept.{IsStoreKept}
 
 none_there : {A : Type 0} (n : ℕ) → get_or {A = Option A} [] n None ≡ None
@@ -25,9 +27,9 @@ no_shares : (count : ℕ) (opens : List (Option Open)) → ((n : ℕ) → transa
 no_shares zero opens idle = refl
 no_shares (suc n) opens idle = omega (arith, no_shares n opens idle, no_share opens idle n)
 
-pub kept_new : {D : Type 0} (told : D → Told) (layout : DiskLayout) (parts : Parts D) → AreOpened told parts → ((n : ℕ) → n < MAX_SESSIONS → FitsStore told (store_of parts [] []) n)
-    → ShowsStart layout (store_of parts [] []) → IsStoreKept told (store_of parts [] []) []
-kept_new told layout parts opened fits start = record {
+pub kept_new : {D : Type 0} (told : D → Told) (parts : Parts D) → AreOpened told parts → ((n : ℕ) → n < MAX_SESSIONS → FitsStore told (store_of parts [] []) n)
+    → (Tells told parts.pages → (p : Place) × ShowsPlace (store_of parts [] []) p) → IsStoreKept told (store_of parts [] []) []
+kept_new told parts opened fits shows = record {
   few_sessions = omega arith;
   a_hand_each = refl;
   a_spare_each = refl;
@@ -35,5 +37,5 @@ kept_new told layout parts opened fits start = record {
   nobody = λ n high. record { transaction = opened.idle n; locks = opened.locks n; rights = λ table is. none-some n (sym (opened.free table) ∙ is) };
   promised = opened.promised ∙ sym (no_shares MAX_SESSIONS parts.transactions.opens opened.idle);
   spare = λ n. tt;
-  shown = λ tells ready. (start.0, start.2);
+  shown = λ tells ready. shows tells;
 }

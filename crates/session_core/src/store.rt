@@ -1,6 +1,6 @@
 //! The store of sessions.
 
-ghost use Rattle.std.specs.Prelude.{◌≡◌, ◌<◌, [], length, slice_index_or, None, Err, IfOk, IfErr, IfSome, IsTrue, MatchResult, OnOk, OnErr, IsSome};
+ghost use Rattle.std.specs.Prelude.{◌≡◌, ◌≤◌, ◌<◌, [], length, slice_index_or, None, Err, IfOk, IfErr, IfSome, IsTrue, MatchResult, OnOk, OnErr, IsSome};
 ghost use Rattle.std.specs.Option.{is_some};
 ghost use Rattle.statements.specs.StatementFits.{IsStatementFor};
 ghost use Rattle.store_opening.specs.Opens.{OpensAs};
@@ -92,6 +92,7 @@ impl<D: Disk + Drop> Store<D> {
         ensures there { IfOk result (λ store. IsTrue (D.told disk).tells_contents → HasStore store.pages.layout (D.told disk).size (D.told disk).contents) }
         ensures pages { IfOk result (λ store. IsTrue (D.told disk).tells_contents → OpensAs store.pages.layout (D.told disk).contents store.pages.pages) }
         ensures tells { IfOk result (λ store. (D.told store.pages.disk).tells_contents ≡ (D.told disk).tells_contents) }
+        ensures later { IfOk result (λ store. (D.told disk).faults ≤ (D.told store.pages.disk).faults) }
         // The table that the pages have, whatever statements a stop came amid.
         ensures opens { IfOk result (OpensTable D.told) }
         // Of a new store, whose tables are new as well.
@@ -203,12 +204,11 @@ impl<D: Disk + Drop> Store<D> {
         // At every moment each image has the table of the journal, or that with the commit in hand; once that is answered each has it.
         ensures stops { (p : Place) → ShowsPlace self.old p → AllHaveTable D.told self.old.pages p → StopsWhole D.told self.old self.new p session result }
     {
-        match self.parts.pages.ready() {
-            Ok(()) => {}
-            Err(error) => return Err(fault_of(error)),
-        }
         a_step_stops_whole::<D>();
-        self.step_ready(session)
+        match self.parts.pages.ready() {
+            Ok(()) => self.step_ready(session),
+            Err(error) => Err(fault_of(error)),
+        }
     }
 
     /// The step of a store in which no disk fault was kept.

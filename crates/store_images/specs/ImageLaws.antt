@@ -1,6 +1,5 @@
 -- That a store which shows a place is that of an image, that each stop leaves one, and that an opening shows it.
 use Rattle.std.specs.Prelude.{◌≡◌, ◌⊎◌, ℕ, ◌≤◌, false, List, [], None, Some, Result, Ok}
-use Rattle.block_model.specs.declared.place.Place.{Place as PagePlace}
 use Rattle.block_model.specs.declared.reply.Reply.TheVariants as replies
 use Rattle.block_model.specs.DatabaseState.{initial_state}
 use Rattle.block_model.specs.TableState.{TableState}
@@ -40,11 +39,12 @@ CommitIsImage = (s : ShownStore) (p : Place) (n : ℕ) (o : Open) (pages : PageM
     → transaction_of s.transactions.opens n ≡ Some o → s.transactions.tx.next ≤ number_limit s.layout → HasPart s.layout s.pages (committed_by o) Committed pages
     → IsStoreImage s.layout pages (database_at p).table ⊎ ((o.failed ≡ false) × IsStoreImage s.layout pages (table_committed (database_at p) n))
 
--- session n has a commit in hand
+-- session n has a commit in hand, whose request isn't made
 pub record IsCommitting (p : Place) (n : ℕ) : Type 0 where
   pub hand : Hand
   pub in_hand : p.hands n ≡ Some hand
   pub is : hand.statement ≡ statements.Commit
+  pub new : hand.answers ≡ []
 
 -- no step changes the committed table but a commit that is done
 abbrev pub StepLeavesTable : Type 0

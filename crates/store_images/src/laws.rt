@@ -6,12 +6,16 @@ ghost use Rattle.store_images.specs.StopRule.{StepStopsWhole};
 use disk_trait::Disk;
 use fresh_store::a_new_store_opens_to_fresh_pages;
 use fresh_tables::{fresh_pages_show_a_new_database, fresh_pages_show_new_tables};
-use stop_laws::{a_stop_leaves_what_was_passed, only_commits_change_the_table};
+use index_order::a_store_in_order_has_its_indexes_in_order;
+use stop_laws::only_commits_change_the_table;
 use store_layout::Layout;
 use store_parts::an_opened_store_is_shown;
 use table_coverage::table_stays_covered;
-use transactions::{a_stopped_commit_is_whole, an_opening_ends_all, one_database};
-use tx_table::statuses_are_one_list;
+use transactions::{
+    a_session_has_its_transaction, a_stopped_commit_is_whole, an_opening_ends_all,
+    others_see_alike, which_rows_count,
+};
+use tx_table::{next_numbers_are_one, statuses_are_one_list};
 
 /// A store that shows a place has the pages of a store with the committed table, whatever its sessions have in hand.
 pub fn a_shown_store_is_an_image()
@@ -19,7 +23,7 @@ pub fn a_shown_store_is_an_image()
 {
     table_stays_covered();
     an_opening_ends_all();
-    one_database();
+    a_session_has_its_transaction();
     statuses_are_one_list();
 }
 
@@ -30,8 +34,10 @@ pub fn a_stopped_commit_is_an_image()
     a_stopped_commit_is_whole();
     table_stays_covered();
     an_opening_ends_all();
-    one_database();
+    a_session_has_its_transaction();
     statuses_are_one_list();
+    which_rows_count();
+    others_see_alike();
 }
 
 /// No step changes the committed table but a commit that is done.
@@ -50,10 +56,11 @@ pub fn a_commit_makes_its_table()
 pub fn an_image_is_shown(layout: &Layout)
     ensures { ImageIsShown layout.now }
 {
-    layout.known();
     table_stays_covered();
     an_opened_store_is_shown();
+    a_store_in_order_has_its_indexes_in_order();
     statuses_are_one_list();
+    next_numbers_are_one();
 }
 
 /// The pages of a new store are those of a store with the empty table.
@@ -74,5 +81,4 @@ pub fn a_step_stops_whole<D: Disk>()
     a_shown_store_is_an_image();
     a_stopped_commit_is_an_image();
     a_step_leaves_the_table();
-    a_stop_leaves_what_was_passed::<D>();
 }

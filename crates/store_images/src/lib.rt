@@ -7,4 +7,7 @@
 
 mod laws;
 
-pub use laws::{a_commit_makes_its_table, a_new_store_is_an_image, a_shown_store_is_an_image, a_step_leaves_the_table, a_step_stops_whole, a_stopped_commit_is_an_image, an_image_is_shown};
+pub use laws::{
+    a_commit_makes_its_table, a_new_store_is_an_image, a_shown_store_is_an_image,
+    a_step_leaves_the_table, a_step_stops_whole, a_stopped_commit_is_an_image, an_image_is_shown,
+};

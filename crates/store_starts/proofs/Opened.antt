@@ -1,6 +1,8 @@
 -- What the images of a disk have at the moments of a start, and what the store shows then.
-use Rattle.std.proofs.Common.{◌≡◌, ◌⊎◌, ◌∙◌, ℕ, List, [], ⊎_elim, refl, sym, subst, ap}
+use Rattle.std.proofs.Common.{◌≡◌, ◌≤◌, ◌⊎◌, ◌∙◌, ℕ, List, [], None, ⊎_elim, refl, sym, subst, ap, arith}
+use Rattle.std.proofs.lemmas.Option.{none-some}
 use Rattle.std.specs.Prelude.{IsTrue, take}
+use Rattle.block_model.specs.Causes.{rose_earlier}
 use Rattle.block_model.specs.declared.limits.TheConstants.{PAGE_SIZE}
 use Rattle.block_model.specs.declared.request.Entry.{Entry}
 use Rattle.block_model.specs.DatabaseState.{DatabaseState}
@@ -10,10 +12,15 @@ use Rattle.control_page.specs.ControlPage.{HasControl}
 use Rattle.disk_trait.specs.Told.{Told}
 use Rattle.disk_trait.specs.Throughout.{Throughout}
 use Rattle.disk_trait.specs.ThroughoutLaws.{joined, weaker}
+use Rattle.logged_pages.specs.Refused.{IsRefused as StartRefused}
 use Rattle.logged_pages.specs.Survives.{Survives}
+use Rattle.page_store.specs.declared.faults.MachineFault.{MachineFault}
+use Rattle.page_store.specs.declared.faults.MachineFault.TheVariants as faults
+use Rattle.page_store.specs.declared.faults.StoreError.TheVariants as errors
 use Rattle.page_store.specs.Keeps.{Keeps, Tells}
 use Rattle.page_store.specs.PageMap.{PageMap, View}
 use Rattle.store_layout.specs.DiskLayout.{DiskLayout}
+use Rattle.store_opening.specs.declared.fault.StartFault.{StartFault}
 use Rattle.store_opening.specs.Held.{held_before}
 use Rattle.store_opening.specs.Opens.{Opens, OpensAs}
 use Rattle.store_opening.specs.Reaches.{OpensAsBefore, ReachesAny}
@@ -25,8 +32,8 @@ use Rattle.store_parts.specs.StoreStates.{shown_of, store_of}
 use Rattle.store_images.specs.ImageLaws.{ImageIsShown, IsOpenedStore}
 use Rattle.store_images.specs.StoreImage.{IsStoreImage, database_with}
 use Rattle.store_images.specs.StopRule.{AllHaveTable, IsImageWith}
-use Rattle.store_starts.specs.OpenedParts.{AreOpened}
-use Rattle.store_starts.specs.Started.{ImagesStay, OpensTable}
+use Rattle.store_starts.specs.OpenedParts.{AreOpened, IsRefused}
+use Rattle.store_starts.specs.Started.{ImagesStay, OpensTable, start_fault}
 
 -- an image is that of one layout, and opens to one map of each
 abbrev pub OneLayout : Type 0
@@ -74,6 +81,19 @@ pub start_and_calls : {D : Type 0} (told : D → Told) (old : Told) (mid new : V
 start_and_calls told old mid new sure survives one_layout one_map counts all layout table each =
     let first = start_stays old (told mid.disk) all layout table each in
     joined old (told mid.disk) (told new.disk) (IsImageWith layout table) first (calls_stay told mid new sure survives one_layout one_map layout table (stays_behind old (told mid.disk) layout table first counts))
+
+-- a refusal of the pages of statuses is one of the start, in which the count of faults hadn't fallen before
+module _ {D : Type 0} (told : D → Told) (old : Told) (mid new : View D) (same : (told mid.disk).tells_contents ≡ old.tells_contents) (rose : old.faults ≤ (told mid.disk).faults) (later : (told mid.disk).faults ≤ (told new.disk).faults) (ready : mid.failed ≡ None) where
+  refused_so : (fault : MachineFault) → IsRefused told mid new fault → StartRefused old (told new.disk) (start_fault fault)
+  refused_so faults.Memory outcome = subst (λ (v : View D). old.faults ≤ (told v.disk).faults) (sym outcome.1) rose
+  refused_so (faults.Full relation number) outcome = absurd outcome
+  refused_so (faults.Store errors.Disk) outcome = (omega (arith, rose, later), rose_earlier old.faults (told mid.disk).faults (told new.disk).faults rose outcome.1)
+  refused_so (faults.Store (errors.Damaged at)) outcome = (λ tells. absurd (outcome.3 (same ∙ tells)), omega (arith, rose, outcome.2))
+  refused_so (faults.Store (errors.Reopen count)) outcome = absurd (none-some count (sym ready ∙ outcome.0))
+
+  pub start_refused : (fault : MachineFault) (told_so : StartFault) (disk : D) → IsRefused told mid new fault → told_so ≡ start_fault fault → disk ≡ new.disk → StartRefused old (told disk) told_so
+  start_refused fault told_so disk outcome is back =
+      subst (λ (d : D). StartRefused old (told d) told_so) (sym back) (subst (StartRefused old (told new.disk)) (sym is) (refused_so fault outcome))
 
 -- parts that were opened over the pages of a store with a table show it, and each image has it
 module _ {D : Type 0} (told : D → Told) (mid : View D) (parts : Parts D) (sure : (image : List ℕ) → IsTrue ((told mid.disk).now image) → OpensAs mid.layout image mid.pages)

@@ -1,6 +1,6 @@
 //! The parts of a store that is opened from a disk.
 
-ghost use Rattle.std.specs.Prelude.{◌≡◌, ◌<◌, ℕ, [], IsTrue, IfOk, IfErr, MatchResult, None};
+ghost use Rattle.std.specs.Prelude.{◌≡◌, ◌≤◌, ◌<◌, ℕ, [], IsTrue, IfOk, IfErr, MatchResult, None};
 ghost use Rattle.statements.specs.declared.limits.TheConstants.{MAX_SESSIONS};
 ghost use Rattle.page_store.specs.Keeps.{Tells};
 ghost use Rattle.store_opening.specs.Opens.{OpensAs};
@@ -34,6 +34,7 @@ pub fn start_parts<D: Disk + Drop>(
     ensures there { IfOk result (λ parts. IsTrue (D.told disk).tells_contents → HasStore parts.pages.layout (D.told disk).size (D.told disk).contents) }
     ensures pages { IfOk result (λ parts. IsTrue (D.told disk).tells_contents → OpensAs parts.pages.layout (D.told disk).contents parts.pages.pages) }
     ensures tells { IfOk result (λ parts. (D.told parts.pages.disk).tells_contents ≡ (D.told disk).tells_contents) }
+    ensures later { IfOk result (λ parts. (D.told disk).faults ≤ (D.told parts.pages.disk).faults) }
     ensures ready { IfOk result (λ parts. parts.pages.failed ≡ None) }
     // Of a new store, whose tables are new as well.
     ensures starts { IfOk result (λ parts. Tells D.told parts.pages → parts.pages.pages ≡ fresh_pages parts.pages.layout → ShowsStart parts.pages.layout (store_of parts [] [])) }

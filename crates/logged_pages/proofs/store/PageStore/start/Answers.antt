@@ -1,4 +1,4 @@
-use Rattle.std.proofs.Common.{ℕ, List, sym, ◌∙◌, ap, subst}
+use Rattle.std.proofs.Common.{ℕ, ◌≤◌, List, sym, ◌∙◌, ap, subst}
 use Rattle.std.specs.Prelude.{IsTrue, None}
 use Rattle.disk_trait.specs.Throughout.{Throughout}
 use Rattle.page_store.specs.Forms.{forms_of}
@@ -54,6 +54,11 @@ returns-clause-sure g c =
 
 pub returns-clause-fresh : goal.returns-clause-fresh
 returns-clause-fresh g c = ap (λ (v : View g.row.D.Denot). v.failed) (c.of_parts.ensures ∙ ap (store_of g.D.Disk.told) c.of_parts-pages.ensures)
+
+pub returns-clause-faults : goal.returns-clause-faults
+returns-clause-faults g c =
+    let old = g.D.Disk.told c.args.disk in
+    subst (λ (v : View g.row.D.Denot). old.faults ≤ (g.D.Disk.told v.disk).faults) (sym (c.of_parts.ensures ∙ ap (store_of g.D.Disk.told) c.of_parts-pages.ensures)) c.in-Ok.ensures.cause
 
 pub returns-clause-any_moment : goal.returns-clause-any_moment
 returns-clause-any_moment g c =

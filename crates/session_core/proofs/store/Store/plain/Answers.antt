@@ -14,7 +14,7 @@ invariant_of-result g c =
     let parts = c.in_ok-parts.parts in
     let new = c.in_ok-parts.ensures in
     subst (λ (sessions : List Session). IsStoreKept g.D.Disk.told (store_of parts (names_of sessions) (hands_of sessions)) (spares_of sessions)) (sym c.new-sessions.ensures.items)
-    (kept_new g.D.Disk.told c.args.layout parts new.opened new.fits new.starts)
+    (kept_new g.D.Disk.told parts new.opened new.fits (λ tells. (new.starts.0, new.starts.2)))
 
 pub returns-clause-starts : goal.returns-clause-starts
 returns-clause-starts g c = λ tells.
