@@ -10,7 +10,7 @@ use std::test::Fail;
 /// More device calls than a run makes.
 const MANY: u64 = 500;
 
-/// How many images a stop is tried to leave.
+/// How many images of a disk are looked at.
 const PICKS: u64 = 8;
 
 /// What befalls the disk at a call: from then on each call fails, or that call alone.
@@ -70,10 +70,10 @@ fn check_end<R: Abort + AllocGlobal>(
     case: &Case<'_>,
     ran: &Ran<MemoryDisk>,
 ) -> Result<(), Fail> {
-    for pick in 0..PICKS {
+    let last = case.tables.last();
+    for pick in 0..count_images(&ran.disk)? {
         let seen = look(rt.alloc(), ran.disk.image(pick)?)?;
         let seen = seen.as_str();
-        let last = case.tables.last();
         assert!(rt; last.is_some_and(|rows| has_rows(seen, rows)), "at the end, pick {pick}: {seen}");
     }
     Ok(())
@@ -88,13 +88,23 @@ fn check_images<R: Abort + AllocGlobal>(
 ) -> Result<(), Fail> {
     let text = ran.text();
     let commits = text.matches(" committed\n").count();
-    for pick in 0..PICKS {
+    for pick in 0..count_images(&ran.disk)? {
         let seen = look(rt.alloc(), ran.disk.image(pick)?)?;
         let seen = seen.as_str();
         let is_unmade = text.is_empty() && case.words != "run" && seen == NO_STORE;
         assert!(rt; is_unmade || has_rows_behind(seen, case.tables, commits), "call {call}, pick {pick}: {seen}");
     }
     Ok(())
+}
+
+/// How many images are looked at: one where no byte is pending, so that all images are the same.
+fn count_images(disk: &MemoryDisk) -> Result<u64, Fail> {
+    let old = disk.image(0)?;
+    let new = disk.image(1)?;
+    if old.as_slice() == new.as_slice() {
+        return Ok(1);
+    }
+    Ok(PICKS)
 }
 
 /// Whether the rows after so many commits are seen, or those after one more.

@@ -15,4 +15,6 @@ mod makings;
 #[cfg(test)]
 mod runs;
 #[cfg(test)]
+mod second_runs;
+#[cfg(test)]
 mod stops;

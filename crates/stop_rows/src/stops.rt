@@ -163,7 +163,7 @@ const LARGE_ROWS: [&str; 3] = [
 
 /// A store whose log has little room left: its rounds log about 100000 bytes of the 131072 of an area.
 pub fn nearly_full<R: Abort + AllocGlobal>(rt: &R) -> Result<Vec<u8>, Fail> {
-    let rounds = rounds(rt.alloc(), 24)?;
+    let rounds = rounds(rt.alloc(), 47)?;
     let rounds = rounds.as_str();
     let lines = format!(in rt.alloc(); "s1 begin -> s1 begun 1
 s1 insert t 5 -> s1 inserted 1.0
@@ -176,7 +176,7 @@ s1 commit -> s1 committed")?;
 
 /// Commits behind rounds, which fill the log.
 pub fn filling_lines(alloc: Global) -> Result<String, Fail> {
-    let rounds = rounds(alloc, 4)?;
+    let rounds = rounds(alloc, 5)?;
     let rounds = rounds.as_str();
     Ok(format!(in alloc; "{rounds}s1 begin -> s1 begun 3
 s1 insert t 7 -> s1 inserted 3.0
