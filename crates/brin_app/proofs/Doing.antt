@@ -129,20 +129,20 @@ module _ (old : Told) (l k : Option (List ℕ)) (only : (image : List ℕ) → I
       holds = λ e. absurd (omega (arith, e));
     },
   )
-  idle_output (Run layout) tells =
+  idle_output (Run layout) = λ tells.
       inl (record { why = inr (inl refl); idle = idle l k; any_moment = started old (IsOldOrEmpty layout old) (λ image since. inl (inl (only image since))) })
-  idle_output RunStored tells layout table holds =
+  idle_output RunStored = λ tells layout table holds.
       inl (record { why = inr refl; idle = idle l k; any_moment = λ each. started old (IsImageWith layout table) (λ image since. each image (only image since)) })
 
   pub idle_spent_of : (task : Task) → IsSpentOf task 7 old l l
-  idle_spent_of (Init layout) e = omega (arith, e)
-  idle_spent_of (Run layout) tells = idle_spent 7 (IsStart layout) layout l (λ e. omega (arith, e))
-  idle_spent_of RunStored tells layout table holds = idle_spent 7 (StartsOver layout table) layout l (λ e. omega (arith, e))
+  idle_spent_of (Init layout) = λ e. omega (arith, e)
+  idle_spent_of (Run layout) = λ tells. idle_spent 7 (IsStart layout) layout l (λ e. omega (arith, e))
+  idle_spent_of RunStored = λ tells layout table holds. idle_spent 7 (StartsOver layout table) layout l (λ e. omega (arith, e))
 
   pub idle_complete_of : (task : Task) → IsCompleteOf task 7 old l
-  idle_complete_of (Init layout) fits = inr refl
-  idle_complete_of (Run layout) tells fits limit room = inr refl
-  idle_complete_of RunStored tells layout table holds limit room = inr refl
+  idle_complete_of (Init layout) = λ fits. inr refl
+  idle_complete_of (Run layout) = λ tells fits limit room. inr refl
+  idle_complete_of RunStored = λ tells layout table holds limit room. inr refl
 
 -- ---- a store that isn't opened
 
@@ -262,6 +262,7 @@ module _ {D : Type 0} (told : D → Told) (one : HaveOneLayout) (old new : Told)
       (table_at p (database_with next initial_state.table) opening.opening_is opening.journal ∙ sym (table_at q initial_state start.opening start.journal)) (all image now)
 
   pub fresh_run : (Tells told s.pages → s.pages.pages ≡ fresh_pages s.pages.layout → ShowsStart s.pages.layout s) → IsFreshOutput status old new l l' k k'
+  unfolding held fresh_pages
   fresh_run begins tells layout fresh =
       let holds = held old layout fresh in
       let same = its_layout layout initial_state.table tells holds in
@@ -374,7 +375,7 @@ module _ (one : HaveOneLayout) (law : AreNotDamaged) (layout : DiskLayout) (old 
       | inl six ↦ absurd (disk_ six)
       | inr seven ↦ inr seven
     ]
-    new_complete read write disk_ damage (inr run) tells fits = run_complete (IsStart layout) layout status (StopsOfRun mid new) new run.0 run.1 l l' k k' run.2 read write disk_ damage
+    new_complete read write disk_ damage (inr run) tells fits limit room = run_complete (IsStart layout) layout status (StopsOfRun mid new) new run.0 run.1 l l' k k' run.2 read write disk_ damage limit room
 
     module _ (r w : Type 0) (holds : IsTrue old.tells_contents → HoldsFresh mid layout) (done : IsDoneSo RunStored status mid new l l' k k' r w) where
       no_damage_then : status ≡ 11 → IsTrue old.tells_contents → ⊥

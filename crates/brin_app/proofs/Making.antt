@@ -26,7 +26,7 @@ moments_of layout old new law leaves moments = weaker old new (IsOldOrNew layout
 pub fresh_holds : (layout : DiskLayout) (old new : Told) → NewIsImage layout → old.size ≡ disk_size layout → Throughout old new (IsOldOrNew layout old) → OpensAs layout new.contents (fresh_pages layout) → HoldsFresh new layout
 fresh_holds layout old new law size moments opens = record { sized = sym (moments.size ∙ size); opens = opens; image = law }
 
-pub unfit_of : {T : Type 0} (layout : DiskLayout) (old new : Told) (fault : FormatFault) → FormatAnswers {T = T} (disk_size layout) old new (Err fault) → IsUnfit (format_status fault) layout old new
+pub unfit_of : (layout : DiskLayout) (old new : Told) (fault : FormatFault) → FormatAnswers {T = Unit {0}} (disk_size layout) old new (Err fault) → IsUnfit (format_status fault) layout old new
 unfit_of layout old new (formats.Size wanted found) answers = inr (refl, answers.0)
 unfit_of layout old new formats.Disk answers = inl (refl, answers.1)
 unfit_of layout old new formats.Memory answers = absurd answers

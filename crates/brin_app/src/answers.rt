@@ -45,7 +45,11 @@ fn refuse(fault: LineFault, out: &mut Vec<u8>) -> Result<(), AnswerFault>
 }
 
 /// Does what a line says, and appends its text.
-fn obey<D: Disk + Drop>(store: &mut Store<D>, line: Line, out: &mut Vec<u8>) -> Result<(), AnswerFault>
+fn obey<D: Disk + Drop>(
+    store: &mut Store<D>,
+    line: Line,
+    out: &mut Vec<u8>,
+) -> Result<(), AnswerFault>
     requires { IsLineFor store.old.pages.layout.schema line }
     ensures ok { OnOk result ((text : List ℕ) × (out.new.items ≡ out.old.items ++ text) × PlacesLead D.told store.old store.new (λ p q. Answers p (Ok line) text q)) }
     ensures stops { IfErr result (λ fault. PlacesStop D.told store.old store.new fault (IsStoppedSaying line fault)) }

@@ -15,6 +15,9 @@ mod top;
 mod wanted;
 
 pub use laws::every_script_has_a_start;
-pub use status::{DAMAGED, DISK_FAULT, DONE, LIMIT, MEMORY, NO_STORE, READ_FAULT, SCRIPT_LIMIT, USAGE, WRITE_FAULT};
+pub use status::{
+    DAMAGED, DISK_FAULT, DONE, LIMIT, MEMORY, NO_STORE, READ_FAULT, SCRIPT_LIMIT, USAGE,
+    WRITE_FAULT,
+};
 pub use top::{Task, brin_main};
 pub use wanted::wanted_size;

@@ -15,8 +15,8 @@ use query_words::Order;
 use script_run::AnswerFault;
 use session_core::{Step, Store, StoreFault};
 use statements::Statement;
-use store_images::{a_commit_makes_its_table, a_shown_store_is_an_image};
 use step_bounds::{a_finished_statement_ends, moves_are_counted};
+use store_images::{a_commit_makes_its_table, a_shown_store_is_an_image};
 
 /// What an order of a session is answered: its statement is started; goes on behind a step of this name; ends with this reply; or this is why
 /// it isn't taken, or isn't stepped.
@@ -29,7 +29,11 @@ pub enum Answer {
 }
 
 /// Does what an order of the session says.
-pub fn act<D: Disk + Drop>(store: &mut Store<D>, session: u32, order: Order) -> Result<Answer, AnswerFault>
+pub fn act<D: Disk + Drop>(
+    store: &mut Store<D>,
+    session: u32,
+    order: Order,
+) -> Result<Answer, AnswerFault>
     requires session { session < length store.old.names }
     requires order { IsOrderFor store.old.pages.layout.schema order }
     ensures names { store.new.names ≡ store.old.names }

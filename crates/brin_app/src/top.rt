@@ -25,7 +25,10 @@ ghost use Rattle.brin_app.specs.declared.top.Task.TheVariants as tasks;
 
 use crate::laws::a_stored_table_is_not_damaged;
 use crate::sessions::Sessions;
-use crate::status::{DAMAGED, DISK_FAULT, DONE, LIMIT, MEMORY, NO_STORE, READ_FAULT, SCRIPT_LIMIT, USAGE, WRITE_FAULT};
+use crate::status::{
+    DAMAGED, DISK_FAULT, DONE, LIMIT, MEMORY, NO_STORE, READ_FAULT, SCRIPT_LIMIT, USAGE,
+    WRITE_FAULT,
+};
 use block_model::{Schema, Sizes, Words};
 use command_words::{Command, CommandFault, read_command};
 use control_page::one_layout;

@@ -2,11 +2,13 @@ use Rattle.brin_app.proofs.Doing.{init_done}
 use Rattle.brin_app.proofs.Performed.{as_task}
 use Rattle.brin_app.proofs.top.perform.Goals as goal
 
-pub returns-in-Init-clause-done : goal.returns-in-Init-clause-done
-returns-in-Init-clause-done g c = as_task _ c.args.task c.in-Init.is (init_done c.in-Init.layout c.init.result.0 (g.D.Disk.told c.args.disk) (g.D.Disk.told c.init.result.1) _ _ _ _ c.init.ensures.made c.init.ensures.cause)
+pub returns-in-Init : goal.returns-in-Init
+returns-in-Init g c = record {
+  done = as_task _ c.args.task c.in-Init.is (init_done c.in-Init.layout c.init.result.0 (g.D.Disk.told c.args.disk) (g.D.Disk.told c.init.result.1) _ _ _ _ c.init.ensures.made c.init.ensures.cause);
+}
 
-pub returns-in-Run-clause-done : goal.returns-in-Run-clause-done
-returns-in-Run-clause-done g c = as_task _ c.args.task c.in-Run.is c.run_new.ensures.done
+pub returns-in-Run : goal.returns-in-Run
+returns-in-Run g c = record { done = as_task _ c.args.task c.in-Run.is c.run_new.ensures.done }
 
-pub returns-in-RunStored-clause-done : goal.returns-in-RunStored-clause-done
-returns-in-RunStored-clause-done g c = as_task _ c.args.task c.in-RunStored.is c.run_stored.ensures.done
+pub returns-in-RunStored : goal.returns-in-RunStored
+returns-in-RunStored g c = record { done = as_task _ c.args.task c.in-RunStored.is c.run_stored.ensures.done }
