@@ -49,7 +49,7 @@ struct Given {
 }
 
 /// What the program was given, or the status where it can't be had.
-fn given(rt: &HostRuntime) -> Result<Given, u8> {
+fn read_args(rt: &HostRuntime) -> Result<Given, u8> {
     let mut args = env::args(rt).map_err(|error| unread(&error))?.skip(1);
     let Some(path) = args.next() else {
         return Err(USAGE);
@@ -102,7 +102,7 @@ fn extended(file: File, size: u64) -> Result<FileDisk, u8> {
 
 /// Runs the words behind the path over the file, and answers the status.
 fn ran(rt: &HostRuntime) -> Result<u8, u8> {
-    let given = given(rt)?;
+    let given = read_args(rt)?;
     let file = open(rt, given.path.as_str())?;
     let disk = disk_on(rt, file, &given.words)?;
     Ok(run_over(rt, &given.words, disk))
