@@ -1,8 +1,7 @@
 //! Bytes of a disk that no store wrote.
 
-use crate::runs::run_on;
+use crate::runs::{recording, run_on, said};
 use crate::stops::{PAIRS, filling_lines, made, nearly_full};
-use crate::runs::{recording, said};
 use brin_app::{DAMAGED, DONE, NO_STORE};
 use disk_trait::SteadyDisk;
 use std::alloc::Global;
@@ -37,8 +36,11 @@ const BEGUN: &str = "s begun 2
 
 /// Where pages stand: the log, the statuses, the table's and the index's.
 const LOG: usize = 8192;
+
 const STATUSES: usize = 33 * 8192;
+
 const HEAP: usize = 34 * 8192;
+
 const INDEX: usize = 38 * 8192;
 
 /// The byte at a place, a value that it gets, and the status and the texts of the look then.
@@ -101,7 +103,10 @@ fn check_turns<R: Abort + AllocGlobal>(rt: &R, bytes: &[u8], turns: &[Turn]) -> 
         let turned = with_byte(rt.alloc(), bytes, *at, *value)?;
         let ran = run_on(rt.alloc(), "run", LOOK, SteadyDisk::from_image(turned))?;
         let (status, text) = (ran.status, ran.text());
-        assert!(rt; status == *wanted && text == *told, "{value} at {at}: status {status}: {text}");
+        assert!(rt;
+            status == *wanted && text == *told,
+            "{value} at {at}: status {status}: {text}"
+        );
     }
     Ok(())
 }
@@ -134,15 +139,16 @@ fn check_places<R: Abort + AllocGlobal>(
         let turned = with_byte(rt.alloc(), bytes, at, 255 - *byte)?;
         let ran = run_on(rt.alloc(), "run", LOOK, SteadyDisk::from_image(turned))?;
         let status = ran.status;
-        assert!(rt; status == DONE || status == NO_STORE || status == DAMAGED, "at {at}: status {status}");
+        assert!(rt;
+            status == DONE || status == NO_STORE || status == DAMAGED,
+            "at {at}: status {status}"
+        );
     }
     Ok(())
 }
 
 #[test]
-fn no_byte_of_the_control_page_or_the_log_breaks_a_run_down(
-    rt: HostRuntime,
-) -> Result<(), Fail> {
+fn no_byte_of_the_control_page_or_the_log_breaks_a_run_down(rt: HostRuntime) -> Result<(), Fail> {
     let bytes = made(&rt, PAIRS, MADE)?;
     check_places(&rt, bytes.as_slice(), 0, 120)?;
     check_places(&rt, bytes.as_slice(), LOG, 60)?;

@@ -7,7 +7,8 @@ use std::process::Abort;
 use std::test::Fail;
 
 /// The words that make an empty store.
-const INIT: &str = "init|--heap-blocks|4|--index-blocks|4|--status-blocks|1|--log-pages|16|--frames|16|table t(a int8) rows_per_page 2|index i on t(a minmax) pages_per_range 1";
+const INIT: &str =
+    "init|--heap-blocks|4|--index-blocks|4|--status-blocks|1|--log-pages|16|--frames|16|table t(a int8) rows_per_page 2|index i on t(a minmax) pages_per_range 1";
 
 /// What a select of an empty store tells.
 const EMPTY: &str = "rows 0|";

@@ -8,10 +8,12 @@ use std::process::Abort;
 use std::test::Fail;
 
 /// The words of a new store with pages of two rows, and ranges of one page.
-pub const PAIRS: &str = "run|--heap-blocks|4|--index-blocks|4|--status-blocks|1|--log-pages|16|--frames|16|table t(a int8) rows_per_page 2|index i on t(a minmax) pages_per_range 1";
+pub const PAIRS: &str =
+    "run|--heap-blocks|4|--index-blocks|4|--status-blocks|1|--log-pages|16|--frames|16|table t(a int8) rows_per_page 2|index i on t(a minmax) pages_per_range 1";
 
 /// The same with summaries of 2048 bytes.
-const LARGE: &str = "run|--heap-blocks|4|--index-blocks|4|--status-blocks|1|--log-pages|16|--frames|16|table t(a int8) rows_per_page 2|index i on t(a bloom 16384 4) pages_per_range 1";
+const LARGE: &str =
+    "run|--heap-blocks|4|--index-blocks|4|--status-blocks|1|--log-pages|16|--frames|16|table t(a int8) rows_per_page 2|index i on t(a bloom 16384 4) pages_per_range 1";
 
 /// Two transactions.
 pub const MADE: &str = "s1 begin -> s1 begun 1
@@ -60,7 +62,10 @@ pub fn made<R: Abort + AllocGlobal>(rt: &R, words: &str, lines: &str) -> Result<
     let disk = recording(rt.alloc(), zeros(rt.alloc())?.as_slice())?;
     let ran = run_on(rt.alloc(), words, script.as_str(), disk)?;
     let (status, text) = (ran.status, ran.text());
-    assert!(rt; status == DONE && text == wanted.as_str(), "status {status}: {text}");
+    assert!(rt;
+        status == DONE && text == wanted.as_str(),
+        "status {status}: {text}"
+    );
     Ok(ran.disk.image(1)?)
 }
 
@@ -165,12 +170,14 @@ const LARGE_ROWS: [&str; 3] = [
 pub fn nearly_full<R: Abort + AllocGlobal>(rt: &R) -> Result<Vec<u8>, Fail> {
     let rounds = rounds(rt.alloc(), 47)?;
     let rounds = rounds.as_str();
-    let lines = format!(in rt.alloc(); "s1 begin -> s1 begun 1
+    let lines = format!(in rt.alloc();
+        "s1 begin -> s1 begun 1
 s1 insert t 5 -> s1 inserted 1.0
 s1 commit -> s1 committed
 {rounds}s1 begin -> s1 begun 2
 s1 insert t 6 -> s1 inserted 2.0
-s1 commit -> s1 committed")?;
+s1 commit -> s1 committed"
+    )?;
     made(rt, LARGE, lines.as_str())
 }
 
@@ -178,12 +185,14 @@ s1 commit -> s1 committed")?;
 pub fn filling_lines(alloc: Global) -> Result<String, Fail> {
     let rounds = rounds(alloc, 5)?;
     let rounds = rounds.as_str();
-    Ok(format!(in alloc; "{rounds}s1 begin -> s1 begun 3
+    Ok(format!(in alloc;
+        "{rounds}s1 begin -> s1 begun 3
 s1 insert t 7 -> s1 inserted 3.0
 s1 commit -> s1 committed
 {rounds}s1 begin -> s1 begun 4
 s1 insert t 8 -> s1 inserted 4.0
-s1 commit -> s1 committed")?)
+s1 commit -> s1 committed"
+    )?)
 }
 
 fn check_checkpoint<R: Abort + AllocGlobal>(rt: &R, trouble: Trouble) -> Result<(), Fail> {
