@@ -20,7 +20,7 @@ use Rattle.brin_app.specs.declared.top.Task.TheVariants as tasks
 use Rattle.brin_app.specs.declared.top.WordsFault.{WordsFault}
 use Rattle.brin_app.specs.declared.top.WordsFault.TheVariants.{Usage, Memory}
 use Rattle.brin_app.specs.WordsFaults.{of_command, of_declarations}
-use Rattle.brin_app.specs.Tasks.{Asks, HasNoLayout, IsLayoutFor, IsTaskOf, IsUsage, IsWrong}
+use Rattle.brin_app.specs.Tasks.{Asks, IsLayoutFor, IsTaskOf, IsUsage, IsWrong}
 
 -- a layout that was made of a declared schema
 pub ok_made : {E : Type 0} (declared : List (List ℕ)) (schema : Schema) (sizes : Sizes) (result : Result DiskLayout E) → Denotes declared schema

@@ -12,7 +12,7 @@ use Rattle.disk_trait.specs.ThroughoutLaws.{joined, started, weaker}
 use Rattle.store_layout.specs.DiskLayout.{DiskLayout}
 use Rattle.page_store.specs.PageMap.{PageMap, View}
 use Rattle.store_opening.specs.Reaches.{OpensWith}
-use Rattle.logged_pages.specs.Survives.{Survives, each_image_has, each_moment_has}
+use Rattle.logged_pages.specs.Survives.{each_image_has, each_moment_has}
 use Rattle.tx_table.specs.Durable.{IsBefore}
 use Rattle.transactions.specs.TransactionsState.{TransactionsState}
 use Rattle.line_texts.specs.Place.{Place, database_at}
@@ -27,7 +27,7 @@ use Rattle.store_parts.specs.ShowsPlace.{ShowsPlace}
 use Rattle.store_parts.specs.StepIs.{StepIs}
 use Rattle.store_parts.specs.StoreStates.{StoreState, shown_of}
 use Rattle.store_transactions.specs.Stops.{PassesNothing}
-use Rattle.store_images.specs.ImageLaws.{IsCommitting, ShownIsImage, StepCommits}
+use Rattle.store_images.specs.ImageLaws.{ShownIsImage, StepCommits}
 use Rattle.store_images.specs.StopRule.{AllHaveTable, HasTableOr, IsImageWith, StopsWhole}
 use Rattle.store_images.specs.StoreImage.{IsStoreImage}
 use Rattle.store_images.specs.Stops.{StopsSo}

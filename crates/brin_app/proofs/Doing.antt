@@ -11,7 +11,7 @@ use Rattle.control_page.specs.ControlPage.{HasControl}
 use Rattle.disk_trait.specs.Told.{Told}
 use Rattle.disk_trait.specs.Throughout.{Throughout}
 use Rattle.disk_trait.specs.ThroughoutLaws.{joined, started, weaker}
-use Rattle.store_layout.specs.DiskLayout.{DiskLayout, disk_size}
+use Rattle.store_layout.specs.DiskLayout.{DiskLayout}
 use Rattle.page_store.specs.Keeps.{Tells}
 use Rattle.page_store.specs.PageMap.{PageMap}
 use Rattle.store_opening.specs.Damaged.{IsDamaged}

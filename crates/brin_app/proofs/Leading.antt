@@ -12,7 +12,7 @@ use Rattle.store_parts.specs.ShowsPlace.{ShowsPlace}
 use Rattle.store_parts.specs.StepIs.{LeadsOn}
 use Rattle.store_parts.specs.StoreStates.{StoreState}
 use Rattle.brin_app.specs.CrashRule.{IsFurther, StopsBetween}
-use Rattle.brin_app.specs.Leading.{HasStopCause, IsLeftBy, LeadsTo, PlacesLead, PlacesStop, StopsAt}
+use Rattle.brin_app.specs.Leading.{HasStopCause, IsLeftBy, PlacesLead, PlacesStop}
 use Rattle.brin_app.proofs.Crash.{KeepsJournal, OnlyNow, amid_then, between_kept, between_then, further_on, kept_further, still}
 
 module _ {D : Type 0} (told : D → Told) where

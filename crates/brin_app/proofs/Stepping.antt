@@ -1,6 +1,6 @@
 -- steps of a store as those of the definition of texts
 use Rattle.std.proofs.Common.{◌≡◌, ◌≢◌, ◌∙◌, ℕ, List, Option, None, Some, IfSome, false, refl, sym, subst}
-use Rattle.std.specs.Prelude.{IsSome, Result, Ok, Err}
+use Rattle.std.specs.Prelude.{IsSome, Ok, Err}
 use Rattle.std.specs.Option.{is_some}
 use Rattle.std.proofs.lemmas.Bool.{false≢true}
 use Rattle.std.proofs.lemmas.Option.{none-some}
@@ -17,7 +17,7 @@ use Rattle.table_coverage.specs.Accounts.{Account}
 use Rattle.line_texts.specs.LineTexts.{NotTaken, Taken, WantsMemory, named, Finishes, LastStep, Further, Starts, RefusesStart, StepsOnce, IsFinished, NoStep, NoFinish, Plain, RefusesPlain, Submits}
 use Rattle.line_texts.specs.Place.{Hand as HandAt, Place}
 use Rattle.line_texts.specs.Laws.{EntersItsOwn}
-use Rattle.line_texts.specs.StatementSteps.{Outcome, Moved, Ended, Waits, Steps, LacksRoom, StepsTo, GoesOn, Replies, MeetsConflict, IsRefused, AtOnce, NothingAsked, LacksMemoryAtOnce, NoNumber, IsWaiting}
+use Rattle.line_texts.specs.StatementSteps.{Outcome, Moved, Ended, Waits, Steps, StepsTo, GoesOn, Replies, MeetsConflict, IsRefused, AtOnce, NothingAsked, LacksMemoryAtOnce, NoNumber, IsWaiting}
 use Rattle.line_texts.specs.Stops.{ComesTo, OfStep, OfFinish, OfPlain, MovedTo, Still, OnTo}
 use Rattle.store_parts.specs.declared.faults.Step.{Step}
 use Rattle.store_parts.specs.declared.faults.Step.TheVariants as steps

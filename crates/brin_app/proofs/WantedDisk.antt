@@ -1,5 +1,5 @@
 -- how large a disk words want
-use Rattle.std.proofs.Common.{◌≡◌, ℕ, List, Some, None, Option, sym, ap, inl, inr}
+use Rattle.std.proofs.Common.{◌≡◌, ℕ, List, Some, None, sym, ap, inl, inr}
 use Rattle.store_layout.specs.DiskLayout.{DiskLayout, disk_size}
 use Rattle.brin_app.specs.declared.top.Task.{Task}
 use Rattle.brin_app.specs.declared.top.Task.TheVariants.{Init, Run, RunStored}

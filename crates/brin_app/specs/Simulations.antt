@@ -1,5 +1,5 @@
 -- from the states of one engine to those of another
-use Rattle.std.specs.Prelude.{ℕ, List, Ok, Err}
+use Rattle.std.specs.Prelude.{ℕ, List, Err}
 use Rattle.script_run.specs.declared.engine.AnswerFault.{AnswerFault}
 use Rattle.script_run.specs.declared.engine.AnswerFault.TheVariants.{Memory}
 use Rattle.script_run.specs.declared.fault.RunFault.TheVariants as faults
