@@ -9,15 +9,13 @@ ghost use Rattle.store_opening.specs.Untouched.{IsUntouched};
 ghost use Rattle.logged_pages.specs.Refused.{IsRefused};
 ghost use Rattle.page_store.specs.Keeps.{Leaves, Tells};
 ghost use Rattle.fresh_store.specs.FreshPages.{fresh_pages};
-ghost use Rattle.engine_pages.specs.Kinds.{LeavesNothing};
 ghost use Rattle.line_texts.specs.LineTexts.{Submits, dropped_at, named};
 ghost use Rattle.line_texts.specs.Place.{Place};
-ghost use Rattle.line_texts.specs.Starts.{IsStart};
 ghost use Rattle.store_parts.specs.ShowsPlace.{ShowsPlace};
 ghost use Rattle.store_parts.specs.StepAnswers.{HasFaultCause, StaysReady};
 ghost use Rattle.store_parts.specs.StepIs.{LeadsOn, StepIs};
 ghost use Rattle.store_parts.specs.StoreStates.{hand_at};
-ghost use Rattle.store_starts.specs.OpenedParts.{NeverFails, ShowsStart};
+ghost use Rattle.store_starts.specs.OpenedParts.{ShowsStart};
 ghost use Rattle.store_starts.specs.Started.{HoldsImage, ImagesStay, OpensTable};
 ghost use Rattle.store_images.specs.StopRule.{AllHaveTable, StopsWhole};
 ghost use Rattle.session_core.specs.Ending.{EndsSoon};
@@ -30,7 +28,7 @@ use crate::laws::laws_of_sessions;
 use crate::sessions::{Session, add_session, has_hand, known_hand, number_of, put_hand, taken};
 use crate::steps::step_of;
 use crate::submitting::{block_refusal, hand_for, standing_refusal};
-use block_model::{Entry, Name, NoMemory, Refusal};
+use block_model::{Entry, Name, Refusal};
 use disk_trait::Disk;
 use reply_texts::Dropped;
 use statements::{MAX_SESSIONS, Statement};
@@ -41,7 +39,7 @@ use store_images::a_step_stops_whole;
 use store_layout::Layout;
 use store_opening::StartFault;
 use store_parts::{Parts, Step, StoreFault, fault_of, few_locks_are_held};
-use store_starts::{plain_parts, start_parts};
+use store_starts::start_parts;
 
 /// A store of sessions over pages on a disk.
 #[derive(Drop)]
@@ -67,21 +65,6 @@ impl<D: Disk + Drop> Model for Store<D> {
 }
 
 impl<D: Disk + Drop> Store<D> {
-    /// A store of this layout, without sessions and rows, on pages in memory alone, beside a disk that leaves nothing and never fails.
-    pub fn plain(alloc: Global, disk: D, layout: Layout) -> Result<Store<D>, NoMemory>
-        requires nothing { LeavesNothing (D.told disk) }
-        requires steady { NeverFails D.told }
-        ensures starts { IfOk result (λ store. Tells D.told store.pages → (p : Place) × IsStart layout p × ShowsPlace store p) }
-        ensures nothing { IfOk result (λ store. LeavesNothing (D.told store.pages.disk)) }
-        ensures layout { IfOk result (λ store. store.pages.layout ≡ layout) }
-        ensures ready { IfOk result (λ store. store.pages.failed ≡ None) }
-        ensures fresh { IfOk result (λ store. (store.names ≡ []) × (store.hands ≡ []) × (store.journal.entries ≡ [])) }
-    {
-        let parts = plain_parts(alloc, disk, layout)?;
-        let sessions = Vec::new(alloc);
-        Ok(Store { parts, sessions })
-    }
-
     /// Opens the store on the disk: it replays the log, reads the statuses, and has no sessions. A transaction that was under way at a stop counts as rolled
     /// back. `NoStore` exactly where the control page isn't a store's, or the disk hasn't its size; `Damaged` where a frame or a page that was read isn't of its
     /// form, or breaks the order of pages, at that byte of the disk; `Disk` where the disk failed in this call; `Memory` is want of memory. The disk comes back

@@ -1,4 +1,4 @@
-//! Tests of new stores, over the public calls of first_pages and store_starts. Nothing stands on it.
+//! Tests of new stores, over the public calls of store_starts. Nothing stands on it.
 #![tactic(auto)]
 
 #[cfg(test)]

@@ -65,7 +65,3 @@ IsDone told old new = Outcome {T = ⊤} told (Untold told old) old new (Ok tt)
 
 abbrev pub IsRefused : {D : Type 0} → (D → Told) → View D → View D → MachineFault → Type 0
 IsRefused told old new fault = StartOutcome {T = ⊤} told old new (Err fault)
-
--- a disk that never fails: its count of faults is always 0
-abbrev pub NeverFails : {D : Type 0} → (D → Told) → Type 0
-NeverFails {D} told = (disk : D) → (told disk).faults ≡ 0

@@ -1,22 +1,19 @@
-//! The parts of a store, over pages that were opened and over new ones in memory.
+//! The parts of a store, over pages that were opened.
 
 ghost use Rattle.std.specs.Prelude.{◌≡◌, ◌<◌, ℕ, None, [], length, IfOk, IfErr, MatchResult};
 ghost use Rattle.statements.specs.declared.limits.TheConstants.{MAX_SESSIONS};
 ghost use Rattle.logged_pages.specs.Survives.{Survives};
 ghost use Rattle.page_store.specs.Keeps.{Keeps, Tells};
-ghost use Rattle.engine_pages.specs.Kinds.{LeavesNothing};
 ghost use Rattle.tx_table.specs.Durable.{IsBefore};
 ghost use Rattle.transactions.specs.StartAnswers.{FaultNamesStatuses};
 ghost use Rattle.fresh_store.specs.FreshPages.{fresh_pages};
 ghost use Rattle.store_parts.specs.HandFits.{FitsStore};
 ghost use Rattle.store_parts.specs.StoreStates.{store_of};
-ghost use Rattle.store_starts.specs.OpenedParts.{AreOpened, IsDone, IsRefused, NeverFails, ShowsStart};
+ghost use Rattle.store_starts.specs.OpenedParts.{AreOpened, IsDone, IsRefused, ShowsStart};
 
 use crate::laws::{a_new_store_is_at_its_start, opened_parts_fit};
-use block_model::NoMemory;
 use disk_trait::Disk;
 use engine_pages::PageStore;
-use first_pages::start_first_pages;
 use page_locks::{Locks, Rights};
 use page_store::MachineFault;
 use std::alloc::Global;
@@ -33,7 +30,7 @@ pub fn open_parts<D: Disk + Drop>(
 ) -> Result<Parts<D>, (MachineFault, PageStore<D>)>
     ensures opened { IfOk result (AreOpened D.told) }
     ensures fits { IfOk result (λ parts. (n : ℕ) → n < MAX_SESSIONS → FitsStore D.told (store_of parts [] []) n) }
-    // Of a new store, in memory or on a disk.
+    // Of a new store.
     ensures starts { IfOk result (λ parts. Tells D.told pages → pages.pages ≡ fresh_pages pages.layout → ShowsStart pages.layout (store_of parts [] [])) }
     ensures kept { MatchResult result (λ parts. Keeps D.told pages parts.pages) (λ e. Keeps D.told pages e.1) }
     ensures survives { MatchResult result (λ parts. Survives D.told (IsBefore pages) pages parts.pages) (λ e. Survives D.told (IsBefore pages) pages e.1) }
@@ -84,31 +81,4 @@ fn count_tables(layout: &Layout) -> u8
 {
     layout.known();
     layout.schema().tables.as_slice().len() as u8
-}
-
-/// The parts of a new store of this layout, on pages in memory alone, beside a disk that no call touches and that never fails. The memory of all
-/// pages is taken here.
-pub fn plain_parts<D: Disk + Drop>(
-    alloc: Global,
-    disk: D,
-    layout: Layout,
-) -> Result<Parts<D>, NoMemory>
-    requires nothing { LeavesNothing (D.told disk) }
-    requires steady { NeverFails D.told }
-    ensures opened { IfOk result (AreOpened D.told) }
-    ensures fits { IfOk result (λ parts. (n : ℕ) → n < MAX_SESSIONS → FitsStore D.told (store_of parts [] []) n) }
-    ensures starts { IfOk result (λ parts. ShowsStart layout (store_of parts [] [])) }
-    ensures layout { IfOk result (λ parts. parts.pages.layout ≡ layout) }
-    ensures ready { IfOk result (λ parts. parts.pages.failed ≡ None) }
-    ensures nothing { IfOk result (λ parts. LeavesNothing (D.told parts.pages.disk)) }
-{
-    let mut pages = PageStore::plain(alloc, disk, layout)?;
-    let Ok(()) = start_first_pages(&mut pages) else {
-        unreachable!()
-    };
-    match open_parts(alloc, pages) {
-        Ok(parts) => Ok(parts),
-        Err((MachineFault::Memory, _)) => Err(NoMemory),
-        Err(_) => unreachable!(),
-    }
 }
