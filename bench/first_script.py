@@ -5,7 +5,7 @@ Runs a million inserts in one transaction, alone and with a select of all, the s
 comments, inserts with a hundred selects of one row each, without an index and with one that is summarised, the summarise of
 that index, of ranges of 128 pages and of one, 64 sessions that insert rows in turn and then, behind a summarise, select a row
 each in turn, and a hundred explains over 131,072 summarised ranges of one page; each three times. Tells the best time, lines
-a second and the peak of memory. The answers go to a file.
+a second and the peak of memory. The answers go to a file, and each run makes its store in another.
 """
 import os
 import subprocess
@@ -66,8 +66,11 @@ def explains():
 
 def run(program, words, script, out):
     """The seconds and the peak of memory, in kilobytes, of a run; GNU time keeps this process out of the peak."""
+    store = f"{out}.brin"
+    if os.path.exists(store):
+        os.remove(store)
     with open(script, "rb") as source, open(out, "wb") as sink:
-        command = ["/usr/bin/time", "-f", "%e %M", program] + words
+        command = ["/usr/bin/time", "-f", "%e %M", program, store] + words
         child = subprocess.run(command, stdin=source, stdout=sink, stderr=subprocess.PIPE, text=True)
     if child.returncode != 0:
         sys.exit(child.stderr)

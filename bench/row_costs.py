@@ -14,7 +14,8 @@ table with a column for each:
 - an insert by steps: 64 sessions start one each, and make its steps in turn, four lines a row.
 
 Times are of the processor in the program's own code (user time), so that a busy machine tells nearly the same as an idle one; each run is made
---rounds times (5, if not said), and the shortest counts. The answers go to a file. A program that has a summary of each range at once refuses
+--rounds times (5, if not said), and the shortest counts. The answers go to a file, and the store of each run to another; so a program from
+before stores stood in files can't be measured. A program that has a summary of each range at once refuses
 the line of the summarise, and one that has no steps refuses theirs: what it can't do is told as "-". Needs `rt` for checkouts, and GNU time.
 """
 import argparse
@@ -149,7 +150,10 @@ class Runs:
         return min(self.once(words) for _ in range(self.rounds))
 
     def once(self, words):
-        command = ["/usr/bin/time", "-f", "%U %M", self.program, "run", *words]
+        store = f"{self.out}.brin"
+        if os.path.exists(store):
+            os.remove(store)
+        command = ["/usr/bin/time", "-f", "%U %M", self.program, store, "run", *words]
         with open(self.script, "rb") as source, open(self.out, "wb") as sink:
             child = subprocess.run(command, stdin=source, stdout=sink, stderr=subprocess.PIPE, text=True)
         if child.returncode != 0:
