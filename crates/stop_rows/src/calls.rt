@@ -49,8 +49,14 @@ pub fn check_calls<R: Abort + AllocGlobal>(
             assert!(rt; text == whole.as_str(), "without trouble: {text}");
             return check_end(rt, case, &ran);
         }
-        assert!(rt; status == DISK_FAULT, "{trouble:?} at {call}: status {status}");
-        assert!(rt; whole.as_str().starts_with(text), "{trouble:?} at {call}: {text}");
+        assert!(rt;
+            status == DISK_FAULT,
+            "{trouble:?} at {call}: status {status}"
+        );
+        assert!(rt;
+            whole.as_str().starts_with(text),
+            "{trouble:?} at {call}: {text}"
+        );
         check_images(rt, case, &ran, call)?;
     }
     Err(Fail::new("the run makes too many calls"))
@@ -74,7 +80,10 @@ fn check_end<R: Abort + AllocGlobal>(
     for pick in 0..count_images(&ran.disk)? {
         let seen = look(rt.alloc(), ran.disk.image(pick)?)?;
         let seen = seen.as_str();
-        assert!(rt; last.is_some_and(|rows| has_rows(seen, rows)), "at the end, pick {pick}: {seen}");
+        assert!(rt;
+            last.is_some_and(|rows| has_rows(seen, rows)),
+            "at the end, pick {pick}: {seen}"
+        );
     }
     Ok(())
 }
@@ -92,7 +101,10 @@ fn check_images<R: Abort + AllocGlobal>(
         let seen = look(rt.alloc(), ran.disk.image(pick)?)?;
         let seen = seen.as_str();
         let is_unmade = text.is_empty() && case.words != "run" && seen == NO_STORE;
-        assert!(rt; is_unmade || has_rows_behind(seen, case.tables, commits), "call {call}, pick {pick}: {seen}");
+        assert!(rt;
+            is_unmade || has_rows_behind(seen, case.tables, commits),
+            "call {call}, pick {pick}: {seen}"
+        );
     }
     Ok(())
 }

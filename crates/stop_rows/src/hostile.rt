@@ -1,8 +1,7 @@
 //! Bytes of a disk that no store wrote.
 
-use crate::runs::run_on;
+use crate::runs::{recording, run_on, said};
 use crate::stops::{PAIRS, filling_lines, made, nearly_full};
-use crate::runs::{recording, said};
 use brin_app::{DAMAGED, DONE, NO_STORE};
 use disk_trait::SteadyDisk;
 use std::alloc::Global;
@@ -101,7 +100,10 @@ fn check_turns<R: Abort + AllocGlobal>(rt: &R, bytes: &[u8], turns: &[Turn]) -> 
         let turned = with_byte(rt.alloc(), bytes, *at, *value)?;
         let ran = run_on(rt.alloc(), "run", LOOK, SteadyDisk::from_image(turned))?;
         let (status, text) = (ran.status, ran.text());
-        assert!(rt; status == *wanted && text == *told, "{value} at {at}: status {status}: {text}");
+        assert!(rt;
+            status == *wanted && text == *told,
+            "{value} at {at}: status {status}: {text}"
+        );
     }
     Ok(())
 }
@@ -134,7 +136,10 @@ fn check_places<R: Abort + AllocGlobal>(
         let turned = with_byte(rt.alloc(), bytes, at, 255 - *byte)?;
         let ran = run_on(rt.alloc(), "run", LOOK, SteadyDisk::from_image(turned))?;
         let status = ran.status;
-        assert!(rt; status == DONE || status == NO_STORE || status == DAMAGED, "at {at}: status {status}");
+        assert!(rt;
+            status == DONE || status == NO_STORE || status == DAMAGED,
+            "at {at}: status {status}"
+        );
     }
     Ok(())
 }

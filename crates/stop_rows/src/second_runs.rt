@@ -70,7 +70,10 @@ fn second_runs_go_on(rt: HostRuntime) -> Result<(), Fail> {
             SteadyDisk::from_image(bytes),
         )?;
         let (status, text) = (ran.status, ran.text());
-        assert!(rt; status == DONE && text == wanted.as_str(), "{name}: status {status}: {text}");
+        assert!(rt;
+            status == DONE && text == wanted.as_str(),
+            "{name}: status {status}: {text}"
+        );
     }
     Ok(())
 }

@@ -60,7 +60,10 @@ pub fn made<R: Abort + AllocGlobal>(rt: &R, words: &str, lines: &str) -> Result<
     let disk = recording(rt.alloc(), zeros(rt.alloc())?.as_slice())?;
     let ran = run_on(rt.alloc(), words, script.as_str(), disk)?;
     let (status, text) = (ran.status, ran.text());
-    assert!(rt; status == DONE && text == wanted.as_str(), "status {status}: {text}");
+    assert!(rt;
+        status == DONE && text == wanted.as_str(),
+        "status {status}: {text}"
+    );
     Ok(ran.disk.image(1)?)
 }
 
