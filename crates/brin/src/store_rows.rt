@@ -56,9 +56,9 @@ s insert t 1 -> s inserted 1.0";
 
 /// Command lines that make a store and run nothing, one a line.
 const INITS: &str = "init|table t(a int8)
-init|--heap-blocks=8|table t(a int8)|index i on t(a minmax)
-init|table t(a int8)|--frames|16
-init|--|table t(a int8)";
+init|--heap-blocks=8|--index-blocks=3|--log-pages=16|table t(a int8)|index i on t(a minmax)
+init|table t(a int8)|--heap-blocks|1|--frames|16
+init|--heap-blocks=1|--|table t(a int8)";
 
 /// Command lines that ask for a run over the store that stands there.
 const STORED: &str = "run
