@@ -10,9 +10,6 @@ use std::test::Fail;
 /// More device calls than a run makes.
 const MANY: u64 = 500;
 
-/// How many images of a disk are looked at.
-const PICKS: u64 = 8;
-
 /// What befalls the disk at a call: from then on each call fails, or that call alone.
 #[derive(Clone, Copy, Debug)]
 pub enum Trouble {
@@ -21,7 +18,7 @@ pub enum Trouble {
 }
 
 /// A run: its words, with `|` between them, the bytes of the disk before it, its lines, what a select tells after each number of its commits, from none
-/// on, and how many device calls it makes at least. An `init` counts as a commit that isn't answered.
+/// on, how many device calls it makes at least, and how many images of each stop are looked at. An `init` counts as a commit that isn't answered.
 #[derive(Clone, Copy, Debug)]
 pub struct Case<'a> {
     pub words: &'a str,
@@ -29,6 +26,7 @@ pub struct Case<'a> {
     pub lines: &'a str,
     pub tables: &'a [&'a str],
     pub calls: u64,
+    pub picks: u64,
 }
 
 /// Checks the run with the trouble at each of its calls, and without it.
@@ -77,7 +75,7 @@ fn check_end<R: Abort + AllocGlobal>(
     ran: &Ran<MemoryDisk>,
 ) -> Result<(), Fail> {
     let last = case.tables.last();
-    for pick in 0..count_images(&ran.disk)? {
+    for pick in 0..count_images(&ran.disk, case.picks)? {
         let seen = look(rt.alloc(), ran.disk.image(pick)?)?;
         let seen = seen.as_str();
         assert!(rt;
@@ -97,7 +95,7 @@ fn check_images<R: Abort + AllocGlobal>(
 ) -> Result<(), Fail> {
     let text = ran.text();
     let commits = text.matches(" committed\n").count();
-    for pick in 0..count_images(&ran.disk)? {
+    for pick in 0..count_images(&ran.disk, case.picks)? {
         let seen = look(rt.alloc(), ran.disk.image(pick)?)?;
         let seen = seen.as_str();
         let is_unmade = text.is_empty() && case.words != "run" && seen == NO_STORE;
@@ -109,14 +107,14 @@ fn check_images<R: Abort + AllocGlobal>(
     Ok(())
 }
 
-/// How many images are looked at: one where no byte is pending, so that all images are the same.
-fn count_images(disk: &MemoryDisk) -> Result<u64, Fail> {
+/// How many of so many images are looked at: one where no write is pending that changed a byte, since all images are the same then.
+fn count_images(disk: &MemoryDisk, picks: u64) -> Result<u64, Fail> {
     let old = disk.image(0)?;
     let new = disk.image(1)?;
     if old.as_slice() == new.as_slice() {
         return Ok(1);
     }
-    Ok(PICKS)
+    Ok(picks)
 }
 
 /// Whether the rows after so many commits are seen, or those after one more.

@@ -25,6 +25,7 @@ fn check_making<R: Abort + AllocGlobal>(
         lines: "",
         tables,
         calls: 15,
+        picks: 8,
     };
     check_calls(rt, &case, Trouble::Stop)?;
     check_calls(rt, &case, Trouble::Fault)

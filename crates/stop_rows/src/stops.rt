@@ -77,6 +77,7 @@ fn check_changes<R: Abort + AllocGlobal>(rt: &R, trouble: Trouble) -> Result<(),
         lines: CHANGES,
         tables: &CHANGED_ROWS,
         calls: 12,
+        picks: 8,
     };
     check_calls(rt, &case, trouble)
 }
@@ -131,6 +132,7 @@ fn check_from_nothing<R: Abort + AllocGlobal>(rt: &R, trouble: Trouble) -> Resul
         lines: FROM_NOTHING,
         tables: &ROWS_FROM_NOTHING,
         calls: 30,
+        picks: 8,
     };
     check_calls(rt, &case, trouble)
 }
@@ -204,6 +206,7 @@ fn check_checkpoint<R: Abort + AllocGlobal>(rt: &R, trouble: Trouble) -> Result<
         lines: lines.as_str(),
         tables: &LARGE_ROWS,
         calls: 20,
+        picks: 4,
     };
     check_calls(rt, &case, trouble)
 }
