@@ -30,7 +30,7 @@ def ours(program, folder, lines, commits):
     """Seconds of one run, and how many commits were answered."""
     store = folder / "store.brin"
     store.unlink(missing_ok=True)
-    sizes = ["--heap-blocks=131072", "--index-blocks=64", "--log-pages=4096", "--frames=4096"]
+    sizes = ["--heap-blocks=4096", "--index-blocks=64", "--log-pages=4096", "--frames=4096"]
     made = subprocess.run([program, store, "init", *sizes, *TABLE])
     assert made.returncode == 0, made.returncode
     with open(lines) as given, open(folder / "answers", "w") as answers:
