@@ -9,7 +9,8 @@ use call_counts::counted;
 use std::fs::File;
 use std::os::unix::fs::FileExt;
 
-/// A file of std as a disk. It tells nothing of what it holds, and counts each call that failed.
+/// A file of std as a disk. It tells nothing of what it holds, and counts each call that failed. A sync makes the bytes of the file
+/// sure, as fdatasync does: its size stays.
 #[derive(Drop)]
 pub struct FileDisk {
     file: File,
@@ -60,7 +61,7 @@ impl Disk for FileDisk {
     }
 
     fn sync(&mut self) -> Result<(), DiskFault> {
-        let outcome = self.file.sync_all();
+        let outcome = self.file.sync_data();
         counted(outcome.ok(), DiskFault, &mut self.faults)
     }
 

@@ -1,5 +1,5 @@
 -- how pages, numbers and open transactions show a database, whatever pages they are
-use Rattle.std.specs.Prelude.{◌≡◌, ◌≢◌, ℕ, ◌<◌, ◌≤◌, ◌⊎◌, ◌∷◌, [], Bool, true, false, not, ◌&&◌, ◌||◌, ◌==◌, List, map, set, length, replicate, None, Some, IsPermutation, IsSorted}
+use Rattle.std.specs.Prelude.{◌≡◌, ◌≢◌, ℕ, ◌<◌, ◌≤◌, ◌⊎◌, Bool, true, false, not, ◌&&◌, ◌||◌, ◌==◌, List, map, set, length, replicate, None, Some, IsPermutation, IsSorted}
 use Rattle.std.specs.FinMap as maps
 use Rattle.block_model.specs.declared.place.Spot.{Spot}
 use Rattle.block_model.specs.declared.request.Request.TheVariants as requests
