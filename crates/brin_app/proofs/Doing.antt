@@ -137,7 +137,7 @@ module _ (old : Told) (l k : Option (List ℕ)) (only : (image : List ℕ) → I
   pub idle_spent_of : (task : Task) → IsSpentOf task 7 old l l
   idle_spent_of (Init layout) = λ e. omega (arith, e)
   idle_spent_of (Run layout) = λ tells. idle_spent 7 (IsStart layout) layout l (λ e. omega (arith, e))
-  idle_spent_of RunStored = λ tells layout table holds. idle_spent 7 (StartsOver layout table) layout l (λ e. omega (arith, e))
+  idle_spent_of RunStored = λ tells layout table holds. idle_spent 7 (StartsOver layout holds.image.next table) layout l (λ e. omega (arith, e))
 
   pub idle_complete_of : (task : Task) → IsCompleteOf task 7 old l
   idle_complete_of (Init layout) = λ fits. inr refl
@@ -156,7 +156,7 @@ module _ (one : HaveOneLayout) (law : AreNotDamaged) (old new : Told) (l k : Opt
     no_store = λ _. cause.0;
     damaged = λ e. absurd (omega (arith, e));
     no_usage = λ e. absurd (omega (arith, e));
-    spent = λ tells layout table holds. idle_spent 9 (StartsOver layout table) layout l (λ e. omega (arith, e));
+    spent = λ tells layout table holds. idle_spent 9 (StartsOver layout holds.image.next table) layout l (λ e. omega (arith, e));
     complete = λ _ _ _ tells layout table holds. absurd (cause.0 tells layout (has_store old layout table holds));
   }
   refused_done (starts.Damaged at) r w cause = record {
@@ -167,7 +167,7 @@ module _ (one : HaveOneLayout) (law : AreNotDamaged) (old new : Told) (l k : Opt
     no_store = λ e. absurd (omega (arith, e));
     damaged = λ _ tells. (at, cause.0 tells);
     no_usage = λ e. absurd (omega (arith, e));
-    spent = λ tells layout table holds. idle_spent 11 (StartsOver layout table) layout l (λ e. omega (arith, e));
+    spent = λ tells layout table holds. idle_spent 11 (StartsOver layout holds.image.next table) layout l (λ e. omega (arith, e));
     complete = λ _ _ _ tells layout table holds. absurd (undamaged one law old layout table at holds (cause.0 tells));
   }
   refused_done starts.Disk r w cause = record {
@@ -178,7 +178,7 @@ module _ (one : HaveOneLayout) (law : AreNotDamaged) (old new : Told) (l k : Opt
     no_store = λ e. absurd (omega (arith, e));
     damaged = λ e. absurd (omega (arith, e));
     no_usage = λ e. absurd (omega (arith, e));
-    spent = λ tells layout table holds. idle_spent 6 (StartsOver layout table) layout l (λ e. omega (arith, e));
+    spent = λ tells layout table holds. idle_spent 6 (StartsOver layout holds.image.next table) layout l (λ e. omega (arith, e));
     complete = λ _ _ not. absurd (not cause.1);
   }
   refused_done starts.Memory r w cause = record {
@@ -189,7 +189,7 @@ module _ (one : HaveOneLayout) (law : AreNotDamaged) (old new : Told) (l k : Opt
     no_store = λ e. absurd (omega (arith, e));
     damaged = λ e. absurd (omega (arith, e));
     no_usage = λ e. absurd (omega (arith, e));
-    spent = λ tells layout table holds. idle_spent 7 (StartsOver layout table) layout l (λ e. omega (arith, e));
+    spent = λ tells layout table holds. idle_spent 7 (StartsOver layout holds.image.next table) layout l (λ e. omega (arith, e));
     complete = λ _ _ _ tells layout table holds limit room. inr refl;
   }
 
@@ -245,15 +245,24 @@ module _ {D : Type 0} (told : D → Told) (one : HaveOneLayout) (old new : Told)
       subst (λ (m : DiskLayout). IsScriptRun status m (StopsOfRun old new) new l l' k k' start) same
       (earlier_run status s.pages.layout old (told s.pages.disk) new l l' k k' start stay (runs start (same_tells ∙ tells) ready shown all))
 
-  pub stored_run : IsTrue old.tells_contents → (layout : DiskLayout) (table : TableState) → HoldsTable old layout table
-      → (start : Place) × StartsOver layout table start × IsScriptRun status layout (StopsOfRun old new) new l l' k k' start
+  -- what the store shows over pages of a store with the table
+  abbrev ShowsOver : DiskLayout → TableState → PageMap → Type 0
+  ShowsOver layout table held =
+      (image : IsStoreImage layout held table) → (p : Place) × IsOpening layout (database_with image.next table) p × ShowsPlace s p × AllHaveTable told s.pages p
+
+  -- its pages are those that the disk holds
+  its_opening : (layout : DiskLayout) (table : TableState) → IsTrue old.tells_contents → (holds : HoldsTable old layout table) → ShowsOver layout table holds.pages
+  its_opening layout table tells holds =
+      let own : ShowsOver s.pages.layout table s.pages.pages = opens (same_tells ∙ tells) table in
+      subst (ShowsOver layout table) (its_pages layout table tells holds)
+      (subst (λ (m : DiskLayout). ShowsOver m table s.pages.pages) (its_layout layout table tells holds) own)
+
+  pub stored_run : IsTrue old.tells_contents → (layout : DiskLayout) (table : TableState) (holds : HoldsTable old layout table)
+      → (start : Place) × StartsOver layout holds.image.next table start × IsScriptRun status layout (StopsOfRun old new) new l l' k k' start
   stored_run tells layout table holds =
       let same = its_layout layout table tells holds in
-      let start = opens (same_tells ∙ tells) table (its_image layout table tells holds) in (
-        start.0,
-        subst (λ (m : DiskLayout). StartsOver m table start.0) same (s.transactions.tx.next, start.1),
-        run_at layout same tells start.0 start.2 start.3,
-      )
+      let start = its_opening layout table tells holds holds.image in
+      (start.0, start.1, run_at layout same tells start.0 start.2 start.3)
 
   -- a place at which a new script starts has the table of the opening
   all_new : (p q : Place) (next : ℕ) → IsOpening s.pages.layout (database_with next initial_state.table) p → IsStart s.pages.layout q → AllHaveTable told s.pages p → AllHaveTable told s.pages q
@@ -268,8 +277,9 @@ module _ {D : Type 0} (told : D → Told) (one : HaveOneLayout) (old new : Told)
       let same = its_layout layout initial_state.table tells holds in
       let own : s.pages.pages ≡ fresh_pages s.pages.layout = its_pages layout initial_state.table tells holds ∙ ap fresh_pages (sym same) in
       let start = begins (same_tells ∙ tells) own in
-      let opening = opens (same_tells ∙ tells) initial_state.table (its_image layout initial_state.table tells holds) in
-      inr (start.0, subst (λ (m : DiskLayout). IsStart m start.0) same start.1, run_at layout same tells start.0 start.2 (all_new opening.0 start.0 s.transactions.tx.next opening.1 start.1 opening.3))
+      let image = its_image layout initial_state.table tells holds in
+      let opening = opens (same_tells ∙ tells) initial_state.table image in
+      inr (start.0, subst (λ (m : DiskLayout). IsStart m start.0) same start.1, run_at layout same tells start.0 start.2 (all_new opening.0 start.0 image.next opening.1 start.1 opening.3))
 
   pub stored_done : (r w : Type 0) → (status ≡ 4 → r) → (status ≡ 5 → w) → (old.faults ≤ (told s.pages.disk).faults) → (status ≡ 6 → s.pages.failed ≡ None → Rose (told s.pages.disk).faults new.faults)
       → (status ≡ 11 → Tells told s.pages → s.pages.failed ≡ None → ⊥) → (status ≢ 2) × (status ≢ 9) → IsDoneSo RunStored status old new l l' k k' r w
@@ -285,10 +295,10 @@ module _ {D : Type 0} (told : D → Told) (one : HaveOneLayout) (old new : Told)
         no_usage = others.0;
         spent = λ tells layout table holds.
             let run = stored_run tells layout table holds in
-            run_spent (StartsOver layout table) layout status (StopsOfRun old new) new run.0 run.1 l l' k k' run.2;
+            run_spent (StartsOver layout holds.image.next table) layout status (StopsOfRun old new) new run.0 run.1 l l' k k' run.2;
         complete = λ no_read no_write no_disk tells layout table holds.
             let run = stored_run tells layout table holds in
-            run_complete (StartsOver layout table) layout status (StopsOfRun old new) new run.0 run.1 l l' k k' run.2 (λ e. no_read (read e)) (λ e. no_write (write e)) (λ e. no_disk (rose e))
+            run_complete (StartsOver layout holds.image.next table) layout status (StopsOfRun old new) new run.0 run.1 l l' k k' run.2 (λ e. no_read (read e)) (λ e. no_write (write e)) (λ e. no_disk (rose e))
             (λ e. damage e (same_tells ∙ tells) ready);
       }
 

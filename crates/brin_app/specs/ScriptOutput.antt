@@ -61,9 +61,9 @@ pub record HoldsFresh (disk : Told) (layout : DiskLayout) : Type 0 where
   pub opens : OpensAs layout disk.contents (fresh_pages layout)
   pub image : IsStoreImage layout (fresh_pages layout) initial_state.table
 
--- a script over a store with the table starts there
-abbrev pub StartsOver : DiskLayout → TableState → Place → Type 0
-StartsOver layout table p = (next : ℕ) × IsOpening layout (database_with next table) p
+-- a script over a store with that next number and the table starts there
+abbrev pub StartsOver : DiskLayout → ℕ → TableState → Place → Type 0
+StartsOver layout next table p = IsOpening layout (database_with next table) p
 
 -- the image was there before, or is no store
 abbrev pub IsOldOrNone : Told → List ℕ → Type 0
@@ -130,9 +130,9 @@ IsNewOutput status layout old new left left' taken taken' =
 
 abbrev pub IsStoredOutput : ℕ → (old new : Told) → (left left' taken taken' : Option (List ℕ)) → Type 0
 IsStoredOutput status old new left left' taken taken' =
-    IsTrue old.tells_contents → (layout : DiskLayout) (table : TableState) → HoldsTable old layout table
+    IsTrue old.tells_contents → (layout : DiskLayout) (table : TableState) (holds : HoldsTable old layout table)
     → IsUnopened status layout table old new left left' taken taken'
-    ⊎ ((start : Place) × StartsOver layout table start × IsScriptRun status layout (StopsOfRun old new) new left left' taken taken' start)
+    ⊎ ((start : Place) × StartsOver layout holds.image.next table start × IsScriptRun status layout (StopsOfRun old new) new left left' taken taken' start)
 
 -- the same over a store that was just made
 abbrev pub IsFreshOutput : ℕ → (old new : Told) → (left left' taken taken' : Option (List ℕ)) → Type 0

@@ -64,7 +64,7 @@ abbrev pub IsSpentOf : Task → ℕ → Told → Option (List ℕ) → Option (L
 IsSpentOf (Init layout) status disk left left' = status ≢ 8
 IsSpentOf (Run layout) status disk left left' = IsTrue disk.tells_contents → HasSpentCauses status (IsStart layout) layout left left'
 IsSpentOf RunStored status disk left left' =
-    IsTrue disk.tells_contents → (layout : DiskLayout) (table : TableState) → HoldsTable disk layout table → HasSpentCauses status (StartsOver layout table) layout left left'
+    IsTrue disk.tells_contents → (layout : DiskLayout) (table : TableState) (holds : HoldsTable disk layout table) → HasSpentCauses status (StartsOver layout holds.image.next table) layout left left'
 
 -- ---- no other status
 
@@ -85,7 +85,7 @@ abbrev pub IsCompleteOf : Task → ℕ → Told → Option (List ℕ) → Type 0
 IsCompleteOf (Init layout) status disk left = disk.size ≡ disk_size layout → (status ≡ 0) ⊎ (status ≡ 7)
 IsCompleteOf (Run layout) status disk left = IsTrue disk.tells_contents → disk.size ≡ disk_size layout → IsComplete status (IsStart layout) layout left
 IsCompleteOf RunStored status disk left =
-    IsTrue disk.tells_contents → (layout : DiskLayout) (table : TableState) → HoldsTable disk layout table → IsComplete status (StartsOver layout table) layout left
+    IsTrue disk.tells_contents → (layout : DiskLayout) (table : TableState) (holds : HoldsTable disk layout table) → IsComplete status (StartsOver layout holds.image.next table) layout left
 
 -- ---- all of it
 

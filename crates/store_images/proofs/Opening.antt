@@ -156,8 +156,8 @@ module _ (s : ShownStore) (stored : List Status) (kept : RestIsKept) (store : Is
 abbrev pub OrderIsEach : Type 0
 OrderIsEach = (layout : DiskLayout) (pages : PageMap) (index : ℕ) → AreInOrder layout pages → index < length layout.schema.indexes → IsIndexInOrder layout.sizes.index_blocks (index_page layout pages index)
 
-pub image_is_shown : HaveOneList → HasOneNext → RestIsKept → OrderIsEach → OpenedIsShown → (s : ShownStore) (table : CommittedTable) → IsOpenedStore s → IsStoreImage s.layout s.pages table
-    → (p : Place) × IsOpening s.layout (database_with s.transactions.tx.next table) p × IsPlaceOf s p
+pub image_is_shown : HaveOneList → HasOneNext → RestIsKept → OrderIsEach → OpenedIsShown → (s : ShownStore) (table : CommittedTable) → IsOpenedStore s → (image : IsStoreImage s.layout s.pages table)
+    → (p : Place) × IsOpening s.layout (database_with image.next table) p × IsPlaceOf s p
 image_is_shown list next kept each shown s table store image =
     let over : ImageOver s.layout s.pages table s.transactions s.transactions.tx.next = image_over s table list next store image in
     let stored : List Status = over.database.stored in
@@ -167,4 +167,6 @@ image_is_shown list next kept each shown s table store image =
     let order : (index : ℕ) → index < length s.layout.schema.indexes → IsIndexInOrder s.layout.sizes.index_blocks (index_page s.layout s.pages index) =
     λ index below. each s.layout s.pages index image.order below in
     let is : IsPlaceOf s (place_opened s opening tables) = shown s opening tables store.entries store.queue store.dropped store.hands store.opened over.database opened order in
-    (place_opened s opening tables, is_opening s stored kept store over.tables opening, is)
+    let begins : IsOpening s.layout (database_with image.next table) (place_opened s opening tables) =
+    subst (λ (n : ℕ). IsOpening s.layout (database_with n table) (place_opened s opening tables)) (sym (one_next s table list next store image)) (is_opening s stored kept store over.tables opening) in
+    (place_opened s opening tables, begins, is)

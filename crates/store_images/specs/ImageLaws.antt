@@ -69,10 +69,10 @@ pub record IsOpenedStore (s : ShownStore) : Type 0 where
   pub names : s.names ≡ []
   pub hands : (n : ℕ) → hand_in s.hands n ≡ None
 
--- Over an image of a store it shows a place at which a script begins, with the image's table.
+-- Over an image of a store it shows a place at which a script begins, with the image's table and its next number.
 abbrev pub ImageIsShown : DiskLayout → Type 0
-ImageIsShown layout = (s : ShownStore) (table : TableState) → s.layout ≡ layout → IsOpenedStore s → IsStoreImage s.layout s.pages table
-    → (p : Place) × IsOpening s.layout (database_with s.transactions.tx.next table) p × IsPlaceOf s p
+ImageIsShown layout = (s : ShownStore) (table : TableState) → s.layout ≡ layout → IsOpenedStore s → (image : IsStoreImage s.layout s.pages table)
+    → (p : Place) × IsOpening s.layout (database_with image.next table) p × IsPlaceOf s p
 
 -- the pages of a new store are those of a store with the empty table
 abbrev pub NewIsImage : DiskLayout → Type 0

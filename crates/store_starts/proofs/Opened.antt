@@ -132,4 +132,4 @@ module _ {D : Type 0} (told : D → Told) (mid : View D) (parts : Parts D) (sure
   pub opens_table : ImageIsShown parts.pages.layout → OpensTable told (store_of parts [] [])
   opens_table law tells table image =
       let shown = law (shown_of (store_of parts [] [])) table refl (is_opened tells) image in
-      (shown.0, shown.1, shown.2, has_table (sym kept.leaves.tells ∙ tells) parts.transactions.tx.next table image shown.0 shown.1)
+      (shown.0, shown.1, shown.2, has_table (sym kept.leaves.tells ∙ tells) image.next table image shown.0 shown.1)

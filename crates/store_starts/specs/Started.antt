@@ -24,10 +24,11 @@ use Rattle.store_images.specs.StopRule.{AllHaveTable, IsImageWith}
 abbrev pub HoldsImage : Told → Type 0
 HoldsImage disk = IsTrue disk.tells_contents → (layout : DiskLayout) (pages : PageMap) → OpensAs layout disk.contents pages → (table : TableState) × IsStoreImage layout pages table
 
--- The store that was opened over the pages of a store with a table shows a place at which a script begins with that table, and each image has it.
+-- The store that was opened over the pages of a store with a table shows a place at which a script begins with that table and the next number of these pages,
+-- and each image has the table.
 abbrev pub OpensTable : {D : Type 0} → (D → Told) → StoreState D → Type 0
-OpensTable told s = Tells told s.pages → (table : TableState) → IsStoreImage s.pages.layout s.pages.pages table
-    → (p : Place) × IsOpening s.pages.layout (database_with s.transactions.tx.next table) p × ShowsPlace s p × AllHaveTable told s.pages p
+OpensTable told s = Tells told s.pages → (table : TableState) (image : IsStoreImage s.pages.layout s.pages.pages table)
+    → (p : Place) × IsOpening s.pages.layout (database_with image.next table) p × ShowsPlace s p × AllHaveTable told s.pages p
 
 -- the table that each image had before, each has at every moment of the calls
 abbrev pub ImagesStay : (old new : Told) → Type 0
