@@ -2,28 +2,10 @@
 //! path. A file that is absent or empty is made as large as the store that the other words make; where they make none, it stays empty. These words,
 //! the file, standard input and standard output are handed to `brin_main`, which does all else; its status is the program's, and a status that isn't 0
 //! has a text on standard error. Nobody knows what a file holds, so the clauses of `brin_main` on contents and images say nothing here.
-//!
-//! Its tests are worked scripts, each run through `brin_main` in memory: what is written and the status are those of the row,
-//! whether bytes come and go one by one or in large pieces. Texts are worked out by hand from what a line means, and none is the
-//! program's own.
 #![tactic(auto)]
 
 #[cfg(test)]
 mod file_rows;
-#[cfg(test)]
-mod limit_rows;
-#[cfg(test)]
-mod line_rows;
-#[cfg(test)]
-mod row_checks;
-#[cfg(test)]
-mod step_rows;
-#[cfg(test)]
-mod store_rows;
-#[cfg(test)]
-mod upkeep_rows;
-#[cfg(test)]
-mod word_rows;
 
 ghost use Rattle.std.specs.Prelude.{◌≡◌, ◌↔◌, None};
 ghost use Rattle.std.specs.IoError.{error_kind};

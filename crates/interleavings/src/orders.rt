@@ -2,20 +2,16 @@
 
 ghost use Rattle.std.specs.Prelude.{◌+◌, ◌<◌, ◌≤◌};
 
-use block_model::Words;
-use brin_app::{DONE, brin_main, wanted_size};
-use disk_trait::SteadyDisk;
-use io_traits::{MemorySink, MemorySource};
+use script_rows::written;
 use std::alloc::Global;
 use std::str;
 use std::test::Fail;
-use veiled_disk::VeiledDisk;
 
 /// How many bytes of output a script has room for.
 const ROOM: usize = 4096;
 
-/// How many bytes come or go in one call.
-const PIECE: usize = 65536;
+/// The status of a script that was read to its end.
+const DONE: u8 = 0;
 
 /// A small store: pages of four rows, and an index with ranges of one page.
 const WORDS: &str =
@@ -72,7 +68,7 @@ fn is_right(alloc: Global, pair: &Pair, order: u32, steps: u32) -> Result<bool, 
         add_line(&mut script, side.step)?;
     }
     add_ends(&mut script, pair)?;
-    let (status, sink) = written(alloc, script)?;
+    let (status, sink) = written(alloc, WORDS, script, ROOM)?;
     Ok(status == DONE && has_texts(sink.bytes(), pair))
 }
 
@@ -120,29 +116,4 @@ fn add_line(out: &mut Vec<u8>, line: &str) -> Result<(), Fail> {
     out.extend_from_slice(line.as_bytes())?;
     out.push(b'\n')?;
     Ok(())
-}
-
-/// The status of a script, and what is written for it.
-fn written(alloc: Global, script: Vec<u8>) -> Result<(u8, MemorySink), Fail> {
-    let mut words = Words::new(alloc);
-    for word in WORDS.split('|') {
-        words.push(word.as_bytes())?;
-    }
-    let disk = disk_for(alloc, &words)?;
-    let mut source = MemorySource::new(script, PIECE, Vec::new(alloc));
-    let mut sink = MemorySink::new(alloc, ROOM, PIECE, Vec::new(alloc))?;
-    let (status, _) = brin_main(
-        alloc,
-        &words,
-        VeiledDisk::over(disk),
-        &mut source,
-        &mut sink,
-    );
-    Ok((status, sink))
-}
-
-/// A disk of zeros of the size that the words want.
-fn disk_for(alloc: Global, words: &Words) -> Result<SteadyDisk, Fail> {
-    let size = wanted_size(alloc, words)?.unwrap_or(0);
-    Ok(SteadyDisk::new(alloc, size)?)
 }

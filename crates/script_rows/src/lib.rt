@@ -3,6 +3,17 @@
 //! scripts stand on it; it stands on brin_app.
 #![tactic(auto)]
 
+#[cfg(test)]
+mod checks;
+#[cfg(test)]
+mod limit_rows;
+#[cfg(test)]
+mod line_rows;
+#[cfg(test)]
+mod store_rows;
+#[cfg(test)]
+mod word_rows;
+
 ghost use Rattle.std.specs.Prelude.{◌<◌};
 
 use block_model::Words;
@@ -93,6 +104,38 @@ pub fn holds(alloc: Global, row: &Row<'_>, piece: usize, faults: &Faults<'_>) ->
     let writes = Vec::from_slice(alloc, faults.writes)?;
     let words = words_of(alloc, row.words)?;
     ran(alloc, &words, script, reads, writes, piece, row)
+}
+
+/// Whether the words and the script give this output and status 0, with bytes one by one and in large pieces.
+pub fn holds_either_way(
+    alloc: Global,
+    words: &str,
+    script: &[u8],
+    output: &[u8],
+) -> Result<bool, Fail> {
+    let row = Row {
+        words,
+        script,
+        output,
+        status: 0,
+    };
+    Ok(holds(alloc, &row, 1, &NO_FAULTS)? && holds(alloc, &row, PIECE, &NO_FAULTS)?)
+}
+
+/// The name of the first script that isn't answered as it says, of a command line that begins with these words.
+pub fn first_wrong(
+    alloc: Global,
+    first_words: &str,
+    scripts: &[Script],
+) -> Result<Option<&'static str>, Fail> {
+    for (name, declared, lines) in scripts {
+        let words = format!(in alloc; "{first_words}|{declared}")?;
+        let (script, output) = parted(alloc, lines)?;
+        if !holds_either_way(alloc, words.as_str(), script.as_slice(), output.as_slice())? {
+            return Ok(Some(name));
+        }
+    }
+    Ok(None)
 }
 
 /// Whether the row's words and script give its output and status over this disk, and the disk that they leave.

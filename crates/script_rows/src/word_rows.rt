@@ -1,8 +1,8 @@
 //! Command lines: those that ask for a run over a new store, and those that ask for nothing.
 
-use crate::row_checks::check_words;
+use crate::checks::check_words;
+use crate::{Row, ran};
 use block_model::Words;
-use script_rows::{Row, ran};
 use std::test::Fail;
 
 /// Command lines that ask for a run over a new store, one a line.

@@ -1,7 +1,6 @@
 //! Scripts of whole lines.
 
-use crate::row_checks::check_scripts;
-use script_rows::Script;
+use crate::{Script, first_wrong};
 use std::test::Fail;
 
 /// The first words of a small store.
@@ -334,21 +333,31 @@ s1 rollback -> s1 error 12",
 
 #[test]
 fn transactions_work_on_copies(rt: HostRuntime) -> Result<(), Fail> {
-    check_scripts(&rt, SMALL, &TRANSACTIONS)
+    assert_eq!(rt;
+        first_wrong(rt.alloc(), SMALL, TRANSACTIONS.as_slice())?,
+        None
+    );
+    Ok(())
 }
 
 #[test]
 fn explains_name_the_blocks_that_may_match(rt: HostRuntime) -> Result<(), Fail> {
-    check_scripts(&rt, SMALL, &EXPLAINS)
+    assert_eq!(rt; first_wrong(rt.alloc(), SMALL, EXPLAINS.as_slice())?, None);
+    Ok(())
 }
 
 #[test]
 fn refusals_say_why_and_where(rt: HostRuntime) -> Result<(), Fail> {
-    check_scripts(&rt, SMALL, &REFUSALS)
+    assert_eq!(rt; first_wrong(rt.alloc(), SMALL, REFUSALS.as_slice())?, None);
+    Ok(())
 }
 
 /// The same with the sizes that aren't said.
 #[test]
 fn sizes_have_defaults(rt: HostRuntime) -> Result<(), Fail> {
-    check_scripts(&rt, "run", &TRANSACTIONS)
+    assert_eq!(rt;
+        first_wrong(rt.alloc(), "run", TRANSACTIONS.as_slice())?,
+        None
+    );
+    Ok(())
 }

@@ -1,7 +1,6 @@
 //! Limits that are met, and streams that fail.
 
-use crate::row_checks::{check, check_scripts};
-use script_rows::{Faults, NO_FAULTS, Row, Script, holds, written};
+use crate::{Faults, Row, Script, first_wrong, holds, holds_either_way, written};
 use std::test::Fail;
 
 /// The words of a run over a small store.
@@ -115,20 +114,28 @@ s1 explain t where a is null -> s1 blocks 3",
 
 #[test]
 fn full_tables_take_no_row(rt: HostRuntime) -> Result<(), Fail> {
-    check_scripts(
-        &rt,
-        "run|--index-blocks|4|--status-blocks|1|--log-pages|16",
-        &FULL_TABLES,
-    )
+    assert_eq!(rt;
+        first_wrong(
+            rt.alloc(),
+            "run|--index-blocks|4|--status-blocks|1|--log-pages|16",
+            FULL_TABLES.as_slice()
+        )?,
+        None
+    );
+    Ok(())
 }
 
 #[test]
 fn full_indexes_take_no_tuple(rt: HostRuntime) -> Result<(), Fail> {
-    check_scripts(
-        &rt,
-        "run|--heap-blocks|8|--index-blocks=3|--status-blocks|1|--log-pages|16",
-        &FULL_INDEXES,
-    )
+    assert_eq!(rt;
+        first_wrong(
+            rt.alloc(),
+            "run|--heap-blocks|8|--index-blocks=3|--status-blocks|1|--log-pages|16",
+            FULL_INDEXES.as_slice()
+        )?,
+        None
+    );
+    Ok(())
 }
 
 #[test]
@@ -183,26 +190,27 @@ fn begins_and_rollbacks_fill_the_journal(rt: HostRuntime) -> Result<(), Fail> {
 
 #[test]
 fn missing_line_feed_and_long_line(rt: HostRuntime) -> Result<(), Fail> {
-    check(&rt, "no line", WORDS, b"", b"")?;
-    check(&rt, "no line feed", WORDS, b"s1 begin", b"s1 begun 1\n")?;
+    assert!(rt; holds_either_way(rt.alloc(), WORDS, b"", b"")?, "no line");
+    assert!(rt;
+        holds_either_way(rt.alloc(), WORDS, b"s1 begin", b"s1 begun 1\n")?,
+        "no line feed"
+    );
     let long = vec![in rt.alloc(); b'x'; 65536]?;
-    check(
-        &rt,
-        "a long line",
-        WORDS,
-        long.as_slice(),
-        b"- error 1 65535\n",
-    )?;
+    assert!(rt;
+        holds_either_way(rt.alloc(), WORDS, long.as_slice(), b"- error 1 65535\n")?,
+        "a long line"
+    );
     let spaces = vec![in rt.alloc(); b' '; 65536]?;
-    check(
-        &rt,
-        "spaces",
-        WORDS,
-        spaces.as_slice(),
-        b"- error 1 65535\n",
-    )?;
+    assert!(rt;
+        holds_either_way(rt.alloc(), WORDS, spaces.as_slice(), b"- error 1 65535\n")?,
+        "spaces"
+    );
     let lawful = vec![in rt.alloc(); b' '; 65535]?;
-    check(&rt, "fewer spaces", WORDS, lawful.as_slice(), b"")
+    assert!(rt;
+        holds_either_way(rt.alloc(), WORDS, lawful.as_slice(), b"")?,
+        "fewer spaces"
+    );
+    Ok(())
 }
 
 #[test]
@@ -217,13 +225,11 @@ fn a_65th_session_is_refused(rt: HostRuntime) -> Result<(), Fail> {
     }
     script.extend_from_slice(b"s64 begin\ns64 select u\ns63 commit\ns64 step\n")?;
     output.extend_from_slice(b"s64 error 10 64\n- error 2 11\ns63 committed\ns64 error 10 64\n")?;
-    check(
-        &rt,
-        "64 sessions",
-        WORDS,
-        script.as_slice(),
-        output.as_slice(),
-    )
+    assert!(rt;
+        holds_either_way(rt.alloc(), WORDS, script.as_slice(), output.as_slice())?,
+        "64 sessions"
+    );
+    Ok(())
 }
 
 #[test]

@@ -1,7 +1,7 @@
 //! Stores that are made, that are opened again, and that are lacking.
 
-use crate::row_checks::check_words;
-use script_rows::{Row, disk_for, holds_over, parted, wanted};
+use crate::checks::check_words;
+use crate::{Row, disk_for, holds_over, parted, wanted};
 use std::process::Abort;
 use std::test::Fail;
 
