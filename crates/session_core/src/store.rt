@@ -30,6 +30,7 @@ use crate::steps::step_of;
 use crate::submitting::{block_refusal, hand_for, standing_refusal};
 use block_model::{Entry, Name, Refusal};
 use disk_trait::Disk;
+use heap_rows::blocks;
 use reply_texts::Dropped;
 use statements::{MAX_SESSIONS, Statement};
 use std::alloc::Global;
@@ -241,6 +242,14 @@ impl<D: Disk + Drop> Store<D> {
         ensures { (p : Place) → ShowsPlace self.now p → result.now ≡ dropped_at p session }
     {
         self.parts.dropped.of(session)
+    }
+
+    /// How many blocks of the table are started.
+    pub fn blocks(&self, table: u8) -> u32
+        requires { table < length self.now.pages.layout.schema.tables }
+        ensures { Tells D.told self.now.pages → (p : Place) → ShowsPlace self.now p → result ≡ (p.tables table).blocks }
+    {
+        blocks(&self.parts.pages, table)
     }
 
     /// The requests of all statements so far, in their order. Only tests ask for them.
