@@ -1,0 +1,4 @@
+pub mod DemoLines
+pub mod Conversation
+pub mod Played
+pub mod Summary
