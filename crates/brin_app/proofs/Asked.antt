@@ -15,6 +15,7 @@ use Rattle.command_words.specs.CommandWords.{IsCommand, IsOnlyCommand}
 use Rattle.schema_words.specs.declared.declarations.DeclFault.{DeclFault}
 use Rattle.schema_words.specs.declared.declarations.DeclFault.TheVariants as declarations
 use Rattle.schema_words.specs.FirstFault.{Answers}
+use Rattle.demo_script.specs.DemoStore.{IsDemoLayout, demo_declarations}
 use Rattle.brin_app.specs.declared.top.Task.{Task}
 use Rattle.brin_app.specs.declared.top.Task.TheVariants as tasks
 use Rattle.brin_app.specs.declared.top.WordsFault.{WordsFault}
@@ -51,17 +52,31 @@ pub init_alone : (sizes : Sizes) (declared : List (List ℕ)) (layout : DiskLayo
 init_alone sizes declared layout makes alone (tasks.Init other) also = ap tasks.Init (one_layout_for sizes declared layout other makes alone also)
 init_alone sizes declared layout makes alone (tasks.Run other) also = absurd also
 init_alone sizes declared layout makes alone tasks.RunStored also = absurd also
+init_alone sizes declared layout makes alone (tasks.Demo other seed rows) also = absurd also
 
 pub run_alone : (sizes : Sizes) (declared : List (List ℕ)) (layout : DiskLayout) → IsLayoutFor sizes declared layout → ((schema : Schema) → Denotes declared schema → schema ≡ layout.schema)
     → (other : Task) → IsTaskOf (commands.Run sizes declared) other → other ≡ tasks.Run layout
 run_alone sizes declared layout makes alone (tasks.Run other) also = ap tasks.Run (one_layout_for sizes declared layout other makes alone also)
 run_alone sizes declared layout makes alone (tasks.Init other) also = absurd also
 run_alone sizes declared layout makes alone tasks.RunStored also = absurd also
+run_alone sizes declared layout makes alone (tasks.Demo other seed rows) also = absurd also
 
 pub stored_alone : (other : Task) → IsTaskOf commands.RunStored other → other ≡ tasks.RunStored
 stored_alone (tasks.Init other) also = absurd also
 stored_alone (tasks.Run other) also = absurd also
+stored_alone (tasks.Demo other seed rows) also = absurd also
 stored_alone tasks.RunStored also = refl
+
+demo_is : (layout other : DiskLayout) (seed seed' rows rows' : ℕ) → other ≡ layout → seed' ≡ seed → rows' ≡ rows → tasks.Demo other seed' rows' ≡ tasks.Demo layout seed rows
+demo_is layout other seed seed' rows rows' l s r = ap (λ (m : DiskLayout). tasks.Demo m seed' rows') l ∙ ap (λ (n : ℕ). tasks.Demo layout n rows') s ∙ ap (λ (n : ℕ). tasks.Demo layout seed n) r
+
+pub demo_alone : (seed rows : ℕ) (layout : DiskLayout) → IsDemoLayout rows layout → ((schema : Schema) → Denotes demo_declarations schema → schema ≡ layout.schema)
+    → (other : Task) → IsTaskOf (commands.Demo seed rows) other → other ≡ tasks.Demo layout seed rows
+demo_alone seed rows layout makes alone (tasks.Init other) also = absurd also
+demo_alone seed rows layout makes alone (tasks.Run other) also = absurd also
+demo_alone seed rows layout makes alone tasks.RunStored also = absurd also
+demo_alone seed rows layout makes alone (tasks.Demo other seed' rows') also =
+    demo_is layout other seed seed' rows rows' (layout_is other layout (alone other.schema also.0.schema) (also.0.sizes_are ∙ sym makes.sizes_are)) also.1 also.2
 
 lacks : (o : Option ℕ) → o ≡ None → IsSome o → ⊥
 lacks None e h = false≢true h
@@ -72,13 +87,13 @@ pub not_wrong : (command : Command) (task : Task) → IsTaskOf command task → 
 not_wrong (commands.Init sizes declared) (tasks.Init layout) makes broken = lacks (first_broken_rule layout.schema sizes) makes.within (broken layout.schema makes.schema)
 not_wrong (commands.Init sizes declared) (tasks.Run layout) makes broken = makes
 not_wrong (commands.Init sizes declared) tasks.RunStored makes broken = makes
+not_wrong (commands.Init sizes declared) (tasks.Demo layout seed rows) makes broken = makes
 not_wrong (commands.Run sizes declared) (tasks.Run layout) makes broken = lacks (first_broken_rule layout.schema sizes) makes.within (broken layout.schema makes.schema)
 not_wrong (commands.Run sizes declared) (tasks.Init layout) makes broken = makes
 not_wrong (commands.Run sizes declared) tasks.RunStored makes broken = makes
+not_wrong (commands.Run sizes declared) (tasks.Demo layout seed rows) makes broken = makes
 not_wrong commands.RunStored task makes broken = broken
-not_wrong (commands.Demo seed rows) (tasks.Init layout) makes broken = makes
-not_wrong (commands.Demo seed rows) (tasks.Run layout) makes broken = makes
-not_wrong (commands.Demo seed rows) tasks.RunStored makes broken = makes
+not_wrong (commands.Demo seed rows) task makes broken = broken
 
 -- ---- words
 

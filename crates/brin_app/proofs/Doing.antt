@@ -31,11 +31,12 @@ use Rattle.store_images.specs.StoreImage.{IsStoreImage, database_with}
 use Rattle.store_starts.specs.OpenedParts.{ShowsStart}
 use Rattle.store_starts.specs.Started.{HoldsImage, ImagesStay, OpensTable}
 use Rattle.brin_app.specs.declared.top.Task.{Task}
-use Rattle.brin_app.specs.declared.top.Task.TheVariants.{Init, Run, RunStored}
+use Rattle.brin_app.specs.declared.top.Task.TheVariants.{Demo, Init, Run, RunStored}
 use Rattle.brin_app.specs.CrashRule.{IsOfStop}
-use Rattle.brin_app.specs.ScriptOutput.{EachImageHas, HoldsFresh, HoldsTable, IsFreshOutput, IsIdle, IsMade, IsOldOrEmpty, IsOldOrNone, IsOutputOf, IsScriptRun, IsUnopened, RunsThrough, StartsOver, StopsOfNewRun, StopsOfRun}
+use Rattle.brin_app.specs.ScriptOutput.{EachImageHas, HoldsFresh, HoldsTable, IsFreshOutput, IsIdle, IsMade, IsOldOrEmpty, IsOldOrNone, IsScriptRun, IsUnopened, RunsThrough, StartsOver, StopsOfNewRun, StopsOfRun}
 use Rattle.brin_app.specs.StatusCauses.{HasSpentCauses, IsCompleteOf, IsDoneSo, IsSpentOf}
 use Rattle.brin_app.specs.Statuses.{IsFit, IsUnfit, start_status}
+use Rattle.brin_app.specs.TaskOutputs.{IsOutputOf}
 use Rattle.brin_app.proofs.Crash.{image_as, run_of}
 use Rattle.brin_app.proofs.Outputs.{idle_spent, run_complete, run_spent}
 
@@ -55,10 +56,10 @@ AreNotDamaged = (layout : DiskLayout) (image : List ℕ) (pages : PageMap) (at :
 pub held : (disk : Told) (layout : DiskLayout) → HoldsFresh disk layout → HoldsTable disk layout initial_state.table
 held disk layout fresh = record { sized = fresh.sized; pages = fresh_pages layout; opens = fresh.opens; image = fresh.image }
 
-has_store : (disk : Told) (layout : DiskLayout) (table : TableState) → HoldsTable disk layout table → HasStore layout disk.size disk.contents
+pub has_store : (disk : Told) (layout : DiskLayout) (table : TableState) → HoldsTable disk layout table → HasStore layout disk.size disk.contents
 has_store disk layout table holds = record { control = holds.opens.control; sized = holds.sized }
 
-undamaged : HaveOneLayout → AreNotDamaged → (disk : Told) (layout : DiskLayout) (table : TableState) (at : ℕ) → HoldsTable disk layout table → IsDamagedStore disk.size disk.contents at → ⊥
+pub undamaged : HaveOneLayout → AreNotDamaged → (disk : Told) (layout : DiskLayout) (table : TableState) (at : ℕ) → HoldsTable disk layout table → IsDamagedStore disk.size disk.contents at → ⊥
 undamaged one law disk layout table at holds damaged =
     let same : damaged.0 ≡ layout = one (take PAGE_SIZE disk.contents) damaged.0 layout damaged.1.control holds.opens.control in
     law layout disk.contents holds.pages at holds.opens.opens holds.image.order (subst (λ (m : DiskLayout). IsDamaged m disk.contents at) same damaged.2)
@@ -72,7 +73,7 @@ fresh_image one disk layout map fresh tells other pages opens =
     let pages_ : fresh_pages layout ≡ pages = map disk.contents (fresh_pages layout) pages held_.opens.opens own.opens in
     (initial_state.table, subst (λ (m : DiskLayout). IsStoreImage m pages initial_state.table) same (subst (λ (x : PageMap). IsStoreImage layout x initial_state.table) pages_ held_.image))
 
-idle : (l k : Option (List ℕ)) → IsIdle l l k k
+pub idle : (l k : Option (List ℕ)) → IsIdle l l k k
 idle l k = record { source = refl; sink = refl }
 
 -- ---- init
@@ -131,17 +132,23 @@ module _ (old : Told) (l k : Option (List ℕ)) (only : (image : List ℕ) → I
   )
   idle_output (Run layout) = λ tells.
       inl (record { why = inr (inl refl); idle = idle l k; any_moment = started old (IsOldOrEmpty layout old) (λ image since. inl (inl (only image since))) })
+  idle_output (Demo layout seed rows) = record {
+    source = refl;
+    run = λ tells. inl (record { why = inr (inl refl); idle = idle l k; any_moment = started old (IsOldOrEmpty layout old) (λ image since. inl (inl (only image since))) });
+  }
   idle_output RunStored = λ tells layout table holds.
       inl (record { why = inr refl; idle = idle l k; any_moment = λ each. started old (IsImageWith layout table) (λ image since. each image (only image since)) })
 
   pub idle_spent_of : (task : Task) → IsSpentOf task 7 old l l
   idle_spent_of (Init layout) = λ e. omega (arith, e)
   idle_spent_of (Run layout) = λ tells. idle_spent 7 (IsStart layout) layout l (λ e. omega (arith, e))
+  idle_spent_of (Demo layout seed rows) = λ tells e. absurd (omega (arith, e))
   idle_spent_of RunStored = λ tells layout table holds. idle_spent 7 (StartsOver layout holds.image.next table) layout l (λ e. omega (arith, e))
 
   pub idle_complete_of : (task : Task) → IsCompleteOf task 7 old l
   idle_complete_of (Init layout) = λ fits. inr refl
   idle_complete_of (Run layout) = λ tells fits limit room. inr refl
+  idle_complete_of (Demo layout seed rows) = λ tells fits room. inr refl
   idle_complete_of RunStored = λ tells layout table holds limit room. inr refl
 
 -- ---- a store that isn't opened
@@ -201,7 +208,7 @@ module _ (one : HaveOneLayout) (law : AreNotDamaged) (old new : Told) (l k : Opt
 
 -- ---- a run over a store that was opened
 
-table_at : (p : Place) (opening : DatabaseState) → p.opening ≡ opening → p.journal ≡ [] → (database_at p).table ≡ opening.table
+pub table_at : (p : Place) (opening : DatabaseState) → p.opening ≡ opening → p.journal ≡ [] → (database_at p).table ≡ opening.table
 table_at p opening is none = ap (λ (j : List Entry). (serial_run p.opening j).table) none ∙ ap (λ (o : DatabaseState). o.table) is
 
 -- from a moment before its start on
@@ -221,11 +228,9 @@ earlier_run status layout old mid new l l' k k' p stay o = record {
   whole = o.whole;
 }
 
-module _ {D : Type 0} (told : D → Told) (one : HaveOneLayout) (old new : Told) (s : StoreState D) (status : ℕ) (l l' k k' : Option (List ℕ)) (map : OpenToOneMap s.pages.layout)
+module _ {D : Type 0} (told : D → Told) (one : HaveOneLayout) (old : Told) (s : StoreState D) (map : OpenToOneMap s.pages.layout)
     (there : IsTrue old.tells_contents → HasStore s.pages.layout old.size old.contents) (pages : IsTrue old.tells_contents → OpensAs s.pages.layout old.contents s.pages.pages)
-    (same_tells : (told s.pages.disk).tells_contents ≡ old.tells_contents) (ready : s.pages.failed ≡ None) (opens : OpensTable told s) (stay : ImagesStay old (told s.pages.disk))
-    (runs : (start : Place) → Tells told s.pages → s.pages.failed ≡ None → ShowsPlace s start → AllHaveTable told s.pages start
-    → IsScriptRun status s.pages.layout (RunsThrough (told s.pages.disk) new) new l l' k k' start) where
+    (same_tells : (told s.pages.disk).tells_contents ≡ old.tells_contents) (ready : s.pages.failed ≡ None) (opens : OpensTable told s) (stay : ImagesStay old (told s.pages.disk)) where
   its_layout : (layout : DiskLayout) (table : TableState) → IsTrue old.tells_contents → HoldsTable old layout table → s.pages.layout ≡ layout
   its_layout layout table tells holds = one (take PAGE_SIZE old.contents) s.pages.layout layout (there tells).control holds.opens.control
 
@@ -239,12 +244,6 @@ module _ {D : Type 0} (told : D → Told) (one : HaveOneLayout) (old new : Told)
       subst (λ (m : DiskLayout). IsStoreImage m s.pages.pages table) (sym (its_layout layout table tells holds))
       (subst (λ (x : PageMap). IsStoreImage layout x table) (sym (its_pages layout table tells holds)) holds.image)
 
-  run_at : (layout : DiskLayout) → s.pages.layout ≡ layout → IsTrue old.tells_contents → (start : Place) → ShowsPlace s start → AllHaveTable told s.pages start
-      → IsScriptRun status layout (StopsOfRun old new) new l l' k k' start
-  run_at layout same tells start shown all =
-      subst (λ (m : DiskLayout). IsScriptRun status m (StopsOfRun old new) new l l' k k' start) same
-      (earlier_run status s.pages.layout old (told s.pages.disk) new l l' k k' start stay (runs start (same_tells ∙ tells) ready shown all))
-
   -- what the store shows over pages of a store with the table
   abbrev ShowsOver : DiskLayout → TableState → PageMap → Type 0
   ShowsOver layout table held =
@@ -257,50 +256,66 @@ module _ {D : Type 0} (told : D → Told) (one : HaveOneLayout) (old new : Told)
       subst (ShowsOver layout table) (its_pages layout table tells holds)
       (subst (λ (m : DiskLayout). ShowsOver m table s.pages.pages) (its_layout layout table tells holds) own)
 
-  pub stored_run : IsTrue old.tells_contents → (layout : DiskLayout) (table : TableState) (holds : HoldsTable old layout table)
-      → (start : Place) × StartsOver layout holds.image.next table start × IsScriptRun status layout (StopsOfRun old new) new l l' k k' start
-  stored_run tells layout table holds =
-      let same = its_layout layout table tells holds in
-      let start = its_opening layout table tells holds holds.image in
-      (start.0, start.1, run_at layout same tells start.0 start.2 start.3)
-
   -- a place at which a new script starts has the table of the opening
   all_new : (p q : Place) (next : ℕ) → IsOpening s.pages.layout (database_with next initial_state.table) p → IsStart s.pages.layout q → AllHaveTable told s.pages p → AllHaveTable told s.pages q
   all_new p q next opening start all = λ image now.
       image_as p.layout q.layout (database_at p).table (database_at q).table image (opening.layout_is ∙ sym start.layout_is)
       (table_at p (database_with next initial_state.table) opening.opening_is opening.journal ∙ sym (table_at q initial_state start.opening start.journal)) (all image now)
 
-  pub fresh_run : (Tells told s.pages → s.pages.pages ≡ fresh_pages s.pages.layout → ShowsStart s.pages.layout s) → IsFreshOutput status old new l l' k k'
+  -- the place at which a script starts over a new store
+  pub fresh_start : (Tells told s.pages → s.pages.pages ≡ fresh_pages s.pages.layout → ShowsStart s.pages.layout s) → IsTrue old.tells_contents → (layout : DiskLayout) → HoldsFresh old layout
+      → (start : Place) × IsStart layout start × (s.pages.layout ≡ layout) × ShowsPlace s start × AllHaveTable told s.pages start
   unfolding held fresh_pages
-  fresh_run begins tells layout fresh =
+  fresh_start begins tells layout fresh =
       let holds = held old layout fresh in
       let same = its_layout layout initial_state.table tells holds in
       let own : s.pages.pages ≡ fresh_pages s.pages.layout = its_pages layout initial_state.table tells holds ∙ ap fresh_pages (sym same) in
       let start = begins (same_tells ∙ tells) own in
       let image = its_image layout initial_state.table tells holds in
       let opening = opens (same_tells ∙ tells) initial_state.table image in
-      inr (start.0, subst (λ (m : DiskLayout). IsStart m start.0) same start.1, run_at layout same tells start.0 start.2 (all_new opening.0 start.0 image.next opening.1 start.1 opening.3))
+      (start.0, subst (λ (m : DiskLayout). IsStart m start.0) same start.1, same, start.2, all_new opening.0 start.0 image.next opening.1 start.1 opening.3)
 
-  pub stored_done : (r w : Type 0) → (status ≡ 4 → r) → (status ≡ 5 → w) → (old.faults ≤ (told s.pages.disk).faults) → (status ≡ 6 → s.pages.failed ≡ None → Rose (told s.pages.disk).faults new.faults)
-      → (status ≡ 11 → Tells told s.pages → s.pages.failed ≡ None → ⊥) → (status ≢ 2) × (status ≢ 9) → IsDoneSo RunStored status old new l l' k k' r w
-  stored_done r w read write later disk_ damage others =
-      let rose = λ (six : status ≡ 6). rose_earlier old.faults (told s.pages.disk).faults new.faults later (disk_ six ready) in
-      record {
-        output = λ tells layout table holds. inr (stored_run tells layout table holds);
-        read_fault = read;
-        write_fault = write;
-        disk_fault = rose;
-        no_store = λ nine. absurd (others.1 nine);
-        damaged = λ eleven tells. absurd (damage eleven (same_tells ∙ tells) ready);
-        no_usage = others.0;
-        spent = λ tells layout table holds.
-            let run = stored_run tells layout table holds in
-            run_spent (StartsOver layout holds.image.next table) layout status (StopsOfRun old new) new run.0 run.1 l l' k k' run.2;
-        complete = λ no_read no_write no_disk tells layout table holds.
-            let run = stored_run tells layout table holds in
-            run_complete (StartsOver layout holds.image.next table) layout status (StopsOfRun old new) new run.0 run.1 l l' k k' run.2 (λ e. no_read (read e)) (λ e. no_write (write e)) (λ e. no_disk (rose e))
-            (λ e. damage e (same_tells ∙ tells) ready);
-      }
+  module _ (new : Told) (status : ℕ) (l l' k k' : Option (List ℕ))
+      (runs : (start : Place) → Tells told s.pages → s.pages.failed ≡ None → ShowsPlace s start → AllHaveTable told s.pages start
+      → IsScriptRun status s.pages.layout (RunsThrough (told s.pages.disk) new) new l l' k k' start) where
+    run_at : (layout : DiskLayout) → s.pages.layout ≡ layout → IsTrue old.tells_contents → (start : Place) → ShowsPlace s start → AllHaveTable told s.pages start
+        → IsScriptRun status layout (StopsOfRun old new) new l l' k k' start
+    run_at layout same tells start shown all =
+        subst (λ (m : DiskLayout). IsScriptRun status m (StopsOfRun old new) new l l' k k' start) same
+        (earlier_run status s.pages.layout old (told s.pages.disk) new l l' k k' start stay (runs start (same_tells ∙ tells) ready shown all))
+
+    pub stored_run : IsTrue old.tells_contents → (layout : DiskLayout) (table : TableState) (holds : HoldsTable old layout table)
+        → (start : Place) × StartsOver layout holds.image.next table start × IsScriptRun status layout (StopsOfRun old new) new l l' k k' start
+    stored_run tells layout table holds =
+        let same = its_layout layout table tells holds in
+        let start = its_opening layout table tells holds holds.image in
+        (start.0, start.1, run_at layout same tells start.0 start.2 start.3)
+
+    pub fresh_run : (Tells told s.pages → s.pages.pages ≡ fresh_pages s.pages.layout → ShowsStart s.pages.layout s) → IsFreshOutput status old new l l' k k'
+    fresh_run begins tells layout fresh =
+        let start = fresh_start begins tells layout fresh in
+        inr (start.0, start.1, run_at layout start.2 tells start.0 start.3 start.4)
+
+    pub stored_done : (r w : Type 0) → (status ≡ 4 → r) → (status ≡ 5 → w) → (old.faults ≤ (told s.pages.disk).faults) → (status ≡ 6 → s.pages.failed ≡ None → Rose (told s.pages.disk).faults new.faults)
+        → (status ≡ 11 → Tells told s.pages → s.pages.failed ≡ None → ⊥) → (status ≢ 2) × (status ≢ 9) → IsDoneSo RunStored status old new l l' k k' r w
+    stored_done r w read write later disk_ damage others =
+        let rose = λ (six : status ≡ 6). rose_earlier old.faults (told s.pages.disk).faults new.faults later (disk_ six ready) in
+        record {
+          output = λ tells layout table holds. inr (stored_run tells layout table holds);
+          read_fault = read;
+          write_fault = write;
+          disk_fault = rose;
+          no_store = λ nine. absurd (others.1 nine);
+          damaged = λ eleven tells. absurd (damage eleven (same_tells ∙ tells) ready);
+          no_usage = others.0;
+          spent = λ tells layout table holds.
+              let run = stored_run tells layout table holds in
+              run_spent (StartsOver layout holds.image.next table) layout status (StopsOfRun old new) new run.0 run.1 l l' k k' run.2;
+          complete = λ no_read no_write no_disk tells layout table holds.
+              let run = stored_run tells layout table holds in
+              run_complete (StartsOver layout holds.image.next table) layout status (StopsOfRun old new) new run.0 run.1 l l' k k' run.2 (λ e. no_read (read e)) (λ e. no_write (write e)) (λ e. no_disk (rose e))
+              (λ e. damage e (same_tells ∙ tells) ready);
+        }
 
 -- ---- a run over a store that was made
 

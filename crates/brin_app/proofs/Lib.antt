@@ -1,5 +1,8 @@
 pub mod Asked
+pub mod Asking
 pub mod Crash
+pub mod DemoDone
+pub mod DemoRuns
 pub mod Doing
 pub mod Leading
 pub mod Making

@@ -20,7 +20,7 @@ use Rattle.store_parts.specs.StoreStates.{StoreState}
 use Rattle.brin_app.specs.declared.sessions.Sessions.{Sessions}
 use Rattle.brin_app.specs.declared.status.TheConstants.{SCRIPT_LIMIT}
 use Rattle.brin_app.specs.CrashRule.{HasTableOf, IsFurther, IsOfStop, StopsBetween}
-use Rattle.brin_app.specs.Leading.{HasStopCause, IsLeftBy}
+use Rattle.brin_app.specs.Leading.{HasStopCause, IsLeftBy, PlacesLead, PlacesStop}
 use Rattle.brin_app.specs.ScriptOutput.{IsScriptRun, RunsThrough, Stops, Texts, exit_status}
 use Rattle.brin_app.specs.SessionPlaces.{AnswersLine, StopsLine}
 use Rattle.brin_app.specs.Simulations.{EndsAs, Simulates}
@@ -45,31 +45,40 @@ module _ {D : Type 0} (told : D → Told) (s : StoreState D) (p : Place) where
     pub further : IsFurther p q
     pub left : IsLeftBy told s a.store fault p q
 
+  -- what leads from a place that the sessions show leads on from the first one
+  pub led_from : (a b : Sessions D) (q : Place) (P : Place → Place → Type 0) → ShowsFrom a q → PlacesLead told a.store b.store P → (r : Place) × ShowsFrom b r × P q r
+  led_from a b q P at leads =
+      let far = leads.places at.tells at.ready q at.shown in (
+        far.place,
+        record {
+          leaves = leaves_on told s.pages a.store.pages b.store.pages at.leaves leads.leaves;
+          tells = leads.leaves.tells ∙ at.tells;
+          ready = leads.ready at.ready;
+          shown = far.shown;
+          further = further_on p q far.place at.further far.further;
+          stops = between_then told s a.store b.store p q far.place at.further far.further at.stops far.stops;
+        },
+        far.so,
+      )
+
+  pub stopped_from : (a b : Sessions D) (q : Place) (fault : AnswerFault) (P : Place → Place → Type 0) → ShowsFrom a q → PlacesStop told a.store b.store fault P → (r : Place) × EndsFrom fault b r × P q r
+  stopped_from a b q fault P at stops =
+      let far = stops.places at.tells at.ready q at.shown in
+      (far.place, record { further = further_on p q far.place at.further far.further; left = left_later told s a.store b.store fault p q far.place at.further far.further at.stops far.left }, far.so)
+
+  -- memory was short there before anything was done
+  pub unbegun_at : (a : Sessions D) (q : Place) → ShowsFrom a q → EndsFrom Memory a q
+  unbegun_at a q at = record { further = at.further; left = (at.shown, at.stops) }
+
   simulate : Simulates ShowsFrom EndsFrom (AnswersLine told) (StopsLine told) (Texts s.pages.layout) (Stops s.pages.layout)
   simulate = record {
     answers = λ a b q line text at leads.
-        let far = leads.places at.tells at.ready q at.shown in (
-          far.place,
-          record {
-            leaves = leaves_on told s.pages a.store.pages b.store.pages at.leaves leads.leaves;
-            tells = leads.leaves.tells ∙ at.tells;
-            ready = leads.ready at.ready;
-            shown = far.shown;
-            further = further_on p q far.place at.further far.further;
-            stops = between_then told s a.store b.store p q far.place at.further far.further at.stops far.stops;
-          },
-          subst (λ (l : DiskLayout). IsLineText l.schema q line text far.place) at.leaves.layout far.so,
-        );
+        let far = led_from a b q (λ x y. IsLineText a.store.pages.layout.schema x line text y) at leads in
+        (far.0, far.1, subst (λ (l : DiskLayout). IsLineText l.schema q line text far.0) at.leaves.layout far.2);
     stops = λ a b q line fault at stops.
-        let far = stops.places at.tells at.ready q at.shown in (
-          far.place,
-          record {
-            further = further_on p q far.place at.further far.further;
-            left = left_later told s a.store b.store fault p q far.place at.further far.further at.stops far.left;
-          },
-          subst (λ (l : DiskLayout). IsLineStopped l.schema q line fault far.place) at.leaves.layout far.so,
-        );
-    unbegun = λ a q at. record { further = at.further; left = (at.shown, at.stops) };
+        let far = stopped_from a b q fault (λ x y. IsLineStopped a.store.pages.layout.schema x line fault y) at stops in
+        (far.0, far.1, subst (λ (l : DiskLayout). IsLineStopped l.schema q line fault far.0) at.leaves.layout far.2);
+    unbegun = unbegun_at;
   }
 
   -- ---- at the end
@@ -89,7 +98,7 @@ module _ {D : Type 0} (told : D → Told) (s : StoreState D) (p : Place) where
         whole = λ _. x.1;
       }
 
-  ran_from : (end : RunEnd) (b : Sessions D) (q : Place) → EndsAs ShowsFrom EndsFrom end b q → AllHaveTable told s.pages p → RanFrom b.store q (exit_status end)
+  pub ran_from : (end : RunEnd) (b : Sessions D) (q : Place) → EndsAs ShowsFrom EndsFrom end b q → AllHaveTable told s.pages p → RanFrom b.store q (exit_status end)
   ran_from (Ok done) b q at all = ran_between b.store q 0 at.stops all
   ran_from (Err faults.Read) b q at all = ran_between b.store q 4 at.stops all
   ran_from (Err faults.Write) b q at all = ran_between b.store q 5 at.stops all
@@ -101,7 +110,7 @@ module _ {D : Type 0} (told : D → Told) (s : StoreState D) (p : Place) where
       record { moments = x.0.moments; images = x.1; whole = λ not. absurd (not refl) }
   ran_from (Err (faults.Unanswered Damaged)) b q at all = absurd at.left
 
-  further_at : (end : RunEnd) (b : Sessions D) (q : Place) → EndsAs ShowsFrom EndsFrom end b q → IsFurther p q
+  pub further_at : (end : RunEnd) (b : Sessions D) (q : Place) → EndsAs ShowsFrom EndsFrom end b q → IsFurther p q
   further_at (Ok done) b q at = at.further
   further_at (Err faults.Read) b q at = at.further
   further_at (Err faults.Write) b q at = at.further
@@ -110,19 +119,19 @@ module _ {D : Type 0} (told : D → Told) (s : StoreState D) (p : Place) where
 
   -- ---- a run
 
-  module _ (a b : Sessions D) (end : RunEnd) (l l' k k' : Option (List ℕ)) (ran : Ran (AnswersLine told) (StopsLine told) a b SCRIPT_LIMIT end l l' k k') where
-    begun : a.store ≡ s → OnlyNow told s.pages → Tells told s.pages → s.pages.failed ≡ None → ShowsPlace s p → ShowsFrom a p
-    begun same only tells ready shown =
-        let at_start : ShowsPlace a.store p = subst (λ (t : StoreState D). ShowsPlace t p) (sym same) shown in
-        record {
-          leaves = subst (λ (t : StoreState D). Leaves told s.pages t.pages) (sym same) (leaves_as_is told s.pages);
-          tells = subst (λ (t : StoreState D). Tells told t.pages) (sym same) tells;
-          ready = ap (λ (t : StoreState D). t.pages.failed) same ∙ ready;
-          shown = at_start;
-          further = still p;
-          stops = between_kept told s a.store p p (ap (λ (t : StoreState D). t.pages) same) only (record { layout = refl; opening = refl; journal = refl });
-        }
+  pub begun : (a : Sessions D) → a.store ≡ s → OnlyNow told s.pages → Tells told s.pages → s.pages.failed ≡ None → ShowsPlace s p → ShowsFrom a p
+  begun a same only tells ready shown =
+      let at_start : ShowsPlace a.store p = subst (λ (t : StoreState D). ShowsPlace t p) (sym same) shown in
+      record {
+        leaves = subst (λ (t : StoreState D). Leaves told s.pages t.pages) (sym same) (leaves_as_is told s.pages);
+        tells = subst (λ (t : StoreState D). Tells told t.pages) (sym same) tells;
+        ready = ap (λ (t : StoreState D). t.pages.failed) same ∙ ready;
+        shown = at_start;
+        further = still p;
+        stops = between_kept told s a.store p p (ap (λ (t : StoreState D). t.pages) same) only (record { layout = refl; opening = refl; journal = refl });
+      }
 
+  module _ (a b : Sessions D) (end : RunEnd) (l l' k k' : Option (List ℕ)) (ran : Ran (AnswersLine told) (StopsLine told) a b SCRIPT_LIMIT end l l' k k') where
     with_disk : (status : ℕ) → status ≡ exit_status end → ShowsFrom a p → AllHaveTable told s.pages p
         → IsScriptRun status s.pages.layout (RunsThrough (told s.pages.disk) (told b.store.pages.disk)) (told b.store.pages.disk) l l' k k' p
     with_disk status said start all =
@@ -143,7 +152,7 @@ module _ {D : Type 0} (told : D → Told) (s : StoreState D) (p : Place) where
         → AllHaveTable told s.pages p → IsScriptRun status s.pages.layout (RunsThrough (told s.pages.disk) (told disk)) (told disk) l l' k k' p
     script_run status disk same is said only tells ready shown all =
         subst (λ (d : D). IsScriptRun status s.pages.layout (RunsThrough (told s.pages.disk) (told d)) (told d) l l' k k' p) (sym is)
-        (with_disk status said (begun same only tells ready shown) all)
+        (with_disk status said (begun a same only tells ready shown) all)
 
 -- ---- causes, over any disk
 

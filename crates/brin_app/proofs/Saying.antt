@@ -23,7 +23,7 @@ use Rattle.store_parts.specs.StoreStates.{StoreState}
 use Rattle.session_core.specs.declared.faults.SessionFault.{SessionFault}
 use Rattle.session_core.specs.declared.faults.SessionFault.TheVariants as sessions
 use Rattle.session_core.specs.Sessions.{HasSession}
-use Rattle.brin_app.specs.declared.orders.Answer.{Answer}
+use Rattle.demo_script.specs.declared.answer.Answer.{Answer}
 use Rattle.brin_app.specs.Leading.{PlacesLead, PlacesStop}
 use Rattle.brin_app.specs.Orders.{DoesSo, IsCutShort, IsLost, IsStoppedSaying, answer_text}
 use Rattle.brin_app.proofs.Crash.{OnlyNow}
@@ -55,7 +55,7 @@ module _ (name : List ℕ) (order : Order) (n : ℕ) (names : List (List ℕ)) (
   its_number : n ≡ session_number p.names name
   its_number = number ∙ ap (λ l. session_number l name) (sym same)
 
-  said_order : (text : List ℕ) (q : Place) → Does m n name order text q → Answers p (Ok (lines.Say name order)) text q
+  pub said_order : (text : List ℕ) (q : Place) → Does m n name order text q → Answers p (Ok (lines.Say name order)) text q
   said_order text q does =
       Orders name order text q not_past
       (subst (λ (x : Place). Does x (session_number p.names name) name order text q) made (subst (λ (k : ℕ). Does m k name order text q) its_number does))
@@ -65,7 +65,7 @@ module _ (name : List ℕ) (order : Order) (n : ℕ) (names : List (List ℕ)) (
       subst (λ r. LineComesTo p r (session_number p.names name) q) (sym is)
       (Begun name order q not_past (subst (λ (x : Place). ComesTo x (session_number p.names name) order q) made (subst (λ (k : ℕ). ComesTo m k order q) its_number comes)))
 
-  cut_order : (fault : AnswerFault) (q : Place) → IsCutShort n order fault m q → IsStoppedSaying (lines.Say name order) fault p q
+  pub cut_order : (fault : AnswerFault) (q : Place) → IsCutShort n order fault m q → IsStoppedSaying (lines.Say name order) fault p q
   cut_order Memory q cut schema line is = Amidst (session_number p.names name) q (line_comes schema line is q cut.1)
   cut_order Full q cut schema line is =
       PastRoom (session_number p.names name) q (line_comes schema line is q cut.1) (subst (λ (k : ℕ). LacksRoom q k) its_number cut.0)
@@ -77,14 +77,14 @@ module _ (name : List ℕ) (order : Order) (n : ℕ) (names : List (List ℕ)) (
   lost_order fault q (inr lost) = unprinted (lines.Say name order) lost.1 fault p q lost.0 (said_order lost.1 q lost.2)
 
 -- one session more than there may be
-said_past : (name : List ℕ) (order : Order) (names : List (List ℕ)) (limit : ℕ) (p : Place) → is_past_sessions names name ≡ true → limit ≡ MAX_SESSIONS → p.names ≡ names
+pub said_past : (name : List ℕ) (order : Order) (names : List (List ℕ)) (limit : ℕ) (p : Place) → is_past_sessions names name ≡ true → limit ≡ MAX_SESSIONS → p.names ≡ names
     → Answers p (Ok (lines.Say name order)) (refused_text name (refusals.Limit limit)) p
 said_past name order names limit p past at same =
     subst (λ (l : ℕ). Answers p (Ok (lines.Say name order)) (refused_text name (refusals.Limit l)) p) (sym at)
     (PastSessions name order (ap (λ l. is_past_sessions l name) same ∙ past))
 
 -- a fault that isn't want of memory is the line's
-fault_said : (said : Result Line LineFault) (fault : LineFault) → fault ≢ line_faults.Memory → ReadsAs {T = Line} (Err fault) said → said ≡ Err fault
+pub fault_said : (said : Result Line LineFault) (fault : LineFault) → fault ≢ line_faults.Memory → ReadsAs {T = Line} (Err fault) said → said ≡ Err fault
 fault_said said (line_faults.Syntax at) not r = r
 fault_said said (line_faults.NoTable at) not r = r
 fault_said said (line_faults.NoIndex at) not r = r
@@ -113,7 +113,7 @@ module _ {D : Type 0} (told : D → Told) where
       (λ p m q shown _ is lost. lost_order name order n s.names within number p m shown.names is fault q lost)
 
   -- a line for which there is no session changes nothing
-  unmade : (s s' : StoreState D) (name : List ℕ) (fault : SessionFault) → HasSession s name s' (Err fault) → s' ≡ s
+  pub unmade : (s s' : StoreState D) (name : List ℕ) (fault : SessionFault) → HasSession s name s' (Err fault) → s' ≡ s
   unmade s s' name (sessions.Limit limit) has = has.2
   unmade s s' name sessions.Memory has = has.1
 
@@ -132,7 +132,7 @@ module _ {D : Type 0} (told : D → Told) where
   lost_at_once : (s s' : StoreState D) (Q : Place → Place → Type 0) → OnlyNow told s.pages → s' ≡ s → ((p : Place) → Q p p) → PlacesStop told s s' Memory Q
   lost_at_once s s' Q only same so = lost_behind told s s' Q Q (led_still told s s' Q only same (λ p _. so p)) (λ p q _ _ done. done)
 
-  pub say_unmade : (s s' : StoreState D) (name : List ℕ) (order : Order) (fault : SessionFault) (result : Result (Unit {0}) AnswerFault) → OnlyNow told s.pages → HasSession s name s' (Err fault)
+  pub say_unmade : {T : Type 0} (s s' : StoreState D) (name : List ℕ) (order : Order) (fault : SessionFault) (result : Result T AnswerFault) → OnlyNow told s.pages → HasSession s name s' (Err fault)
       → IfErr result (λ why. why ≡ Memory) → IfErr result (λ why. PlacesStop told s s' why (IsStoppedSaying (lines.Say name order) why))
   say_unmade s s' name order fault (Ok v) only has is = tt
   say_unmade s s' name order fault (Err why) only has is =
@@ -152,14 +152,14 @@ module _ {D : Type 0} (told : D → Told) where
   )
   done_line s s' line before after said (Err e) is h = tt
 
-  pub stopped_line : (s s' : StoreState D) (line : List ℕ) (said : Line) (result : Result (Unit {0}) AnswerFault) → line_of s.pages.layout.schema line ≡ Ok said
+  pub stopped_line : {T : Type 0} (s s' : StoreState D) (line : List ℕ) (said : Line) (result : Result T AnswerFault) → line_of s.pages.layout.schema line ≡ Ok said
       → IfErr result (λ fault. PlacesStop told s s' fault (IsStoppedSaying said fault)) → IfErr result (λ fault. PlacesStop told s s' fault (λ p q. IsLineStopped s.pages.layout.schema p line fault q))
   stopped_line s s' line said (Ok u) is h = tt
   stopped_line s s' line said (Err fault) is h =
       stops_as told s s' fault (IsStoppedSaying said fault) (λ p q. IsLineStopped s.pages.layout.schema p line fault q) h (λ p q _ stops. stops s.pages.layout.schema line is)
 
   -- a line that isn't read changes nothing
-  pub stopped_unread : (s : StoreState D) (line : List ℕ) (result : Result (Unit {0}) AnswerFault) → OnlyNow told s.pages → IfErr result (λ why. why ≡ Memory)
+  pub stopped_unread : {T : Type 0} (s : StoreState D) (line : List ℕ) (result : Result T AnswerFault) → OnlyNow told s.pages → IfErr result (λ why. why ≡ Memory)
       → IfErr result (λ fault. PlacesStop told s s fault (λ p q. IsLineStopped s.pages.layout.schema p line fault q))
   stopped_unread s line (Ok u) only is = tt
   stopped_unread s line (Err why) only is =

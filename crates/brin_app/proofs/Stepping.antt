@@ -32,8 +32,8 @@ use Rattle.store_images.specs.ImageLaws.{ShownIsImage, StepCommits}
 use Rattle.store_images.specs.StopRule.{AllHaveTable, StopsWhole}
 use Rattle.store_images.specs.Stops.{StopsSo}
 use Rattle.store_parts.specs.StoreStates.{StoreState, hand_at}
-use Rattle.brin_app.specs.declared.orders.Answer.{Answer}
-use Rattle.brin_app.specs.declared.orders.Answer.TheVariants as answers
+use Rattle.demo_script.specs.declared.answer.Answer.{Answer}
+use Rattle.demo_script.specs.declared.answer.Answer.TheVariants as answers
 use Rattle.brin_app.specs.CrashRule.{IsFurther}
 use Rattle.brin_app.specs.Leading.{PlacesLead, PlacesStop}
 use Rattle.brin_app.specs.Orders.{DoesSo, FinishesSo, IsCutShort, IsHalted, IsNotMade, StepsSo, fault_of_step, step_answer}

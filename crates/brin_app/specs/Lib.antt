@@ -1,4 +1,7 @@
+pub mod Asking
 pub mod CrashRule
+pub mod DemoOutput
+pub mod DemoSums
 pub mod Leading
 pub mod Orders
 pub mod SessionPlaces
@@ -6,6 +9,7 @@ pub mod ScriptOutput
 pub mod Simulations
 pub mod Statuses
 pub mod StatusCauses
+pub mod TaskOutputs
 pub mod Tasks
 pub mod WantedSizes
 pub mod WordsFaults

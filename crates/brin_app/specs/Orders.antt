@@ -19,8 +19,8 @@ use Rattle.store_parts.specs.declared.faults.Step.{Step}
 use Rattle.store_parts.specs.declared.faults.Step.TheVariants as steps
 use Rattle.store_parts.specs.declared.faults.StoreFault.{StoreFault}
 use Rattle.store_parts.specs.declared.faults.StoreFault.TheVariants as stops
-use Rattle.brin_app.specs.declared.orders.Answer.{Answer}
-use Rattle.brin_app.specs.declared.orders.Answer.TheVariants as answers
+use Rattle.demo_script.specs.declared.answer.Answer.{Answer}
+use Rattle.demo_script.specs.declared.answer.Answer.TheVariants as answers
 
 -- a step of a store that has these sessions is answered so
 abbrev pub step_answer : List (List ℕ) → Step → Answer

@@ -19,8 +19,6 @@ use Rattle.script_run.specs.Runs.{Ran, RunEnd}
 use Rattle.store_images.specs.StopRule.{IsImageWith}
 use Rattle.store_images.specs.StoreImage.{IsStoreImage, database_with}
 use Rattle.brin_app.specs.declared.status.TheConstants.{SCRIPT_LIMIT}
-use Rattle.brin_app.specs.declared.top.Task.{Task}
-use Rattle.brin_app.specs.declared.top.Task.TheVariants.{Init, Run, RunStored}
 use Rattle.brin_app.specs.CrashRule.{HasTableOf, IsFurther, IsOfStop}
 
 -- the status of each way in which a run ends: too long a script and a full journal have one
@@ -140,9 +138,3 @@ IsFreshOutput status old new left left' taken taken' =
     IsTrue old.tells_contents → (layout : DiskLayout) → HoldsFresh old layout
     → IsUnopened status layout initial_state.table old new left left' taken taken'
     ⊎ ((start : Place) × IsStart layout start × IsScriptRun status layout (StopsOfRun old new) new left left' taken taken' start)
-
--- what becomes of a task
-abbrev pub IsOutputOf : Task → ℕ → (old new : Told) → (left left' taken taken' : Option (List ℕ)) → Type 0
-IsOutputOf (Init layout) status old new left left' taken taken' = IsIdle left left' taken taken' × IsMade status layout old new
-IsOutputOf (Run layout) status old new left left' taken taken' = IsNewOutput status layout old new left left' taken taken'
-IsOutputOf RunStored status old new left left' taken taken' = IsStoredOutput status old new left left' taken taken'

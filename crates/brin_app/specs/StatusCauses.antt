@@ -13,8 +13,10 @@ use Rattle.script_run.specs.Answers.{AreAnswers}
 use Rattle.script_run.specs.Runs.{AreFirst}
 use Rattle.brin_app.specs.declared.status.TheConstants.{SCRIPT_LIMIT}
 use Rattle.brin_app.specs.declared.top.Task.{Task}
-use Rattle.brin_app.specs.declared.top.Task.TheVariants.{Init, Run, RunStored}
-use Rattle.brin_app.specs.ScriptOutput.{HoldsTable, IsOutputOf, StartsOver, Stops, Texts}
+use Rattle.brin_app.specs.declared.top.Task.TheVariants.{Demo, Init, Run, RunStored}
+use Rattle.brin_app.specs.DemoOutput.{IsCompleteDemo, IsSpentByDemo}
+use Rattle.brin_app.specs.ScriptOutput.{HoldsTable, StartsOver, Stops, Texts}
+use Rattle.brin_app.specs.TaskOutputs.{IsOutputOf}
 
 -- ---- no store, and a damaged one
 
@@ -22,12 +24,14 @@ use Rattle.brin_app.specs.ScriptOutput.{HoldsTable, IsOutputOf, StartsOver, Stop
 abbrev pub LacksStore : Task → Told → Type 0
 LacksStore (Init layout) disk = disk.size ≢ disk_size layout
 LacksStore (Run layout) disk = IsTrue disk.tells_contents → disk.size ≢ disk_size layout
+LacksStore (Demo layout seed rows) disk = IsTrue disk.tells_contents → disk.size ≢ disk_size layout
 LacksStore RunStored disk = IsTrue disk.tells_contents → HasNoStore disk.size disk.contents
 
 -- the store that stands there is damaged, where the disk tells its contents; one that was made isn't
 abbrev pub HasDamage : Task → Told → Type 0
 HasDamage RunStored disk = IsTrue disk.tells_contents → (at : ℕ) × IsDamagedStore disk.size disk.contents at
 HasDamage (Run layout) disk = IsTrue disk.tells_contents → ⊥
+HasDamage (Demo layout seed rows) disk = IsTrue disk.tells_contents → ⊥
 HasDamage (Init layout) disk = ⊥
 
 -- ---- a full journal, and too long a script
@@ -63,6 +67,7 @@ HasSpentCauses status Starts layout old new = Unit {0}
 abbrev pub IsSpentOf : Task → ℕ → Told → Option (List ℕ) → Option (List ℕ) → Type 0
 IsSpentOf (Init layout) status disk left left' = status ≢ 8
 IsSpentOf (Run layout) status disk left left' = IsTrue disk.tells_contents → HasSpentCauses status (IsStart layout) layout left left'
+IsSpentOf (Demo layout seed rows) status disk left left' = IsSpentByDemo status layout seed rows disk
 IsSpentOf RunStored status disk left left' =
     IsTrue disk.tells_contents → (layout : DiskLayout) (table : TableState) (holds : HoldsTable disk layout table) → HasSpentCauses status (StartsOver layout holds.image.next table) layout left left'
 
@@ -84,6 +89,7 @@ IsComplete status Starts layout left = FitsLimit left → FitsJournal Starts lay
 abbrev pub IsCompleteOf : Task → ℕ → Told → Option (List ℕ) → Type 0
 IsCompleteOf (Init layout) status disk left = disk.size ≡ disk_size layout → (status ≡ 0) ⊎ (status ≡ 7)
 IsCompleteOf (Run layout) status disk left = IsTrue disk.tells_contents → disk.size ≡ disk_size layout → IsComplete status (IsStart layout) layout left
+IsCompleteOf (Demo layout seed rows) status disk left = IsCompleteDemo status layout seed rows disk
 IsCompleteOf RunStored status disk left =
     IsTrue disk.tells_contents → (layout : DiskLayout) (table : TableState) (holds : HoldsTable disk layout table) → IsComplete status (StartsOver layout holds.image.next table) layout left
 

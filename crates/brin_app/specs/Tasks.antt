@@ -8,8 +8,10 @@ use Rattle.command_words.specs.declared.command.Command.{Command}
 use Rattle.command_words.specs.declared.command.Command.TheVariants as commands
 use Rattle.command_words.specs.CommandWords.{IsCommand}
 use Rattle.schema_words.specs.DeclaredSchema.{Denotes}
+use Rattle.command_words.specs.Laws.{AreDemoNumbers}
+use Rattle.demo_script.specs.DemoStore.{IsDemoLayout}
 use Rattle.brin_app.specs.declared.top.Task.{Task}
-use Rattle.brin_app.specs.declared.top.Task.TheVariants.{Init, Run, RunStored}
+use Rattle.brin_app.specs.declared.top.Task.TheVariants.{Demo, Init, Run, RunStored}
 
 -- a layout of these sizes and of what is declared, which passes no limit
 pub record IsLayoutFor (sizes : Sizes) (declared : List (List ℕ)) (layout : DiskLayout) : Type 0 where
@@ -22,6 +24,7 @@ abbrev pub IsTaskOf : Command → Task → Type 0
 IsTaskOf (commands.Init sizes declared) (Init layout) = IsLayoutFor sizes declared layout
 IsTaskOf (commands.Run sizes declared) (Run layout) = IsLayoutFor sizes declared layout
 IsTaskOf commands.RunStored RunStored = Unit {0}
+IsTaskOf (commands.Demo seed rows) (Demo layout seed' rows') = IsDemoLayout rows layout × (seed' ≡ seed) × (rows' ≡ rows)
 IsTaskOf command task = ⊥
 
 -- the words are a command that asks for it
@@ -34,12 +37,20 @@ pub record Asks (words : List (List ℕ)) (task : Task) : Type 0 where
 abbrev pub HasNoLayout : Sizes → List (List ℕ) → Type 0
 HasNoLayout sizes declared = (schema : Schema) → Denotes declared schema → IsSome (first_broken_rule schema sizes)
 
--- why a command can't be begun; a demo can't yet
+-- the numbers of a demo are within their limits
+abbrev pub HasNumbers : Task → Type 0
+HasNumbers (Demo layout seed rows) = AreDemoNumbers seed rows
+HasNumbers task = Unit {0}
+
+abbrev pub HasDemoNumbers : Command → Type 0
+HasDemoNumbers (commands.Demo seed rows) = AreDemoNumbers seed rows
+HasDemoNumbers command = Unit {0}
+
+-- why a command can't be begun
 abbrev pub IsWrong : Command → Type 0
 IsWrong (commands.Init sizes declared) = HasNoLayout sizes declared
 IsWrong (commands.Run sizes declared) = HasNoLayout sizes declared
-IsWrong commands.RunStored = ⊥
-IsWrong (commands.Demo seed rows) = Unit {0}
+IsWrong command = ⊥
 
 -- the words are no command, or one that can't be begun
 abbrev pub IsUsage : List (List ℕ) → Type 0

@@ -2,18 +2,19 @@
 use Rattle.std.specs.Prelude.{◌≡◌, ◌⊎◌, ℕ, List, Option, Some, None}
 use Rattle.store_layout.specs.DiskLayout.{DiskLayout, disk_size}
 use Rattle.brin_app.specs.declared.top.Task.{Task}
-use Rattle.brin_app.specs.declared.top.Task.TheVariants.{Init, Run, RunStored}
+use Rattle.brin_app.specs.declared.top.Task.TheVariants.{Demo, Init, Run, RunStored}
 use Rattle.brin_app.specs.Tasks.{Asks}
 
 -- the size of the disk of which a task makes a store
 abbrev pub size_for : Task → Option ℕ
 size_for (Init layout) = Some (disk_size layout)
 size_for (Run layout) = Some (disk_size layout)
+size_for (Demo layout seed rows) = Some (disk_size layout)
 size_for RunStored = None
 
--- the words ask for a new store of this layout, alone or with a script
+-- the words ask for a new store of this layout, alone, with a script or with the demo
 abbrev pub AsksForNew : List (List ℕ) → DiskLayout → Type 0
-AsksForNew words layout = Asks words (Init layout) ⊎ Asks words (Run layout)
+AsksForNew words layout = Asks words (Init layout) ⊎ (Asks words (Run layout) ⊎ ((seed : ℕ) × (rows : ℕ) × Asks words (Demo layout seed rows)))
 
 -- The size is wanted that a new store has for which the words ask. None is wanted where they ask for none.
 pub record IsWantedSize (words : List (List ℕ)) (size : Option ℕ) : Type 0 where

@@ -7,9 +7,10 @@ ghost use Rattle.brin_app.specs.Leading.{PlacesLead, PlacesStop};
 ghost use Rattle.brin_app.specs.Orders.{IsLost, IsStoppedSaying, answer_text};
 ghost use Rattle.brin_app.specs.SessionPlaces.{AnswersLine, StopsLine};
 
-use crate::orders::{Answer, act};
+use crate::orders::act;
 use crate::sessions::Sessions;
 use block_model::{Name, NoMemory, Refusal, Reply};
+use demo_script::Answer;
 use disk_trait::Disk;
 use query_words::{Line, LineFault, Order, read_line};
 use reply_texts::{Dropped, render, render_dropped, render_moved, render_refusal, render_started};

@@ -7,6 +7,8 @@
 #![tactic(auto)]
 
 mod answers;
+mod asking;
+mod demo;
 mod laws;
 mod orders;
 mod sessions;

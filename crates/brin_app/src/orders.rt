@@ -8,7 +8,8 @@ ghost use Rattle.statements.specs.StatementFits.{IsStatementFor};
 ghost use Rattle.brin_app.specs.Leading.{PlacesLead, PlacesStop};
 ghost use Rattle.brin_app.specs.Orders.{IsCutShort, DoesSo, FinishesSo, IsHalted, IsInHandStill, IsNotMade, StepsSo, fault_of_step, step_answer};
 
-use block_model::{Point, Refusal, Reply};
+use block_model::Refusal;
+use demo_script::Answer;
 use disk_trait::Disk;
 use line_texts::requests_are_entered_in_place;
 use query_words::Order;
@@ -17,16 +18,6 @@ use session_core::{Step, Store, StoreFault};
 use statements::Statement;
 use step_bounds::{a_finished_statement_ends, moves_are_counted};
 use store_images::{a_commit_makes_its_table, a_shown_store_is_an_image};
-
-/// What an order of a session is answered: its statement is started; goes on behind a step of this name; ends with this reply; or this is why
-/// it isn't taken, or isn't stepped.
-#[derive(Debug, Drop)]
-pub enum Answer {
-    Started,
-    Moved(Point),
-    Ended(Reply),
-    Refused(Refusal),
-}
 
 /// Does what an order of the session says.
 pub fn act<D: Disk + Drop>(

@@ -1,6 +1,8 @@
 //! The sessions of a script.
 
 use crate::answers::answer_line;
+use crate::asking::ask_line;
+use demo_script::{Answer, Answerer};
 use disk_trait::Disk;
 use script_run::{AnswerFault, Engine};
 use session_core::Store;
@@ -22,5 +24,18 @@ impl<D: Disk + Drop> Engine for Sessions<D> {
 
     fn answer(&mut self, line: &[u8], out: &mut Vec<u8>) -> Result<(), AnswerFault> {
         answer_line(self, line, out)
+    }
+}
+
+impl<D: Disk + Drop> Answerer for Sessions<D> {
+    ghost use Rattle.brin_app.specs.Asking.{AsksLine};
+    ghost use Rattle.brin_app.specs.SessionPlaces.{StopsLine};
+
+    ghost answers = { AsksLine D.told };
+
+    ghost stops = { StopsLine D.told };
+
+    fn ask(&mut self, line: &[u8]) -> Result<Answer, AnswerFault> {
+        ask_line(self, line)
     }
 }

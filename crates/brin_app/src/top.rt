@@ -15,23 +15,27 @@ ghost use Rattle.line_texts.specs.Place.{Place};
 ghost use Rattle.store_parts.specs.ShowsPlace.{ShowsPlace};
 ghost use Rattle.store_images.specs.StopRule.{AllHaveTable};
 ghost use Rattle.store_starts.specs.Started.{HoldsImage};
-ghost use Rattle.brin_app.specs.ScriptOutput.{EachImageHas, HoldsFresh, IsFreshOutput, IsMade, IsOldOrEmpty, IsOutputOf, IsScriptRun, RunsThrough, exit_status};
+ghost use Rattle.brin_app.specs.ScriptOutput.{EachImageHas, HoldsFresh, IsFreshOutput, IsMade, IsOldOrEmpty, IsScriptRun, RunsThrough, exit_status};
 ghost use Rattle.brin_app.specs.StatusCauses.{HasDamage, IsCompleteOf, IsDoneSo, IsSpentOf, LacksStore};
 ghost use Rattle.brin_app.specs.Statuses.{IsFit, IsUnfit, format_status, start_status};
-ghost use Rattle.brin_app.specs.Tasks.{Asks, HasNoLayout, IsLayoutFor, IsTaskOf, IsUsage, IsWrong};
+ghost use Rattle.command_words.specs.Laws.{AreDemoNumbers};
+ghost use Rattle.brin_app.specs.Tasks.{Asks, HasDemoNumbers, HasNoLayout, HasNumbers, IsLayoutFor, IsTaskOf, IsUsage, IsWrong};
 ghost use Rattle.command_words.specs.declared.command.Command.TheVariants as commands;
 ghost use Rattle.brin_app.specs.declared.top.Task.{Task};
 ghost use Rattle.brin_app.specs.declared.top.Task.TheVariants as tasks;
+ghost use Rattle.brin_app.specs.TaskOutputs.{IsOutputOf};
 
+use crate::demo::{Numbers, run_demo};
 use crate::laws::a_stored_table_is_not_damaged;
 use crate::sessions::Sessions;
 use crate::status::{
     DAMAGED, DISK_FAULT, DONE, LIMIT, MEMORY, NO_STORE, READ_FAULT, SCRIPT_LIMIT, USAGE,
     WRITE_FAULT,
 };
-use block_model::{Schema, Sizes, Words};
-use command_words::{Command, CommandFault, read_command};
+use block_model::{NoMemory, Schema, Sizes, Words};
+use command_words::{Command, CommandFault, demos_have_limits, read_command};
 use control_page::one_layout;
+use demo_script::demo_layout;
 use disk_trait::Disk;
 use fresh_store::{a_format_leaves_old_or_none_or_new, a_new_store_opens_to_fresh_pages};
 use io_traits::{Sink, Source};
@@ -81,12 +85,18 @@ pub fn brin_main<D: Disk + Drop, S: Source, K: Sink>(
     }
 }
 
-/// What words ask for: a new store of this layout; a script over one; or a script over the store that stands there.
+/// What words ask for: a new store of this layout; a script over one; a script over the store that stands there; or the demo of this seed and of so many
+/// rows over a new store.
 #[derive(Debug, Drop)]
 pub enum Task {
     Init(Layout),
     Run(Layout),
     RunStored,
+    Demo {
+        layout: Layout,
+        seed: u32,
+        rows: u32,
+    },
 }
 
 /// Why words ask for nothing, or can't be read.
@@ -129,15 +139,19 @@ pub(crate) fn read_words(alloc: Global, words: &Words) -> Result<Task, WordsFaul
     ensures right { IfOk result (λ task. ¬ (IsUsage words.now)) }
     ensures usage { result ≡ Err WordsFault.Usage → IsUsage words.now }
     ensures nothing { result ≡ Err WordsFault.Usage → (task : Task) → ¬ (Asks words.now task) }
+    ensures numbers { IfOk result HasNumbers }
 {
+    demos_have_limits();
     let command = read_command(alloc, words)?;
     task_of(alloc, command)
 }
 
 /// What the command asks for.
 fn task_of(alloc: Global, command: Command) -> Result<Task, WordsFault>
+    requires { HasDemoNumbers command }
     ensures asked { IfOk result (IsTaskOf command) }
     ensures alone { IfOk result (λ task. (other : Task) → IsTaskOf command other → other ≡ task) }
+    ensures numbers { IfOk result HasNumbers }
     ensures usage { result ≡ Err WordsFault.Usage → IsWrong command }
 {
     match command {
@@ -150,7 +164,21 @@ fn task_of(alloc: Global, command: Command) -> Result<Task, WordsFault>
             declarations,
         } => run_task(alloc, sizes, &declarations),
         Command::RunStored => Ok(Task::RunStored),
-        Command::Demo { .. } => Err(WordsFault::Usage),
+        Command::Demo { seed, rows } => demo_task(alloc, seed, rows),
+    }
+}
+
+/// The demo of this seed and of so many rows.
+fn demo_task(alloc: Global, seed: u32, rows: u32) -> Result<Task, WordsFault>
+    requires { AreDemoNumbers seed rows }
+    ensures asked { IfOk result (IsTaskOf (commands.Demo seed rows)) }
+    ensures alone { IfOk result (λ task. (other : Task) → IsTaskOf (commands.Demo seed rows) other → other ≡ task) }
+    ensures numbers { IfOk result HasNumbers }
+    ensures memory { result ≡ Err WordsFault.Usage → ⊥ }
+{
+    match demo_layout(alloc, rows) {
+        Ok(layout) => Ok(Task::Demo { layout, seed, rows }),
+        Err(NoMemory) => Err(WordsFault::Memory),
     }
 }
 
@@ -158,6 +186,7 @@ fn task_of(alloc: Global, command: Command) -> Result<Task, WordsFault>
 fn init_task(alloc: Global, sizes: Sizes, declarations: &Words) -> Result<Task, WordsFault>
     ensures asked { IfOk result (IsTaskOf (commands.Init sizes declarations.now)) }
     ensures alone { IfOk result (λ task. (other : Task) → IsTaskOf (commands.Init sizes declarations.now) other → other ≡ task) }
+    ensures numbers { IfOk result HasNumbers }
     ensures usage { result ≡ Err WordsFault.Usage → HasNoLayout sizes declarations.now }
 {
     match layout_for(alloc, sizes, declarations) {
@@ -170,6 +199,7 @@ fn init_task(alloc: Global, sizes: Sizes, declarations: &Words) -> Result<Task, 
 fn run_task(alloc: Global, sizes: Sizes, declarations: &Words) -> Result<Task, WordsFault>
     ensures asked { IfOk result (IsTaskOf (commands.Run sizes declarations.now)) }
     ensures alone { IfOk result (λ task. (other : Task) → IsTaskOf (commands.Run sizes declarations.now) other → other ≡ task) }
+    ensures numbers { IfOk result HasNumbers }
     ensures usage { result ≡ Err WordsFault.Usage → HasNoLayout sizes declarations.now }
 {
     match layout_for(alloc, sizes, declarations) {
@@ -207,13 +237,17 @@ fn perform<D: Disk + Drop, S: Source, K: Sink>(
     source: &mut S,
     sink: &mut K,
 ) -> (u8, D)
-    requires { HoldsImage (D.told disk) }
+    requires image { HoldsImage (D.told disk) }
+    requires numbers { HasNumbers task }
     ensures done { IsDoneSo task result.0 (D.told disk) (D.told result.1) (S.left source.old) (S.left source.new) (K.taken sink.old) (K.taken sink.new) (Rose (S.faults source.old) (S.faults source.new)) (Rose (K.faults sink.old) (K.faults sink.new)) }
 {
     match task {
         Task::Init(layout) => init(&layout, disk),
         Task::Run(layout) => run_new(alloc, &layout, disk, source, sink),
         Task::RunStored => run_stored(alloc, disk, source, sink),
+        Task::Demo { layout, seed, rows } => {
+            run_demo(alloc, &layout, Numbers { seed, rows }, disk, sink)
+        }
     }
 }
 
@@ -229,7 +263,7 @@ fn init<D: Disk + Drop>(layout: &Layout, mut disk: D) -> (u8, D)
 }
 
 /// Makes an empty store of the disk, or says with which status the program ends.
-fn make<D: Disk + Drop>(layout: &Layout, disk: &mut D) -> Result<(), u8>
+pub(crate) fn make<D: Disk + Drop>(layout: &Layout, disk: &mut D) -> Result<(), u8>
     ensures any_moment { Throughout (D.told disk.old) (D.told disk.new) (IsOldOrEmpty layout.now (D.told disk.old)) }
     ensures made { OnOk result (EachImageHas (D.told disk.new) layout.now initial_state.table) }
     ensures holds { OnOk result (IsTrue (D.told disk.old).tells_contents → HoldsFresh (D.told disk.new) layout.now) }
@@ -286,7 +320,7 @@ fn run_stored<D: Disk + Drop, S: Source, K: Sink>(
 }
 
 /// What is answered where no store is opened.
-fn refused<D: Disk + Drop>(refusal: (StartFault, D)) -> (u8, D)
+pub(crate) fn refused<D: Disk + Drop>(refusal: (StartFault, D)) -> (u8, D)
     ensures status { result.0 ≡ start_status refusal.0 }
     ensures disk { result.1 ≡ refusal.1 }
 {
@@ -318,7 +352,7 @@ fn run_opened<D: Disk + Drop, S: Source, K: Sink>(
 }
 
 /// The status of each way in which a run ends.
-fn status(end: Result<(), RunFault>) -> u8
+pub(crate) fn status(end: Result<(), RunFault>) -> u8
     ensures { result ≡ exit_status end }
 {
     match end {

@@ -7,7 +7,7 @@ use crate::top::{Task, WordsFault, read_words};
 use block_model::{NoMemory, Words};
 use std::alloc::Global;
 
-/// How many bytes a disk has of which the words make a store: `init` does so, and `run` with declarations. `None` for all other words. `Err` is want
+/// How many bytes a disk has of which the words make a store: `init` does so, `run` with declarations, and `demo`. `None` for all other words. `Err` is want
 /// of memory.
 pub fn wanted_size(alloc: Global, words: &Words) -> Result<Option<u64>, NoMemory>
     ensures { IfOk result (IsWantedSize words.now) }
@@ -26,6 +26,7 @@ fn size_for(task: &Task) -> Option<u64>
     match task {
         Task::Init(layout) => Some(layout.disk_size()),
         Task::Run(layout) => Some(layout.disk_size()),
+        Task::Demo { layout, .. } => Some(layout.disk_size()),
         Task::RunStored => None,
     }
 }

@@ -2,7 +2,7 @@ use Rattle.std.proofs.Common.{ℕ, suc, ◌<◌, refl, sym, ◌∙◌, subst, ar
 use Rattle.std.proofs.lemmas.Result.{err_from_is_err_and}
 use Rattle.step_bounds.specs.Moves.{MovedIn}
 use Rattle.script_run.specs.declared.engine.AnswerFault.TheVariants.{Damaged}
-use Rattle.brin_app.specs.declared.orders.Answer.TheVariants as answers
+use Rattle.demo_script.specs.declared.answer.Answer.TheVariants as answers
 use Rattle.brin_app.specs.Leading.{PlacesLead}
 use Rattle.brin_app.specs.Orders.{FinishesSo, IsHalted, IsNotMade, StepsSo}
 use Rattle.brin_app.proofs.Leading.{led_further, led_still, stops_further}

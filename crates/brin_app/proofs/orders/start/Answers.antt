@@ -1,7 +1,7 @@
 use Rattle.std.proofs.Common.{None, Some}
 use Rattle.line_texts.specs.LineTexts.{Submits}
 use Rattle.query_words.specs.declared.line.Order.TheVariants as orders
-use Rattle.brin_app.specs.declared.orders.Answer.TheVariants as answers
+use Rattle.demo_script.specs.declared.answer.Answer.TheVariants as answers
 use Rattle.brin_app.specs.Orders.{DoesSo}
 use Rattle.brin_app.proofs.Leading.{led_beside}
 use Rattle.brin_app.proofs.Stepping.{start_refused, started, submit_keeps}

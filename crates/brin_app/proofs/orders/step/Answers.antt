@@ -1,6 +1,6 @@
 use Rattle.std.proofs.Common.{sym, subst}
 use Rattle.script_run.specs.declared.engine.AnswerFault.{AnswerFault}
-use Rattle.brin_app.specs.declared.orders.Answer.{Answer}
+use Rattle.demo_script.specs.declared.answer.Answer.{Answer}
 use Rattle.brin_app.specs.Leading.{PlacesLead, PlacesStop}
 use Rattle.brin_app.specs.Orders.{IsNotMade, StepsSo}
 use Rattle.brin_app.proofs.Stepping.{step_led, step_unmade}

@@ -1,7 +1,7 @@
 use Rattle.std.proofs.Common.{refl, sym}
 use Rattle.query_words.specs.declared.line.Order.TheVariants as orders
 use Rattle.block_model.specs.declared.reply.Refusal.TheVariants as refusals
-use Rattle.brin_app.specs.declared.orders.Answer.TheVariants as answers
+use Rattle.demo_script.specs.declared.answer.Answer.TheVariants as answers
 use Rattle.brin_app.specs.Orders.{DoesSo, IsCutShort, IsNotMade, StepsSo}
 use Rattle.brin_app.proofs.Leading.{err_stops, led_still, ok_led}
 use Rattle.brin_app.proofs.Stepping.{no_step, nothing_in_hand, step_cut, stepped}

@@ -2,7 +2,7 @@ use Rattle.std.proofs.Common.{None, Some}
 use Rattle.line_texts.specs.LineTexts.{Submits}
 use Rattle.line_texts.specs.Place.{Place}
 use Rattle.query_words.specs.declared.line.Order.TheVariants as orders
-use Rattle.brin_app.specs.declared.orders.Answer.TheVariants as answers
+use Rattle.demo_script.specs.declared.answer.Answer.TheVariants as answers
 use Rattle.brin_app.specs.Orders.{DoesSo, FinishesSo, IsCutShort, IsHalted}
 use Rattle.brin_app.proofs.Leading.{err_further, led_beside, ok_further}
 use Rattle.brin_app.proofs.Stepping.{plain, plain_cut, plain_refused, submit_keeps}

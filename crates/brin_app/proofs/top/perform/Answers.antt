@@ -1,3 +1,5 @@
+use Rattle.std.proofs.Common.{subst}
+use Rattle.brin_app.specs.Tasks.{HasNumbers}
 use Rattle.brin_app.proofs.Doing.{init_done}
 use Rattle.brin_app.proofs.Performed.{as_task}
 use Rattle.brin_app.proofs.top.perform.Goals as goal
@@ -12,3 +14,9 @@ returns-in-Run g c = record { done = as_task _ c.args.task c.in-Run.is c.run_new
 
 pub returns-in-RunStored : goal.returns-in-RunStored
 returns-in-RunStored g c = record { done = as_task _ c.args.task c.in-RunStored.is c.run_stored.ensures.done }
+
+pub run_demo-requires : goal.run_demo-requires
+run_demo-requires g c = subst HasNumbers c.in-Demo.is c.requires.numbers
+
+pub returns-in-Demo : goal.returns-in-Demo
+returns-in-Demo g c = record { done = as_task _ c.args.task c.in-Demo.is (c.run_demo.ensures _ _) }

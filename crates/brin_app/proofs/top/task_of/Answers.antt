@@ -3,7 +3,7 @@ use Rattle.std.specs.Prelude.{IfOk}
 use Rattle.command_words.specs.declared.command.Command.{Command}
 use Rattle.brin_app.specs.declared.top.Task.{Task}
 use Rattle.brin_app.specs.declared.top.Task.TheVariants as tasks
-use Rattle.brin_app.specs.Tasks.{IsTaskOf, IsWrong}
+use Rattle.brin_app.specs.Tasks.{HasDemoNumbers, IsTaskOf, IsWrong}
 use Rattle.brin_app.proofs.Asked.{stored_alone}
 use Rattle.brin_app.proofs.top.task_of.Goals as goal
 
@@ -33,5 +33,15 @@ returns-in-RunStored-clause-asked c = subst (λ (m : Command). IsTaskOf m tasks.
 pub returns-in-RunStored-clause-alone : goal.returns-in-RunStored-clause-alone
 returns-in-RunStored-clause-alone c = subst (λ (m : Command). (other : Task) → IsTaskOf m other → other ≡ tasks.RunStored) (sym c.in-RunStored.is) stored_alone
 
+pub demo_task-requires : goal.demo_task-requires
+demo_task-requires c = subst HasDemoNumbers c.in-Demo.is c.requires
+
+pub returns-in-Demo-clause-asked : goal.returns-in-Demo-clause-asked
+returns-in-Demo-clause-asked c = subst (λ (m : Command). IfOk c.demo_task.result (IsTaskOf m)) (sym c.in-Demo.is) c.demo_task.ensures.asked
+
+pub returns-in-Demo-clause-alone : goal.returns-in-Demo-clause-alone
+returns-in-Demo-clause-alone c =
+    subst (λ (m : Command). IfOk c.demo_task.result (λ task. (other : Task) → IsTaskOf m other → other ≡ task)) (sym c.in-Demo.is) c.demo_task.ensures.alone
+
 pub returns-in-Demo-clause-usage : goal.returns-in-Demo-clause-usage
-returns-in-Demo-clause-usage c = λ _. subst IsWrong (sym c.in-Demo.is) tt
+returns-in-Demo-clause-usage c = λ e. absurd (c.demo_task.ensures.memory e)

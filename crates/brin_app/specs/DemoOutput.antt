@@ -1,0 +1,75 @@
+-- what the demo writes, and what becomes of its store
+use Rattle.std.specs.Prelude.{◌≡◌, ◌≢◌, ◌⊎◌, ℕ, IsTrue, List, Option, Ok, Err}
+use Rattle.std.specs.Io.KnownBytes.{Appends}
+use Rattle.block_model.specs.DatabaseState.{initial_state}
+use Rattle.disk_trait.specs.Told.{Told}
+use Rattle.io_traits.specs.Written.{AppendsPart}
+use Rattle.store_layout.specs.DiskLayout.{DiskLayout, disk_size}
+use Rattle.script_run.specs.declared.engine.AnswerFault.{AnswerFault}
+use Rattle.script_run.specs.declared.engine.AnswerFault.TheVariants.{Memory, Full}
+use Rattle.script_run.specs.declared.fault.RunFault.TheVariants as faults
+use Rattle.script_run.specs.Runs.{RunEnd}
+use Rattle.demo_script.specs.declared.counts.Counts.{Counts}
+use Rattle.demo_script.specs.Played.{HasPlayed, HasStopped}
+use Rattle.demo_script.specs.Summary.{summary_text}
+use Rattle.line_texts.specs.Place.{Place, database_at}
+use Rattle.line_texts.specs.Starts.{IsStart}
+use Rattle.brin_app.specs.Asking.{IsLineAnswered}
+use Rattle.brin_app.specs.CrashRule.{HasTableOf, IsFurther}
+use Rattle.brin_app.specs.ScriptOutput.{EachImageHas, IsUnmade, IsUnopened, Stops, StopsOfNewRun, StopsOfRun, exit_status}
+
+-- the whole demo was said from the one place to the other, and answered with these counts
+abbrev pub IsSaid : DiskLayout → (seed rows : ℕ) → (start after : Place) → Counts → Type 0
+IsSaid layout seed rows start after counts = HasPlayed (IsLineAnswered layout.schema) seed rows start after counts
+
+-- its first lines were, and the one behind them wasn't answered
+abbrev pub IsLeftOff : DiskLayout → (seed rows : ℕ) → (start after : Place) → AnswerFault → Type 0
+IsLeftOff layout seed rows start after fault = HasStopped (IsLineAnswered layout.schema) (Stops layout) seed rows start after fault
+
+-- the summary, with the blocks that the demo's table has at the end
+abbrev pub summary_at : Counts → Place → List ℕ
+summary_at counts after = summary_text counts (after.tables 0).blocks
+
+-- By how the demo ends. What is written is its summary; where the sink failed a front of it; and nothing where a line wasn't answered, or memory was
+-- short for the summary.
+abbrev pub DemoWrites : RunEnd → DiskLayout → (seed rows : ℕ) → (start after : Place) → (taken taken' : Option (List ℕ)) → Type 0
+DemoWrites (Ok done) layout seed rows start after taken taken' = (counts : Counts) × IsSaid layout seed rows start after counts × Appends taken taken' (summary_at counts after)
+DemoWrites (Err faults.Write) layout seed rows start after taken taken' = (counts : Counts) × IsSaid layout seed rows start after counts × AppendsPart taken taken' (summary_at counts after)
+DemoWrites (Err (faults.Unanswered fault)) layout seed rows start after taken taken' =
+    (taken' ≡ taken) × (IsLeftOff layout seed rows start after fault ⊎ ((fault ≡ Memory) × (counts : Counts) × IsSaid layout seed rows start after counts))
+DemoWrites end layout seed rows start after taken taken' = ⊥
+
+-- The demo was run from the place, by the crash rule of scripts.
+pub record IsDemoRun (status : ℕ) (layout : DiskLayout) (seed rows : ℕ) (AnyMoment : Place → Place → Type 0) (new : Told) (taken taken' : Option (List ℕ)) (start : Place) : Type 0 where
+  pub end : RunEnd
+  pub status_is : status ≡ exit_status end
+  pub after : Place
+  pub writes : DemoWrites end layout seed rows start after taken taken'
+  pub further : IsFurther start after
+  pub any_moment : AnyMoment start after
+  pub at_end : (image : List ℕ) → IsTrue (new.now image) → HasTableOf after image
+  pub whole : status ≢ 6 → EachImageHas new after.layout (database_at after).table
+
+-- over a store that was just made
+abbrev pub IsFreshDemo : ℕ → (seed rows : ℕ) → (old new : Told) → DiskLayout → (left left' taken taken' : Option (List ℕ)) → Type 0
+IsFreshDemo status seed rows old new layout left left' taken taken' =
+    IsUnopened status layout initial_state.table old new left left' taken taken'
+    ⊎ ((start : Place) × IsStart layout start × IsDemoRun status layout seed rows (StopsOfRun old new) new taken taken' start)
+
+-- A store is made, whatever the disk held, and the demo is run over it, where the disk tells its contents. Nothing is read of the source.
+pub record IsDemoOutput (status : ℕ) (layout : DiskLayout) (seed rows : ℕ) (old new : Told) (left left' taken taken' : Option (List ℕ)) : Type 0 where
+  pub source : left' ≡ left
+  pub run : IsTrue old.tells_contents → IsUnmade status layout old new left left' taken taken'
+      ⊎ ((start : Place) × IsStart layout start × IsDemoRun status layout seed rows (StopsOfNewRun old new) new taken taken' start)
+
+-- some first lines of the demo lead to a journal that has no room for the requests of the next one
+abbrev pub DemoFillsJournal : DiskLayout → (seed rows : ℕ) → Type 0
+DemoFillsJournal layout seed rows = (start : Place) × IsStart layout start × ((after : Place) × IsLeftOff layout seed rows start after Full)
+
+-- 8 comes only there, where the disk tells its contents; and else, where it has the size, the demo is run to its end or memory ran out
+abbrev pub IsSpentByDemo : ℕ → DiskLayout → (seed rows : ℕ) → Told → Type 0
+IsSpentByDemo status layout seed rows disk = IsTrue disk.tells_contents → status ≡ 8 → DemoFillsJournal layout seed rows
+
+abbrev pub IsCompleteDemo : ℕ → DiskLayout → (seed rows : ℕ) → Told → Type 0
+IsCompleteDemo status layout seed rows disk =
+    IsTrue disk.tells_contents → disk.size ≡ disk_size layout → ¬ (DemoFillsJournal layout seed rows) → (status ≡ 0) ⊎ (status ≡ 7)

@@ -1,0 +1,124 @@
+//! The demo over a new store.
+
+ghost use Rattle.std.specs.Prelude.{◌≡◌, ◌≢◌, ℕ, List, IsErrOf, IsTrue};
+ghost use Rattle.block_model.specs.Causes.{Rose};
+ghost use Rattle.command_words.specs.Laws.{AreDemoNumbers};
+ghost use Rattle.page_store.specs.Keeps.{Tells};
+ghost use Rattle.page_store.specs.PageMap.{PageMap};
+ghost use Rattle.store_opening.specs.Opens.{Opens};
+ghost use Rattle.store_images.specs.StopRule.{AllHaveTable};
+ghost use Rattle.store_parts.specs.ShowsPlace.{ShowsPlace};
+ghost use Rattle.store_starts.specs.Started.{HoldsImage};
+ghost use Rattle.line_texts.specs.Place.{Place};
+ghost use Rattle.brin_app.specs.declared.top.Task.TheVariants as tasks;
+ghost use Rattle.brin_app.specs.DemoOutput.{IsDemoRun};
+ghost use Rattle.brin_app.specs.DemoSums.{HasSummed, SumsFresh};
+ghost use Rattle.brin_app.specs.ScriptOutput.{RunsThrough};
+ghost use Rattle.brin_app.specs.StatusCauses.{IsDoneSo};
+
+use crate::laws::a_stored_table_is_not_damaged;
+use crate::sessions::Sessions;
+use crate::top::{make, refused, status};
+use control_page::one_layout;
+use demo_script::{play, render_summary};
+use disk_trait::Disk;
+use fresh_store::a_new_store_opens_to_fresh_pages;
+use io_traits::{Sink, write_all};
+use script_run::RunFault;
+use session_core::Store;
+use std::alloc::Global;
+use store_layout::Layout;
+use store_opening::an_image_opens_to_one_map;
+
+/// The number of the demo's table.
+const DEMO_TABLE: u8 = 0;
+
+/// The seed of a demo, and how many rows it has.
+#[derive(Clone, Copy, Debug)]
+pub(crate) struct Numbers {
+    pub seed: u32,
+    pub rows: u32,
+}
+
+/// Makes an empty store of the disk, runs the demo over it, and writes what it sums up.
+pub(crate) fn run_demo<D: Disk + Drop, K: Sink>(
+    alloc: Global,
+    layout: &Layout,
+    numbers: Numbers,
+    mut disk: D,
+    sink: &mut K,
+) -> (u8, D)
+    requires { AreDemoNumbers numbers.seed numbers.rows }
+    // Whatever source there is, nothing is read of it.
+    ensures done { (left : Option (List ℕ)) (F : Type 0) → IsDoneSo (tasks.Demo layout.now numbers.seed numbers.rows) result.0 (D.told disk) (D.told result.1) left left (K.taken sink.old) (K.taken sink.new) F (Rose (K.faults sink.old) (K.faults sink.new)) }
+{
+    one_layout();
+    an_image_opens_to_one_map(layout);
+    a_stored_table_is_not_damaged();
+    a_new_store_opens_to_fresh_pages(layout);
+    match make(layout, &mut disk) {
+        Ok(()) => demo_on(alloc, disk, numbers, sink),
+        Err(status) => (status, disk),
+    }
+}
+
+/// Opens the new store on the disk, and runs the demo over it.
+fn demo_on<D: Disk + Drop, K: Sink>(
+    alloc: Global,
+    disk: D,
+    numbers: Numbers,
+    sink: &mut K,
+) -> (u8, D)
+    requires image { HoldsImage (D.told disk) }
+    requires numbers { AreDemoNumbers numbers.seed numbers.rows }
+    ensures sums { SumsFresh result.0 numbers.seed numbers.rows (D.told disk) (D.told result.1) (K.taken sink.old) (K.taken sink.new) (Rose (K.faults sink.old) (K.faults sink.new)) }
+{
+    one_layout();
+    a_stored_table_is_not_damaged();
+    match Store::start(alloc, disk) {
+        Ok(store) => demo_over(alloc, store, numbers, sink),
+        Err(refusal) => refused(refusal),
+    }
+}
+
+/// Runs the demo over the store that was opened, and answers its disk.
+fn demo_over<D: Disk + Drop, K: Sink>(
+    alloc: Global,
+    store: Store<D>,
+    numbers: Numbers,
+    sink: &mut K,
+) -> (u8, D)
+    requires { AreDemoNumbers numbers.seed numbers.rows }
+    ensures one_map { (image : List ℕ) (a b : PageMap) → Opens store.pages.layout image a → Opens store.pages.layout image b → a ≡ b }
+    ensures runs { (start : Place) → Tells D.told store.pages → store.pages.failed ≡ None → ShowsPlace store start → AllHaveTable D.told store.pages start
+        → IsDemoRun result.0 store.pages.layout numbers.seed numbers.rows (RunsThrough (D.told store.pages.disk) (D.told result.1)) (D.told result.1) (K.taken sink.old) (K.taken sink.new) start }
+    ensures write_fault { result.0 ≡ 5 → Rose (K.faults sink.old) (K.faults sink.new) }
+    ensures disk_fault { result.0 ≡ 6 → store.pages.failed ≡ None → Rose (D.told store.pages.disk).faults (D.told result.1).faults }
+    ensures damaged { result.0 ≡ 11 → Tells D.told store.pages → store.pages.failed ≡ None → ⊥ }
+    ensures others { (result.0 ≢ 2) × (result.0 ≢ 4) × (result.0 ≢ 9) }
+{
+    an_image_opens_to_one_map(store.layout());
+    let mut sessions = Sessions { alloc, store };
+    let end = sum_up(&mut sessions, numbers, sink);
+    (status(end), sessions.store.into_disk())
+}
+
+/// Says the demo to the sessions, and writes what it sums up.
+fn sum_up<D: Disk + Drop, K: Sink>(
+    sessions: &mut Sessions<D>,
+    numbers: Numbers,
+    sink: &mut K,
+) -> Result<(), RunFault>
+    requires { AreDemoNumbers numbers.seed numbers.rows }
+    ensures sums { HasSummed D.told numbers.seed numbers.rows sessions.old sessions.new (K.taken sink.old) (K.taken sink.new) result }
+    ensures cause { IsErrOf result RunFault.Write → Rose (K.faults sink.old) (K.faults sink.new) }
+{
+    let alloc = sessions.alloc;
+    let counts = play(alloc, numbers.seed, numbers.rows, sessions)?;
+    sessions.store.layout().known();
+    let blocks = sessions.store.blocks(DEMO_TABLE);
+    let mut summary = Vec::new(alloc);
+    render_summary(&counts, blocks, &mut summary)?;
+    write_all(sink, summary.as_slice())?;
+    Ok(())
+}
