@@ -1,12 +1,15 @@
 //! The demo: a script of rows that four sessions put, of a keeper that summarizes beside them, and of selects at its end. Which line comes next hangs on
-//! what the lines before it were answered (specs/Conversation.antt); `play` says them to whatever answers lines, and counts. It stands on block_model and
-//! script_run. The layer above gives it the sessions of a store, and writes the summary.
+//! what the lines before it were answered (specs/Conversation.antt); `play` says them to whatever answers lines, and counts, and `demo_layout` is the
+//! layout of the store that they speak of. It stands on block_model, schema_words, store_layout and script_run. The layer above gives it the sessions of
+//! a store, and writes the summary.
 #![tactic(auto)]
 
 mod answer;
 mod counts;
+mod layout;
 mod play;
 
 pub use answer::{Answer, Answerer};
 pub use counts::{Counts, render_summary};
+pub use layout::demo_layout;
 pub use play::play;
