@@ -1,4 +1,5 @@
 pub mod DemoLines
 pub mod Conversation
-pub mod Played
 pub mod Summary
+pub mod Played
+pub mod Saying

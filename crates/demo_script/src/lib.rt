@@ -5,7 +5,13 @@
 
 mod answer;
 mod counts;
+mod last;
+mod lines;
 mod play;
+mod round;
+mod row;
+#[cfg(test)]
+mod tests;
 
 pub use answer::{Answer, Answerer};
 pub use counts::{Counts, render_summary};
