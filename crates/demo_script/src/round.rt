@@ -25,7 +25,7 @@ pub fn say_rounds<A: Answerer>(
     ensures cut { IfErr result (IsCut A.answers A.stops (AreRounds seed rows 0 (rounds_of rows)) answerer.old answerer.new) }
 {
     let mut inserted = 0;
-    for round in 0..rows.div_ceil(400) {
+    'rounds: for round in 0..rows.div_ceil(400) {
         inserted += say_round(answerer, line, seed, rows, round)?;
     }
     Ok(inserted)
@@ -92,7 +92,7 @@ fn say_rows<A: Answerer>(
 {
     let mut busy = busy;
     let mut inserted = 0;
-    for row in first..first + count {
+    'rows: for row in first..first + count {
         let end = say_row(answerer, line, seed, row, busy)?;
         busy = end.busy;
         inserted += end.rows;
@@ -124,7 +124,7 @@ pub fn say_all<A: Answerer>(answerer: &mut A, lines: &[&[u8]]) -> Result<u64, An
     ensures cut { IfErr result (IsCut A.answers A.stops (Says (map (λ line. line.now) lines.now)) answerer.old answerer.new) }
 {
     let mut inserted = 0;
-    for line in lines {
+    'lines: for line in lines {
         let answer = answerer.ask(line)?;
         inserted += answer.inserted();
     }
