@@ -110,12 +110,15 @@ AreRounds seed rows round (suc count) said =
 
 -- ---- the whole
 
+-- the four selects
+abbrev pub selects : ℕ → List (List ℕ)
+selects rows = select_line (middle_conditions rows) ∷ select_line (codes "v = 7") ∷ select_line (codes "r @> [500,501)") ∷ select_line (codes "a = 10.0.0.7") ∷ []
+
 -- behind the last round: what is summarized and vacuumed, four selects, an explain of the first one's conditions
 abbrev pub last_lines : ℕ → List (List ℕ)
 last_lines rows =
-    keeper (codes "summarize di") ∷ keeper (codes "vacuum d") ∷ codes "d0 begin"
-    ∷ select_line (middle_conditions rows) ∷ select_line (codes "v = 7") ∷ select_line (codes "r @> [500,501)") ∷ select_line (codes "a = 10.0.0.7")
-    ∷ (codes "d0 explain d where " ++ middle_conditions rows) ∷ codes "d0 commit" ∷ []
+    (keeper (codes "summarize di") ∷ keeper (codes "vacuum d") ∷ codes "d0 begin" ∷ []) ++ selects rows
+    ++ (codes "d0 explain d where " ++ middle_conditions rows) ∷ codes "d0 commit" ∷ []
 
 -- as many rounds as there are rows for
 abbrev pub rounds_of : ℕ → ℕ

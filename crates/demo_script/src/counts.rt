@@ -4,6 +4,7 @@ ghost use Rattle.std.specs.Prelude.{◌≡◌, ◌++◌, OnOk};
 ghost use Rattle.demo_script.specs.Summary.{summary_text};
 
 use block_model::NoMemory;
+use std::io::Write;
 
 /// How many rows were inserted, how many each of the four selects found, and how many blocks the explain named.
 #[derive(Clone, Copy, Debug, PartialEq, Eq)]
@@ -17,5 +18,13 @@ pub struct Counts {
 pub fn render_summary(counts: &Counts, blocks: u32, out: &mut Vec<u8>) -> Result<(), NoMemory>
     ensures { OnOk result (out.new.items ≡ out.old.items ++ summary_text counts.now blocks) }
 {
-    todo!()
+    let rows = counts.rows;
+    let ranges = (u64::from(blocks) + 15) / 16;
+    let [first, second, third, fourth] = counts.found;
+    let read = counts.read;
+    let written = write!(
+        out,
+        "rows {rows}\nblocks {blocks}\nranges {ranges}\nfound {first} {second} {third} {fourth}\nread {read}\n"
+    );
+    written.map_err(|_| NoMemory)
 }

@@ -6,10 +6,16 @@
 
 mod answer;
 mod counts;
+mod last;
 mod layout;
-mod play;
+mod lines;
+mod demo;
+mod round;
+mod row;
+#[cfg(test)]
+mod tests;
 
 pub use answer::{Answer, Answerer};
 pub use counts::{Counts, render_summary};
 pub use layout::demo_layout;
-pub use play::play;
+pub use demo::play;

@@ -5,6 +5,8 @@ ghost use Rattle.demo_script.specs.Played.{HasPlayed, HasStopped};
 
 use crate::answer::Answerer;
 use crate::counts::Counts;
+use crate::last::say_last;
+use crate::round::say_rounds;
 use script_run::AnswerFault;
 use std::alloc::Global;
 
@@ -20,5 +22,12 @@ pub fn play<A: Answerer>(
     ensures played { IfOk result (HasPlayed A.answers seed rows answerer.old answerer.new) }
     ensures stopped { IfErr result (HasStopped A.answers A.stops seed rows answerer.old answerer.new) }
 {
-    todo!()
+    let mut line = String::new(alloc);
+    let inserted = say_rounds(answerer, &mut line, seed, rows)?;
+    let last = say_last(answerer, &mut line, rows)?;
+    Ok(Counts {
+        rows: inserted,
+        found: last.found,
+        read: last.read,
+    })
 }

@@ -1,0 +1,116 @@
+-- one row, part by part
+use Rattle.std.proofs.Common.{◌≡◌, ℕ, ◌+◌, Bool, true, false, List, [], ◌∷◌, ◌++◌, codes, refl, sym, ap, ◌∙◌, subst, inl, inr, append_assoc, add-zero, arith}
+use Rattle.std.proofs.lemmas.List.{append-nil}
+use Rattle.script_run.specs.declared.engine.AnswerFault.{AnswerFault}
+use Rattle.script_run.specs.declared.engine.AnswerFault.TheVariants.{Memory}
+use Rattle.demo_script.specs.declared.answer.Answer.{Answer}
+use Rattle.demo_script.specs.Conversation.{IsRow, Puts, PutsBlocked, Said, StepsOn, has_hand, is_blocked, keeper}
+use Rattle.demo_script.specs.DemoLines.{insert_line, line, session_of}
+use Rattle.demo_script.specs.Played.{AreSaid}
+use Rattle.demo_script.specs.Saying.{IsCut, IsSaid, LeavesKeeper}
+use Rattle.demo_script.specs.Summary.{inserted, inserted_rows}
+use Rattle.demo_script.proofs.Joins.{both_said, cut_at_line, cut_at_memory, cut_behind, cut_first, one_said}
+use Rattle.demo_script.proofs.Endings.{committed, some_put, some_step}
+
+-- ---- the keeper's step
+
+pub idle_step : {S : Type 0} (R : S → List ℕ → Answer → S → Type 0) (s : S) → IsSaid R (λ (said : List Said). StepsOn false said false) s s 0
+idle_step R s = record { said = []; part = (refl, refl); answers = refl; counted = refl }
+
+pub busy_step : {S : Type 0} (R : S → List ℕ → Answer → S → Type 0) (s t : S) (answer : Answer) → R s (keeper (codes "step")) answer t
+    → IsSaid R (λ (said : List Said). StepsOn true said (has_hand answer)) s t (inserted answer)
+busy_step R s t answer r = one_said R (λ (said : List Said). StepsOn true said (has_hand answer)) s t (keeper (codes "step")) answer r (answer, refl, refl)
+
+pub cut_step : {S : Type 0} (R : S → List ℕ → Answer → S → Type 0) (U : S → List ℕ → AnswerFault → S → Type 0) (s s' : S) (fault : AnswerFault) → U s (keeper (codes "step")) fault s'
+    → IsCut R U (LeavesKeeper (StepsOn true)) s s' fault
+cut_step R U s s' fault u =
+    let some = some_step true in
+    cut_at_line R U (LeavesKeeper (StepsOn true)) s s s' fault [] refl (keeper (codes "step")) (committed []).answer [] some.1 u
+
+-- ---- the insert
+
+module _ {S : Type 0} (R : S → List ℕ → Answer → S → Type 0) (U : S → List ℕ → AnswerFault → S → Type 0) (seed row : ℕ) (busy : Bool) (s : S) where
+  -- three lines, where the insert is blocked
+  abbrev three : Answer → Answer → Answer → List Said
+  three first kept own =
+      record { line = insert_line seed row; answer = first } ∷ record { line = keeper (codes "finish"); answer = kept }
+      ∷ record { line = line (session_of row) (codes "finish"); answer = own } ∷ []
+
+  puts_three : (first kept own : Answer) → is_blocked first ≡ true → LeavesKeeper (Puts seed row busy) (three first kept own)
+  puts_three first kept own blocked = (has_hand kept, inr (record { first = first; kept = kept; own = own; blocked = blocked; is = refl; busy = refl }))
+
+  pub short_insert : (s' : S) (fault : AnswerFault) → fault ≡ Memory → s' ≡ s → IsCut R U (LeavesKeeper (Puts seed row busy)) s s' fault
+  short_insert s' fault is same =
+      let some = some_put seed row busy in
+      cut_at_memory R U (LeavesKeeper (Puts seed row busy)) s s s' fault [] refl some.0 some.1 is same
+
+  pub cut_insert : (s' : S) (fault : AnswerFault) (text : List ℕ) → text ≡ insert_line seed row → U s text fault s' → IsCut R U (LeavesKeeper (Puts seed row busy)) s s' fault
+  cut_insert s' fault text is u =
+      let some = some_put seed row busy in
+      cut_at_line R U (LeavesKeeper (Puts seed row busy)) s s s' fault [] refl (insert_line seed row) (committed []).answer [] some.1 (subst (λ (l : List ℕ). U s l fault s') is u)
+
+  pub said_insert : (t : S) (answer : Answer) (text : List ℕ) → text ≡ insert_line seed row → is_blocked answer ≡ false → R s text answer t
+      → IsSaid R (λ (said : List Said). Puts seed row busy said busy) s t (inserted answer)
+  said_insert t answer text is unblocked r =
+      one_said R (λ (said : List Said). Puts seed row busy said busy) s t (insert_line seed row) answer (subst (λ (l : List ℕ). R s l answer t) is r) (inl (answer, unblocked, refl, refl))
+
+  -- behind an insert that is blocked
+  module _ (t : S) (first : Answer) (text : List ℕ) (is : text ≡ insert_line seed row) (blocked : is_blocked first ≡ true) (r : R s text first t) where
+    asked : AreSaid R s (record { line = insert_line seed row; answer = first } ∷ []) t
+    asked = (t, subst (λ (l : List ℕ). R s l first t) is r, refl)
+
+    pub cut_keeper : (s' : S) (fault : AnswerFault) → U t (keeper (codes "finish")) fault s' → IsCut R U (LeavesKeeper (Puts seed row busy)) s s' fault
+    cut_keeper s' fault u =
+        let any = (committed []).answer in
+        cut_at_line R U (LeavesKeeper (Puts seed row busy)) s t s' fault (record { line = insert_line seed row; answer = first } ∷ []) asked (keeper (codes "finish")) any
+        (record { line = line (session_of row) (codes "finish"); answer = any } ∷ []) (puts_three first any any blocked) u
+
+    module _ (v : S) (kept : Answer) (k : R t (keeper (codes "finish")) kept v) where
+      both : AreSaid R s (record { line = insert_line seed row; answer = first } ∷ record { line = keeper (codes "finish"); answer = kept } ∷ []) v
+      both = (t, asked.1, (v, k, refl))
+
+      pub short_finish : (s' : S) (fault : AnswerFault) → fault ≡ Memory → s' ≡ v → IsCut R U (LeavesKeeper (Puts seed row busy)) s s' fault
+      short_finish s' fault is_memory same =
+          let any = (committed []).answer in
+          cut_at_memory R U (LeavesKeeper (Puts seed row busy)) s v s' fault (record { line = insert_line seed row; answer = first } ∷ record { line = keeper (codes "finish"); answer = kept } ∷ []) both
+          (record { line = line (session_of row) (codes "finish"); answer = any } ∷ []) (puts_three first kept any blocked) is_memory same
+
+      pub cut_finish : (s' : S) (fault : AnswerFault) (own_text : List ℕ) → own_text ≡ line (session_of row) (codes "finish") → U v own_text fault s' → IsCut R U (LeavesKeeper (Puts seed row busy)) s s' fault
+      cut_finish s' fault own_text own_is u =
+          let any = (committed []).answer in
+          cut_at_line R U (LeavesKeeper (Puts seed row busy)) s v s' fault (record { line = insert_line seed row; answer = first } ∷ record { line = keeper (codes "finish"); answer = kept } ∷ []) both
+          (line (session_of row) (codes "finish")) any [] (puts_three first kept any blocked) (subst (λ (l : List ℕ). U v l fault s') own_is u)
+
+      pub said_blocked : (w : S) (own : Answer) (own_text : List ℕ) → own_text ≡ line (session_of row) (codes "finish") → R v own_text own w
+          → IsSaid R (λ (said : List Said). Puts seed row busy said (has_hand kept)) s w (inserted first + inserted kept + inserted own)
+      said_blocked w own own_text own_is o = record {
+        said = three first kept own;
+        part = (puts_three first kept own blocked).1;
+        answers = (t, asked.1, (v, k, (w, subst (λ (l : List ℕ). R v l own w) own_is o, refl)));
+        counted = omega arith;
+      }
+
+-- ---- the row
+
+module _ {S : Type 0} {R : S → List ℕ → Answer → S → Type 0} {U : S → List ℕ → AnswerFault → S → Type 0} {seed row : ℕ} {busy : Bool} {s : S} where
+  row_of : (put stepped : List Said) (between end : Bool) → Puts seed row busy put between → StepsOn between stepped end → IsRow seed row busy (put ++ stepped) end
+  row_of put stepped between end puts steps = record { put = put; stepped = stepped; between = between; puts = puts; steps = steps; is = refl }
+
+  pub said_row : {t u : S} {m n : ℕ} (between end : Bool) → IsSaid R (λ (said : List Said). Puts seed row busy said between) s t m → IsSaid R (λ (said : List Said). StepsOn between said end) t u n
+      → IsSaid R (λ (said : List Said). IsRow seed row busy said end) s u (m + n)
+  said_row between end put stepped = both_said (λ (said : List Said). IsRow seed row busy said end) (λ a b p q. row_of a b between end p q) put stepped
+
+  pub cut_put : {s' : S} {fault : AnswerFault} → IsCut R U (LeavesKeeper (Puts seed row busy)) s s' fault → IsCut R U (LeavesKeeper (IsRow seed row busy)) s s' fault
+  cut_put cut = cut_first (LeavesKeeper (IsRow seed row busy)) ends cut
+    where
+      ends : (said : List Said) → LeavesKeeper (Puts seed row busy) said → (rest : List Said) × LeavesKeeper (IsRow seed row busy) (said ++ rest)
+      ends said p =
+          let step = some_step p.0 in
+          (step.0, (step.1.0, row_of said step.0 p.0 step.1.0 p.1 step.1.1))
+
+  pub cut_stepped : {t s' : S} {fault : AnswerFault} {m : ℕ} (between : Bool) → IsSaid R (λ (said : List Said). Puts seed row busy said between) s t m → IsCut R U (LeavesKeeper (StepsOn between)) t s' fault
+      → IsCut R U (LeavesKeeper (IsRow seed row busy)) s s' fault
+  cut_stepped between put cut = cut_behind (LeavesKeeper (IsRow seed row busy)) s put.said put.answers ends cut
+    where
+      ends : (said : List Said) → LeavesKeeper (StepsOn between) said → (rest : List Said) × LeavesKeeper (IsRow seed row busy) (put.said ++ (said ++ rest))
+      ends said p = ([], (p.0, row_of put.said (said ++ []) between p.0 put.part (subst (λ (l : List Said). StepsOn between l p.0) (sym (append-nil said)) p.1)))
