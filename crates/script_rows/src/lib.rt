@@ -6,6 +6,8 @@
 #[cfg(test)]
 mod checks;
 #[cfg(test)]
+mod demo_rows;
+#[cfg(test)]
 mod limit_rows;
 #[cfg(test)]
 mod line_rows;

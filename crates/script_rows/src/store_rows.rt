@@ -66,7 +66,7 @@ run|--";
 
 /// How many bytes the disk has that words want. A page has 8192; there is one of control, two areas of log pages, and the blocks of statuses, of each
 /// table and of each index.
-const WANTED: [(&str, Option<u64>); 11] = [
+const WANTED: [(&str, Option<u64>); 13] = [
     (
         "init|--heap-blocks=1|--index-blocks=3|--status-blocks=1|--log-pages=16|--frames=16|table t(a int8)",
         Some(286_720),
@@ -89,7 +89,10 @@ const WANTED: [(&str, Option<u64>); 11] = [
     ("init", None),
     ("init|--heap-blocks=0|table t(a int8)", None),
     ("run|table t(a int4)", None),
-    ("demo|--seed|1|--rows|1", None),
+    // The control page, 256 of the log, one of statuses, the blocks of 16 rows, and 256 of the index.
+    ("demo|--seed|1|--rows|1", Some(4_218_880)),
+    ("demo|--seed|1|--rows|20000", Some(14_450_688)),
+    ("demo|--seed|1|--rows|0", None),
 ];
 
 /// Checks runs of status 0 one after the other over one disk, each by its words and the lines of its script.

@@ -48,7 +48,14 @@ init|--frames=16
 init|index i on t(a minmax)
 Init|table t(a int8)
 threads|table t(a int8)
-demo|--seed|1|--rows|1
+demo
+demo|--seed|1
+demo|--rows|1
+demo|--seed|1|--rows|0
+demo|--seed|1|--rows|200001
+demo|--seed|1000001|--rows|1
+demo|--seed|1|--rows|1|--frames|16
+demo|--seed|1|--rows|1|table t(a int8)
 help
 --help
 --version
