@@ -1,9 +1,9 @@
 pub mod Asked
-pub mod Asking
 pub mod Crash
 pub mod DemoDone
 pub mod DemoRuns
 pub mod Doing
+pub mod Heeding
 pub mod Leading
 pub mod Making
 pub mod Outputs

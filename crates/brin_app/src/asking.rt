@@ -1,6 +1,6 @@
 //! What a line of a script is answered, as the demo counts it: without its text.
 
-ghost use Rattle.std.specs.Prelude.{◌≡◌, ◌×◌, ℕ, Ok, Some, IfOk, IfErr};
+ghost use Rattle.std.specs.Prelude.{◌≡◌, ℕ, Ok, Some, IfOk, IfErr};
 ghost use Rattle.query_words.specs.LineFits.{IsLineFor, IsOrderFor};
 ghost use Rattle.query_words.specs.LineRefusals.{refusal_of};
 ghost use Rattle.brin_app.specs.Asking.{AsksLine, IsAnswered};

@@ -2,7 +2,7 @@ use Rattle.std.proofs.Common.{◌≡◌, ap}
 use Rattle.line_texts.specs.LineTexts.{named}
 use Rattle.line_texts.specs.Place.{Place}
 use Rattle.store_parts.specs.StoreStates.{StoreState}
-use Rattle.brin_app.proofs.Asking.{ask_done, ask_lost, ask_refused}
+use Rattle.brin_app.proofs.Heeding.{ask_done, ask_lost, ask_refused}
 use Rattle.brin_app.proofs.Leading.{led_beside}
 use Rattle.brin_app.proofs.Saying.{say_unmade}
 use Rattle.brin_app.proofs.Stepping.{naming_keeps}

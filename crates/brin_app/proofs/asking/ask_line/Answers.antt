@@ -3,7 +3,7 @@ use Rattle.std.specs.Prelude.{Ok, Err}
 use Rattle.store_layout.specs.DiskLayout.{DiskLayout}
 use Rattle.query_words.specs.Lines.{ReadsAs, line_of}
 use Rattle.query_words.specs.declared.line.Line.{Line}
-use Rattle.brin_app.proofs.Asking.{asked_line, asked_unread}
+use Rattle.brin_app.proofs.Heeding.{asked_line, asked_unread}
 use Rattle.brin_app.proofs.Saying.{stopped_line, stopped_unread}
 use Rattle.brin_app.proofs.asking.ask_line.Goals as goal
 

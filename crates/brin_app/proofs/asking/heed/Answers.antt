@@ -5,7 +5,7 @@ use Rattle.demo_script.specs.declared.answer.Answer.TheVariants as answers
 use Rattle.brin_app.specs.Asking.{IsAnswered}
 use Rattle.brin_app.specs.Leading.{PlacesLead, PlacesStop}
 use Rattle.brin_app.specs.Orders.{IsStoppedSaying}
-use Rattle.brin_app.proofs.Asking.{nothing_answered}
+use Rattle.brin_app.proofs.Heeding.{nothing_answered}
 use Rattle.brin_app.proofs.Leading.{led_still}
 use Rattle.brin_app.proofs.asking.heed.Goals as goal
 
