@@ -55,9 +55,8 @@ pub fn insert_on<D: Disk + Drop>(
     steps_of_an_insert();
     one_hand_changes();
     an_undone_step_changes_nothing(parts);
-    match parts.pages.ready() {
-        Ok(()) => {}
-        Err(error) => return undone(insert, fault_of(error)),
+    if let Err(error) = parts.pages.ready() {
+        return undone(insert, fault_of(error));
     }
     let index = insert.index();
     match insert.step(
@@ -67,13 +66,10 @@ pub fn insert_on<D: Disk + Drop>(
         session,
     ) {
         Ok(Did::Moved(point)) => {
-            parts
-                .dropped
-                .set(session, parts.pages.layout(), insert.dropped());
-            Stepped::Moved {
-                point,
-                hand: Hand::Inserts(insert),
-            }
+            let layout = parts.pages.layout();
+            parts.dropped.set(session, layout, insert.dropped());
+            let hand = Hand::Inserts(insert);
+            Stepped::Moved { point, hand }
         }
         Ok(Did::Finished(_)) => Stepped::Done(answered(insert, spare)),
         Ok(Did::Blocked(held)) => Stepped::Blocked {

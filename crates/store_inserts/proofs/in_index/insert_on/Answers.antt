@@ -98,10 +98,10 @@ set-requires-clause-few g c =
     let after = c.step.new.self in
     let fits = c.an_undone_step_changes_nothing.ensures.parts parts c.args.session (hands.Inserts c.args.insert) c.requires.fit in
     let some = stands_still c.args.insert.place after.place fits.in_hand.3 c.in-Ok-Moved.ensures.placed in
-    dropped_within parts.pages.layout c.layout.result.now (c.layout.ensures ∙ c.step.ensures.others.leaves.layout) after c.dropped.result.now c.dropped.ensures c.step.ensures.made (rw c.in-Ok-Moved.field-0-is at c.in-Ok-Moved.ensures.left) some
+    dropped_within parts.pages.layout c.layout-layout.result.now (c.layout-layout.ensures ∙ c.step.ensures.others.leaves.layout) after c.dropped.result.now c.dropped.ensures c.step.ensures.made (rw c.in-Ok-Moved.field-0-is at c.in-Ok-Moved.ensures.left) some
 
 pub set-requires-clause-named : goal.set-requires-clause-named
-set-requires-clause-named g c = dropped_named c.args.parts.now.pages.layout c.layout.result.now (c.layout.ensures ∙ c.step.ensures.others.leaves.layout) c.step.new.self c.dropped.result.now c.dropped.ensures c.step.ensures.made
+set-requires-clause-named g c = dropped_named c.args.parts.now.pages.layout c.layout-layout.result.now (c.layout-layout.ensures ∙ c.step.ensures.others.leaves.layout) c.step.new.self c.dropped.result.now c.dropped.ensures c.step.ensures.made
 
 pub returns-in-Ok-Moved : goal.returns-in-Ok-Moved
 returns-in-Ok-Moved g c =
@@ -110,7 +110,7 @@ returns-in-Ok-Moved g c =
     let outcome = c.in-Ok-Moved.ensures.outcome in
     let laws = c.an_undone_step_changes_nothing.ensures in
     let after = c.step.new.self in
-    let named = c.set.ensures.own ∙ ap (λ (l : DiskLayout). named_requests l c.dropped.result.now) (c.layout.ensures ∙ c.step.ensures.others.leaves.layout) ∙ ap (λ (l : List (ℕ × ℕ)). named_requests parts.pages.layout l) c.dropped.ensures in
+    let named = c.set.ensures.own ∙ ap (λ (l : DiskLayout). named_requests l c.dropped.result.now) (c.layout-layout.ensures ∙ c.step.ensures.others.leaves.layout) ∙ ap (λ (l : List (ℕ × ℕ)). named_requests parts.pages.layout l) c.dropped.ensures in
     let so = moved_so g.D.Disk.told c.one_hand_changes.ensures laws.parts laws.stores parts c.step.new.pages c.step.new.locks c.args.session c.step.new.queue c.set.new.self c.args.insert after c.requires.fit
     (record { others = c.step.ensures.others; order = c.step.ensures.order; leaves = c.step.ensures.locks; counts = c.step.ensures.counts; made = c.step.ensures.made; row = c.step.ensures.same_row; ready = (outcome.0, outcome.1) })
     c.set.ensures.others
