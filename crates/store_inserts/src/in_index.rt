@@ -19,7 +19,7 @@ ghost use Rattle.store_parts.specs.Stepping.{IsFit, IsShown, LeavesTheOthers, Ma
 
 use crate::entering::{answered, refuse};
 use crate::laws::steps_of_an_insert;
-use block_model::{Refusal, Reply, Row, Tag};
+use block_model::{Point, Refusal, Reply, Row, Tag};
 use brin_insert::Insert;
 use disk_trait::Disk;
 use page_locks::Did;
@@ -68,8 +68,7 @@ pub fn insert_on<D: Disk + Drop>(
         Ok(Did::Moved(point)) => {
             let layout = parts.pages.layout();
             parts.dropped.set(session, layout, insert.dropped());
-            let hand = Hand::Inserts(insert);
-            Stepped::Moved { point, hand }
+            moved(point, insert)
         }
         Ok(Did::Finished(_)) => Stepped::Done(answered(insert, spare)),
         Ok(Did::Blocked(held)) => Stepped::Blocked {
@@ -91,6 +90,16 @@ pub fn insert_on<D: Disk + Drop>(
             undone(insert, fault_of(error))
         }
         Err(MachineFault::Memory) => unreachable!(),
+    }
+}
+
+/// The step is made, and the insert goes on.
+fn moved(point: Point, insert: Insert) -> Stepped
+    ensures { result ≡ Stepped.Moved point (Hand.Inserts insert) }
+{
+    Stepped::Moved {
+        point,
+        hand: Hand::Inserts(insert),
     }
 }
 

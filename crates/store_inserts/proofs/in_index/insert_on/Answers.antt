@@ -116,7 +116,8 @@ returns-in-Ok-Moved g c =
     c.set.ensures.others
     c.steps_of_an_insert.ensures.index c.in-Ok-Moved.point (rw c.in-Ok-Moved.field-0-is at c.in-Ok-Moved.ensures.stepped) (rw c.in-Ok-Moved.field-0-is at c.in-Ok-Moved.ensures.left) c.in-Ok-Moved.ensures.placed
     (c.in-Ok-Moved.ensures.own (laws.parts parts c.args.session hand c.requires.fit).own) named c.in-Ok-Moved.ensures.asked in
-    record { steps = so.steps; fit = so.fit; others = so.others; stays = so.stays; cause = so.cause; spare = c.requires.spare; survives = c.step.ensures.survives }
+    let told_so = subst (λ (a : Stepped). StepsSo g.D.Disk.told parts _ c.args.session hand a) (sym c.moved.ensures) so in
+    record { steps = told_so.steps; fit = told_so.fit; others = told_so.others; stays = told_so.stays; cause = told_so.cause; spare = c.requires.spare; survives = c.step.ensures.survives }
 
 -- it is done
 
