@@ -76,7 +76,8 @@ class Server:
         return subprocess.run(words, check=True, stdout=subprocess.PIPE, text=True, cwd="/", **how).stdout
 
     def sql(self, text):
-        return self.run(["psql", "-h", self.socket, "-U", "postgres", "-v", "ON_ERROR_STOP=1", "-qAt", "-d", "postgres", "-c", text])
+        """What the statements answer, each of them in a transaction of its own."""
+        return self.run(["psql", "-h", self.socket, "-U", "postgres", "-v", "ON_ERROR_STOP=1", "-qAtX", "-d", "postgres"], input=text)
 
     def stop(self):
         self.run(["pg_ctl", "-D", self.data, "-m", "fast", "-w", "stop"])
