@@ -55,8 +55,9 @@ pub fn insert_on<D: Disk + Drop>(
     steps_of_an_insert();
     one_hand_changes();
     an_undone_step_changes_nothing(parts);
-    if let Err(error) = parts.pages.ready() {
-        return undone(insert, fault_of(error));
+    match parts.pages.ready() {
+        Ok(()) => {}
+        Err(error) => return undone(insert, fault_of(error)),
     }
     let index = insert.index();
     match insert.step(

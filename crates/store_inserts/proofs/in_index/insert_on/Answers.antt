@@ -15,12 +15,14 @@ use Rattle.block_model.specs.declared.reply.Point.TheVariants as points
 use Rattle.brin_insert.specs.AskedFor.{InsertAsks}
 use Rattle.brin_insert.specs.InsertHands.{InsertHand}
 use Rattle.brin_insert.specs.Inserts.{IsInsertFor}
+use Rattle.store_parts.specs.declared.hand.Hand.{Hand}
 use Rattle.store_parts.specs.declared.hand.Hand.TheVariants as hands
 use Rattle.store_parts.specs.declared.hand.Stepped.{Stepped}
 use Rattle.store_parts.specs.declared.hand.Stepped.TheVariants as stepped
 use Rattle.store_parts.specs.declared.faults.StoreFault.TheVariants as stops
 use Rattle.store_parts.specs.declared.faults.StoreFault.{StoreFault}
 use Rattle.store_parts.specs.StoreFaults.{fault_of}
+use Rattle.disk_trait.specs.Told.{Told}
 use Rattle.store_parts.specs.UndoneLaws.{StepsSo}
 use Rattle.std.proofs.lemmas.Bool.{false≢true}
 use Rattle.block_model.specs.declared.place.Spot.{Spot}
@@ -43,6 +45,10 @@ use Rattle.store_inserts.proofs.FewDropped.{dropped_named, dropped_within, silen
 use Rattle.store_inserts.proofs.OnParts.{done_so, full_so, moved_so, none_left, number_at, spent_so, waited_there, waits_so}
 use Rattle.store_inserts.proofs.Refusing.{LeftRefused, LeftUndone, leaves_same, share_whole, undone_so}
 use Rattle.store_inserts.proofs.in_index.insert_on.Goals as goal
+
+-- an answer that is the same
+as_answered : {D : Type 0} {told : D → Told} {parts new : Parts D} {n : ℕ} {hand : Hand} {a b : Stepped} → b ≡ a → StepsSo told parts new n hand a → StepsSo told parts new n hand b
+as_answered {D} {told} {parts} {new} {n} {hand} {a} {b} is so = subst (λ (s : Stepped). StepsSo told parts new n hand s) (sym is) so
 
 -- the pages refuse it before it
 
@@ -85,7 +91,7 @@ pub page_waited_for-requires : goal.page_waited_for-requires
 page_waited_for-requires g c =
     let parts = c.args.parts.now in
     let fits = c.an_undone_step_changes_nothing.ensures.parts parts c.args.session (hands.Inserts c.args.insert) c.requires.fit in
-    number_at parts.pages.layout c.layout-in-Ok-Blocked.result.now c.args.insert fits.in_hand.1 fits.in_hand.2 fits.in_hand.3 c.index-index.result c.index-index.ensures (c.layout-in-Ok-Blocked.ensures ∙ c.step.ensures.others.leaves.layout)
+    number_at parts.pages.layout c.layout.result.now c.args.insert fits.in_hand.1 fits.in_hand.2 fits.in_hand.3 c.index-index.result c.index-index.ensures (c.layout.ensures ∙ c.step.ensures.others.leaves.layout)
 
 -- it goes on
 
@@ -116,7 +122,7 @@ returns-in-Ok-Moved g c =
     c.set.ensures.others
     c.steps_of_an_insert.ensures.index c.in-Ok-Moved.point (rw c.in-Ok-Moved.field-0-is at c.in-Ok-Moved.ensures.stepped) (rw c.in-Ok-Moved.field-0-is at c.in-Ok-Moved.ensures.left) c.in-Ok-Moved.ensures.placed
     (c.in-Ok-Moved.ensures.own (laws.parts parts c.args.session hand c.requires.fit).own) named c.in-Ok-Moved.ensures.asked in
-    let told_so = subst (λ (a : Stepped). StepsSo g.D.Disk.told parts _ c.args.session hand a) (sym c.moved.ensures) so in
+    let told_so = as_answered c.moved.ensures so in
     record { steps = told_so.steps; fit = told_so.fit; others = told_so.others; stays = told_so.stays; cause = told_so.cause; spare = c.requires.spare; survives = c.step.ensures.survives }
 
 -- it is done
@@ -162,7 +168,7 @@ returns-in-Ok-Blocked g c =
     c.steps_of_an_insert.ensures.index.waits c.steps_of_an_insert.ensures.index.stays c.steps_of_an_insert.ensures.index.leads c.steps_of_an_insert.ensures.index.alike c.in-Ok-Blocked.held
     (rw c.in-Ok-Blocked.field-0-is at c.in-Ok-Blocked.ensures.stepped) (rw c.in-Ok-Blocked.field-0-is at c.in-Ok-Blocked.ensures.left) c.in-Ok-Blocked.ensures.placed (rw c.in-Ok-Blocked.field-0-is at c.in-Ok-Blocked.ensures.blocked)
     (c.in-Ok-Blocked.ensures.own fits.own) quiet.0 refl quiet.1 c.index-index.result c.index-index.ensures c.page_waited_for.result
-    (waited_there parts.pages.layout c.layout-in-Ok-Blocked.result.now (c.layout-in-Ok-Blocked.ensures ∙ c.step.ensures.others.leaves.layout) c.index-index.result c.in-Ok-Blocked.held.page.block c.page_waited_for.result c.page_waited_for.ensures.among) in
+    (waited_there parts.pages.layout c.layout.result.now (c.layout.ensures ∙ c.step.ensures.others.leaves.layout) c.index-index.result c.in-Ok-Blocked.held.page.block c.page_waited_for.result c.page_waited_for.ensures.among) in
     record { steps = so.steps; fit = so.fit; others = so.others; stays = so.stays; cause = so.cause; spare = c.requires.spare; survives = c.step.ensures.survives }
 
 pub unreachable-requires : goal.unreachable-requires
