@@ -55,8 +55,7 @@ some_round seed rows round =
     let begun = some_lines (each_session (codes "begin")) in
     let put = some_rows seed (400 * round) (rows_of_round rows round) opened.1.0 in
     let closed = some_closing put.1.0 in
-    let ended = some_lines (each_session (codes "commit")) in
-    (
+    let ended = some_lines (each_session (codes "commit")) in (
       opened.0 ++ begun.0 ++ put.0 ++ closed.0 ++ ended.0,
       record {
         opened = opened.0;

@@ -36,7 +36,7 @@ module _ {S : Type 0} (R : S → List ℕ → Answer → S → Type 0) (rows : �
       → HasFound R rows s w (found_rows first ∷ found_rows second ∷ found_rows third ∷ found_rows fourth ∷ [])
   found_all t u v w text is first second third fourth a b c d = record {
     said = record { line = select_line (middle_conditions rows); answer = first } ∷ record { line = select_line (codes "v = 7"); answer = second }
-    ∷ record { line = select_line (codes "r @> [500,501)"); answer = third } ∷ record { line = select_line (codes "a = 10.0.0.7"); answer = fourth } ∷ [];
+        ∷ record { line = select_line (codes "r @> [500,501)"); answer = third } ∷ record { line = select_line (codes "a = 10.0.0.7"); answer = fourth } ∷ [];
     are_selects = refl;
     answers = (t, subst (λ (l : List ℕ). R s l first t) is a, (u, b, (v, c, (w, d, refl))));
     counted = refl;
@@ -59,13 +59,13 @@ looked {S} {R} {rows} {s} {t} {u} {m} {found} prepared some v w explained ended 
     let four : length some.said ≡ 4 = many_said (selects rows) some.said some.are_selects in
     let seven : length front ≡ 7 = omega (arith, length-append prepared.said some.said) in
     let at = λ (n k : ℕ) (is : length prepared.said + k ≡ n) (within : n < length front).
-      answer_of-front front tail n within ∙ ap (answer_of front) (sym is) ∙ answer_of-behind prepared.said some.said k in
+    answer_of-front front tail n within ∙ ap (answer_of front) (sym is) ∙ answer_of-behind prepared.said some.said k in
     record {
       last = front ++ tail;
       are_last = Says-append (prepares ++ selects rows) (ends rows) front tail (Says-append prepares (selects rows) prepared.said some.said prepared.part some.are_selects) refl;
       answers = AreSaid-append R s u w front tail (AreSaid-append R s t u prepared.said some.said prepared.answers some.answers) (v, a, (w, b, refl));
       first = some.counted ∙ sym (λ i. found_rows (at 3 0 (omega arith) (omega arith) i) ∷ found_rows (at 4 1 (omega arith) (omega arith) i) ∷ found_rows (at 5 2 (omega arith) (omega arith) i)
-        ∷ found_rows (at 6 3 (omega arith) (omega arith) i) ∷ []);
+          ∷ found_rows (at 6 3 (omega arith) (omega arith) i) ∷ []);
       read_blocks = let is : length front + 0 ≡ 7 = omega arith in ap named_blocks (sym (sym (ap (answer_of (front ++ tail)) is) ∙ answer_of-behind front tail 0));
     }
 

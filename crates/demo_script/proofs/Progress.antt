@@ -51,8 +51,8 @@ module _ {S : Type 0} {R : S → List ℕ → Answer → S → Type 0} {U : S �
     said = far.said ++ one.said;
     far = said_more far.far one;
     onward = λ rest end h.
-    subst (λ (l : List Said). AreRows seed first count busy l end) (sym (append_assoc far.said one.said rest))
-    (next_rows left' is one.said between one.part rest end (subst (λ (r : ℕ). AreRows seed r left' between rest end) (add-one row) h));
+        subst (λ (l : List Said). AreRows seed first count busy l end) (sym (append_assoc far.said one.said rest))
+        (next_rows left' is one.said between one.part rest end (subst (λ (r : ℕ). AreRows seed r left' between rest end) (add-one row) h));
   }
 
   pub all_rows : left ≡ 0 → IsSaid R (λ (said : List Said). AreRows seed first count busy said now) s t m
@@ -95,7 +95,7 @@ module _ {S : Type 0} {R : S → List ℕ → Answer → S → Type 0} {U : S �
     said = far.said ++ one.said;
     far = said_more far.far one;
     onward = λ rest h.
-    subst (AreRounds seed rows 0 count) (sym (append_assoc far.said one.said rest)) (next_rounds left' is one.said one.part rest (subst (λ (r : ℕ). AreRounds seed rows r left' rest) (add-one round) h));
+        subst (AreRounds seed rows 0 count) (sym (append_assoc far.said one.said rest)) (next_rounds left' is one.said one.part rest (subst (λ (r : ℕ). AreRounds seed rows r left' rest) (add-one round) h));
   }
 
   pub all_rounds : left ≡ 0 → IsSaid R (AreRounds seed rows 0 count) s t m

@@ -149,8 +149,7 @@ module _ {S : Type 0} {R : S → List ℕ → Answer → S → Type 0} {U : S �
               said = opened.said ++ begun.said ++ put.said ++ closed.said ++ ended.said;
               part = joined opened.said begun.said put.said closed.said ended.said busy busy' opened.part begun.part put.part closed.part ended.part;
               answers = AreSaid-append R s w x (opened.said ++ begun.said ++ put.said ++ closed.said) ended.said four ended.answers;
-              counted = omega
-              (
+              counted = omega (
                 arith,
                 inserted_rows-append (opened.said ++ begun.said ++ put.said ++ closed.said) ended.said,
                 inserted_rows-append (opened.said ++ begun.said ++ put.said) closed.said,

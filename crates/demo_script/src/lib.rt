@@ -5,9 +5,10 @@
 
 mod answer;
 mod counts;
+mod demo;
+mod heard;
 mod last;
 mod lines;
-mod play;
 mod round;
 mod row;
 #[cfg(test)]
@@ -15,4 +16,4 @@ mod tests;
 
 pub use answer::{Answer, Answerer};
 pub use counts::{Counts, render_summary};
-pub use play::play;
+pub use demo::play;

@@ -5,6 +5,7 @@ ghost use Rattle.demo_script.specs.Conversation.{AreRounds, AreRows, Closes, IsR
 ghost use Rattle.demo_script.specs.Saying.{IsCut, IsSaid, LeavesKeeper};
 
 use crate::answer::Answerer;
+use crate::heard::say;
 use crate::row::{Ending, say_row};
 use script_run::AnswerFault;
 
@@ -68,10 +69,10 @@ fn open_round<A: Answerer>(answerer: &mut A, round: u32) -> Result<Ending, Answe
             rows: 0,
         });
     }
-    let answer = answerer.ask(b"m start summarize di")?;
+    let heard = say(answerer, b"m start summarize di")?;
     Ok(Ending {
-        busy: answer.has_hand(),
-        rows: answer.inserted(),
+        busy: heard.busy,
+        rows: heard.rows,
     })
 }
 
@@ -112,8 +113,8 @@ fn close_round<A: Answerer>(answerer: &mut A, busy: bool) -> Result<u64, AnswerF
     if !busy {
         return Ok(0);
     }
-    let answer = answerer.ask(b"m finish")?;
-    Ok(answer.inserted())
+    let heard = say(answerer, b"m finish")?;
+    Ok(heard.rows)
 }
 
 /// Says the lines one after the other, and counts the rows that are inserted.
@@ -125,8 +126,8 @@ pub fn say_all<A: Answerer>(answerer: &mut A, lines: &[&[u8]]) -> Result<u64, An
 {
     let mut inserted = 0;
     'lines: for line in lines {
-        let answer = answerer.ask(line)?;
-        inserted += answer.inserted();
+        let heard = say(answerer, line)?;
+        inserted += heard.rows;
     }
     Ok(inserted)
 }
