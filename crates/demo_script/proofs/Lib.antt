@@ -5,3 +5,4 @@ pub mod RoundParts
 pub mod Progress
 pub mod LineParts
 pub mod LastParts
+pub mod Texts

@@ -1,7 +1,7 @@
 -- one row, part by part
-use Rattle.std.proofs.Common.{◌≡◌, ℕ, ◌+◌, Bool, true, false, List, [], ◌∷◌, ◌++◌, codes, refl, sym, ap, ◌∙◌, subst, inl, inr, append_assoc, add-zero, arith}
+use Rattle.std.proofs.Common.{◌≡◌, ℕ, ◌+◌, Bool, true, false, not, List, [], ◌∷◌, ◌++◌, codes, refl, sym, ap, ◌∙◌, subst, inl, inr, append_assoc, add-zero, arith}
 use Rattle.std.proofs.lemmas.List.{append-nil}
-use Rattle.std.proofs.lemmas.Bool.{false≢true}
+use Rattle.std.proofs.lemmas.Bool.{false≢true, not-false, not-true}
 use Rattle.script_run.specs.declared.engine.AnswerFault.{AnswerFault}
 use Rattle.script_run.specs.declared.engine.AnswerFault.TheVariants.{Memory}
 use Rattle.demo_script.specs.declared.answer.Answer.{Answer}
@@ -53,17 +53,17 @@ module _ {S : Type 0} (R : S → List ℕ → Answer → S → Type 0) (U : S �
       let some = some_put seed row busy in
       cut_at_line R U (LeavesKeeper (Puts seed row busy)) s s s' fault [] refl (insert_line seed row) (committed []).answer [] some.1 u
 
-  pub said_insert : (t : S) (heard : Heard) → heard.blocked ≡ false → Hears R s (insert_line seed row) heard t → IsSaid R (λ (said : List Said). Puts seed row busy said busy) s t heard.rows
+  pub said_insert : (t : S) (heard : Heard) → not heard.blocked ≡ true → Hears R s (insert_line seed row) heard t → IsSaid R (λ (said : List Said). Puts seed row busy said busy) s t heard.rows
   said_insert t heard unblocked h =
-      one_said R (λ (said : List Said). Puts seed row busy said busy) s t (insert_line seed row) heard h (inl (h.answer, sym h.tells.blocked ∙ unblocked, refl, refl))
+      one_said R (λ (said : List Said). Puts seed row busy said busy) s t (insert_line seed row) heard h (inl (h.answer, sym h.tells.blocked ∙ not-true heard.blocked unblocked, refl, refl))
 
   -- behind an insert that is blocked
-  module _ (t : S) (first : Heard) (is_so : first.blocked ≡ true) (h : Hears R s (insert_line seed row) first t) where
+  module _ (t : S) (first : Heard) (is_so : not first.blocked ≡ false) (h : Hears R s (insert_line seed row) first t) where
     asked : AreSaid R s (record { line = insert_line seed row; answer = h.answer } ∷ []) t
     asked = (t, h.answers, refl)
 
     blocked : is_blocked h.answer ≡ true
-    blocked = sym h.tells.blocked ∙ is_so
+    blocked = sym h.tells.blocked ∙ not-false first.blocked is_so
 
     pub cut_keeper : (s' : S) (fault : AnswerFault) → U t (keeper (codes "finish")) fault s' → IsCut R U (LeavesKeeper (Puts seed row busy)) s s' fault
     cut_keeper s' fault u =
