@@ -1,6 +1,8 @@
 -- lines that are said one after the other, whatever they are answered
-use Rattle.std.proofs.Common.{◌≡◌, ℕ, zero, suc, ◌+◌, ◌<◌, List, [], ◌∷◌, ◌++◌, length, map, refl, sym, ap, ◌∙◌, subst, append_assoc, zero-add, arith}
-use Rattle.std.proofs.lemmas.List.{append-nil}
+use Rattle.std.proofs.Common.{◌≡◌, ℕ, zero, suc, ◌+◌, ◌<◌, ◌≤◌, List, [], ◌∷◌, ◌++◌, length, map, drop, get_or, add-one, refl, sym, ap, ◌∙◌, subst, append_assoc, zero-add, arith}
+use Rattle.std.proofs.lemmas.List.{append-nil, drop_all}
+use Rattle.std.proofs.Math.Seq.{drop-cons}
+use Rattle.std.specs.Borrow.{Bor}
 use Rattle.script_run.specs.declared.engine.AnswerFault.{AnswerFault}
 use Rattle.script_run.specs.declared.engine.AnswerFault.TheVariants.{Memory}
 use Rattle.demo_script.specs.declared.answer.Answer.{Answer}
@@ -12,6 +14,16 @@ use Rattle.demo_script.specs.Summary.{answer_of, inserted, inserted_rows}
 use Rattle.demo_script.proofs.Joins.{cut_at_line, cut_at_memory, cut_behind, one_said}
 use Rattle.demo_script.proofs.Endings.{committed, some_lines}
 use Rattle.demo_script.proofs.Progress.{SaidSoFar, said_more}
+
+-- the bytes of the lines
+abbrev pub texts_of : List (Bor (List ℕ)) → List (List ℕ)
+texts_of lines = map (λ (line : Bor (List ℕ)). line.now) lines
+
+pub next_text : (lines : List (Bor (List ℕ))) (i : ℕ) (d : Bor (List ℕ)) → i < length lines → texts_of (drop i lines) ≡ (get_or lines i d).now ∷ texts_of (drop (i + 1) lines)
+next_text lines i d h = ap texts_of (drop-cons lines i d h) ∙ ap (λ (k : ℕ). (get_or lines i d).now ∷ texts_of (drop k lines)) (sym (add-one i))
+
+pub no_text : (lines : List (Bor (List ℕ))) (i : ℕ) → length lines ≤ i → texts_of (drop i lines) ≡ []
+no_text lines i h = ap texts_of (drop_all i lines h)
 
 -- Some of these lines were said: whatever is said to those that are left, all are said behind it.
 pub record LinesSoFar {S : Type 0} (R : S → List ℕ → Answer → S → Type 0) (lines : List (List ℕ)) (s t : S) (left : List (List ℕ)) (n : ℕ) : Type 0 where

@@ -9,6 +9,9 @@ use crate::heard::say;
 use crate::row::{Ending, say_row};
 use script_run::AnswerFault;
 
+/// The rows of a round.
+const ROUND_ROWS: u32 = 400;
+
 const BEGINS: [&[u8]; 4] = [b"d0 begin", b"d1 begin", b"d2 begin", b"d3 begin"];
 
 const COMMITS: [&[u8]; 4] = [b"d0 commit", b"d1 commit", b"d2 commit", b"d3 commit"];
@@ -26,7 +29,7 @@ pub fn say_rounds<A: Answerer>(
     ensures cut { IfErr result (IsCut A.answers A.stops (AreRounds seed rows 0 (rounds_of rows)) answerer.old answerer.new) }
 {
     let mut inserted = 0;
-    'rounds: for round in 0..rows.div_ceil(400) {
+    'rounds: for round in 0..rows.div_ceil(ROUND_ROWS) {
         inserted += say_round(answerer, line, seed, rows, round)?;
     }
     Ok(inserted)
@@ -49,8 +52,8 @@ fn say_round<A: Answerer>(
 {
     let opened = open_round(answerer, round)?;
     let begun = say_all(answerer, &BEGINS)?;
-    let first = 400 * round;
-    let count = (rows - first).min(400);
+    let first = ROUND_ROWS * round;
+    let count = ROUND_ROWS.min(rows - first);
     let put = say_rows(answerer, line, seed, first, count, opened.busy)?;
     let closed = close_round(answerer, put.busy)?;
     let committed = say_all(answerer, &COMMITS)?;
