@@ -21,10 +21,10 @@ some_lines (line ∷ lines) =
     let rest = some_lines lines in
     (committed line ∷ rest.0, ap (λ (ls : List (List ℕ)). line ∷ ls) rest.1)
 
-pub some_put : (seed row : ℕ) (busy : Bool) → Some (LeavesKeeper (Puts seed row busy))
+abbrev pub some_put : (seed row : ℕ) (busy : Bool) → Some (LeavesKeeper (Puts seed row busy))
 some_put seed row busy = (committed (insert_line seed row) ∷ [], (busy, inl ((committed []).answer, refl, refl, refl)))
 
-pub some_step : (busy : Bool) → Some (LeavesKeeper (StepsOn busy))
+abbrev pub some_step : (busy : Bool) → Some (LeavesKeeper (StepsOn busy))
 some_step false = ([], (false, (refl, refl)))
 some_step true = (committed (keeper (codes "step")) ∷ [], (false, ((committed []).answer, refl, refl)))
 
@@ -41,11 +41,11 @@ some_rows seed row (suc count) busy =
     let rest = some_rows seed (suc row) count first.1.0 in
     (first.0 ++ rest.0, (rest.1.0, (first.0, rest.0, first.1.0, first.1.1, rest.1.1, refl)))
 
-pub some_opening : (round : ℕ) → Some (LeavesKeeper (Opens round))
+abbrev pub some_opening : (round : ℕ) → Some (LeavesKeeper (Opens round))
 some_opening zero = ([], (false, (refl, refl)))
 some_opening (suc round) = (committed (keeper (codes "start summarize di")) ∷ [], (false, ((committed []).answer, refl, refl)))
 
-pub some_closing : (busy : Bool) → Some (Closes busy)
+abbrev pub some_closing : (busy : Bool) → Some (Closes busy)
 some_closing false = ([], refl)
 some_closing true = some_lines (keeper (codes "finish") ∷ [])
 
@@ -55,8 +55,7 @@ some_round seed rows round =
     let begun = some_lines (each_session (codes "begin")) in
     let put = some_rows seed (400 * round) (rows_of_round rows round) opened.1.0 in
     let closed = some_closing put.1.0 in
-    let ended = some_lines (each_session (codes "commit")) in
-    (
+    let ended = some_lines (each_session (codes "commit")) in (
       opened.0 ++ begun.0 ++ put.0 ++ closed.0 ++ ended.0,
       record {
         opened = opened.0;

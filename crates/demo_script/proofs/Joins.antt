@@ -3,9 +3,10 @@ use Rattle.std.proofs.Common.{◌≡◌, ◌⊎◌, ℕ, ◌+◌, List, [], ◌�
 use Rattle.script_run.specs.declared.engine.AnswerFault.{AnswerFault}
 use Rattle.script_run.specs.declared.engine.AnswerFault.TheVariants.{Memory}
 use Rattle.demo_script.specs.declared.answer.Answer.{Answer}
+use Rattle.demo_script.specs.declared.heard.Heard.{Heard}
 use Rattle.demo_script.specs.Conversation.{Said}
 use Rattle.demo_script.specs.Played.{AreSaid}
-use Rattle.demo_script.specs.Saying.{IsCut, IsFrontOf, IsSaid}
+use Rattle.demo_script.specs.Saying.{Hears, IsCut, IsFrontOf, IsSaid}
 use Rattle.demo_script.specs.Summary.{inserted, inserted_rows}
 
 -- lines are said behind others
@@ -19,13 +20,13 @@ inserted_rows-append (s ∷ a) b =
     ap (λ n. inserted s.answer + n) (inserted_rows-append a b) ∙ sym (add_assoc (inserted s.answer) (inserted_rows a) (inserted_rows b))
 
 -- one line was said
-pub one_said : {S : Type 0} (R : S → List ℕ → Answer → S → Type 0) (P : List Said → Type 0) (s t : S) (line : List ℕ) (answer : Answer) → R s line answer t
-    → P (record { line = line; answer = answer } ∷ []) → IsSaid R P s t (inserted answer)
-one_said R P s t line answer r p = record {
-  said = record { line = line; answer = answer } ∷ [];
+pub one_said : {S : Type 0} (R : S → List ℕ → Answer → S → Type 0) (P : List Said → Type 0) (s t : S) (line : List ℕ) (heard : Heard) → (h : Hears R s line heard t)
+    → P (record { line = line; answer = h.answer } ∷ []) → IsSaid R P s t heard.rows
+one_said R P s t line heard h p = record {
+  said = record { line = line; answer = h.answer } ∷ [];
   part = p;
-  answers = (t, r, refl);
-  counted = sym (add-zero (inserted answer));
+  answers = (t, h.answers, refl);
+  counted = h.tells.rows ∙ sym (add-zero (inserted h.answer));
 }
 
 -- one part was said, and then another

@@ -5,10 +5,11 @@ use Rattle.script_run.specs.declared.engine.AnswerFault.{AnswerFault}
 use Rattle.script_run.specs.declared.engine.AnswerFault.TheVariants.{Memory}
 use Rattle.demo_script.specs.declared.answer.Answer.{Answer}
 use Rattle.demo_script.specs.declared.counts.Counts.{Counts}
+use Rattle.demo_script.specs.declared.heard.Heard.{Heard}
 use Rattle.demo_script.specs.Conversation.{AreRounds, IsDemo, IsDemoFront, Said, Says, keeper, last_lines, rounds_of, selects}
 use Rattle.demo_script.specs.DemoLines.{middle_conditions, select_line}
 use Rattle.demo_script.specs.Played.{AreSaid, HasPlayed, HasStopped}
-use Rattle.demo_script.specs.Saying.{HasFound, HasLooked, IsCut, IsFrontOf, IsSaid}
+use Rattle.demo_script.specs.Saying.{HasFound, HasLooked, Hears, IsCut, IsFrontOf, IsSaid}
 use Rattle.demo_script.specs.Summary.{answer_of, found_rows, inserted_rows, named_blocks}
 use Rattle.demo_script.proofs.Joins.{AreSaid-append, cut_behind, cut_first}
 use Rattle.demo_script.proofs.Endings.{some_lines}
@@ -31,15 +32,15 @@ module _ {S : Type 0} (R : S → List ℕ → Answer → S → Type 0) (rows : �
   pub none_found : LinesSoFar R (selects rows) s s (selects rows) 0
   none_found = no_lines R (selects rows) s
 
-  pub found_all : (t u v w : S) (text : List ℕ) → text ≡ select_line (middle_conditions rows) → (first second third fourth : Answer) → R s text first t → R t (select_line (codes "v = 7")) second u
-      → R u (select_line (codes "r @> [500,501)")) third v → R v (select_line (codes "a = 10.0.0.7")) fourth w
-      → HasFound R rows s w (found_rows first ∷ found_rows second ∷ found_rows third ∷ found_rows fourth ∷ [])
-  found_all t u v w text is first second third fourth a b c d = record {
-    said = record { line = select_line (middle_conditions rows); answer = first } ∷ record { line = select_line (codes "v = 7"); answer = second }
-    ∷ record { line = select_line (codes "r @> [500,501)"); answer = third } ∷ record { line = select_line (codes "a = 10.0.0.7"); answer = fourth } ∷ [];
+  pub found_all : (t u v w : S) (first second third fourth : Heard) → Hears R s (select_line (middle_conditions rows)) first t → Hears R t (select_line (codes "v = 7")) second u
+      → Hears R u (select_line (codes "r @> [500,501)")) third v → Hears R v (select_line (codes "a = 10.0.0.7")) fourth w
+      → HasFound R rows s w (first.found ∷ second.found ∷ third.found ∷ fourth.found ∷ [])
+  found_all t u v w first second third fourth a b c d = record {
+    said = record { line = select_line (middle_conditions rows); answer = a.answer } ∷ record { line = select_line (codes "v = 7"); answer = b.answer }
+    ∷ record { line = select_line (codes "r @> [500,501)"); answer = c.answer } ∷ record { line = select_line (codes "a = 10.0.0.7"); answer = d.answer } ∷ [];
     are_selects = refl;
-    answers = (t, subst (λ (l : List ℕ). R s l first t) is a, (u, b, (v, c, (w, d, refl))));
-    counted = refl;
+    answers = (t, a.answers, (u, b.answers, (v, c.answers, (w, d.answers, refl))));
+    counted = λ i. a.tells.found i ∷ b.tells.found i ∷ c.tells.found i ∷ d.tells.found i ∷ [];
   }
 
 -- ---- all of the last lines
@@ -50,23 +51,23 @@ found_said some = record { said = some.said; part = some.are_selects; answers = 
 many_said : (lines : List (List ℕ)) (said : List Said) → Says lines said → length said ≡ length lines
 many_said lines said h = sym (length-map said (λ (s : Said). s.line)) ∙ ap length h
 
-pub looked : {S : Type 0} {R : S → List ℕ → Answer → S → Type 0} {rows : ℕ} {s t u : S} {m : ℕ} {found : List ℕ} → IsSaid R (Says prepares) s t m → HasFound R rows t u found → (v w : S) (explained ended : Answer)
-    → R u (explain_line rows) explained v → R v (codes "d0 commit") ended w → HasLooked R rows s w found (named_blocks explained)
+pub looked : {S : Type 0} {R : S → List ℕ → Answer → S → Type 0} {rows : ℕ} {s t u : S} {m : ℕ} {found : List ℕ} → IsSaid R (Says prepares) s t m → HasFound R rows t u found → (v w : S) (explained ended : Heard)
+    → Hears R u (explain_line rows) explained v → Hears R v (codes "d0 commit") ended w → HasLooked R rows s w found explained.read
 looked {S} {R} {rows} {s} {t} {u} {m} {found} prepared some v w explained ended a b =
-    let tail : List Said = record { line = explain_line rows; answer = explained } ∷ record { line = codes "d0 commit"; answer = ended } ∷ [] in
+    let tail : List Said = record { line = explain_line rows; answer = a.answer } ∷ record { line = codes "d0 commit"; answer = b.answer } ∷ [] in
     let front : List Said = prepared.said ++ some.said in
     let three : length prepared.said ≡ 3 = many_said prepares prepared.said prepared.part in
     let four : length some.said ≡ 4 = many_said (selects rows) some.said some.are_selects in
     let seven : length front ≡ 7 = omega (arith, length-append prepared.said some.said) in
     let at = λ (n k : ℕ) (is : length prepared.said + k ≡ n) (within : n < length front).
-      answer_of-front front tail n within ∙ ap (answer_of front) (sym is) ∙ answer_of-behind prepared.said some.said k in
+    answer_of-front front tail n within ∙ ap (answer_of front) (sym is) ∙ answer_of-behind prepared.said some.said k in
     record {
       last = front ++ tail;
       are_last = Says-append (prepares ++ selects rows) (ends rows) front tail (Says-append prepares (selects rows) prepared.said some.said prepared.part some.are_selects) refl;
-      answers = AreSaid-append R s u w front tail (AreSaid-append R s t u prepared.said some.said prepared.answers some.answers) (v, a, (w, b, refl));
+      answers = AreSaid-append R s u w front tail (AreSaid-append R s t u prepared.said some.said prepared.answers some.answers) (v, a.answers, (w, b.answers, refl));
       first = some.counted ∙ sym (λ i. found_rows (at 3 0 (omega arith) (omega arith) i) ∷ found_rows (at 4 1 (omega arith) (omega arith) i) ∷ found_rows (at 5 2 (omega arith) (omega arith) i)
-        ∷ found_rows (at 6 3 (omega arith) (omega arith) i) ∷ []);
-      read_blocks = let is : length front + 0 ≡ 7 = omega arith in ap named_blocks (sym (sym (ap (answer_of (front ++ tail)) is) ∙ answer_of-behind front tail 0));
+          ∷ found_rows (at 6 3 (omega arith) (omega arith) i) ∷ []);
+      read_blocks = let is : length front + 0 ≡ 7 = omega arith in a.tells.read ∙ ap named_blocks (sym (answer_of-behind front tail 0) ∙ ap (answer_of (front ++ tail)) is);
     }
 
 -- ---- the whole demo
@@ -75,14 +76,14 @@ looked {S} {R} {rows} {s} {t} {u} {m} {found} prepared some v w explained ended 
 abbrev pub IsWhole : ℕ → ℕ → List Said → Type 0
 IsWhole seed rows said = (rounds : List Said) × (last : List Said) × IsDemo seed rows rounds last × (said ≡ rounds ++ last)
 
-module _ {S : Type 0} {R : S → List ℕ → Answer → S → Type 0} {U : S → List ℕ → AnswerFault → S → Type 0} {seed rows : ℕ} {s s' : S} where
-  front_of : (front : List Said) → IsFrontOf (IsWhole seed rows) front → IsDemoFront seed rows front
-  front_of front is = record { rounds = is.1.0; last = is.1.1; rest = is.0; demo = is.1.2; is = is.1.3 }
+front_of : (seed rows : ℕ) (front : List Said) → IsFrontOf (IsWhole seed rows) front → IsDemoFront seed rows front
+front_of seed rows front is = record { rounds = is.1.0; last = is.1.1; rest = is.0; demo = is.1.2; is = is.1.3 }
 
-  stopped : {fault : AnswerFault} → IsCut R U (IsWhole seed rows) s s' fault → HasStopped R U seed rows s s' fault
-  stopped {fault} cut = record {
+module _ {S : Type 0} {R : S → List ℕ → Answer → S → Type 0} {seed rows : ℕ} {s s' : S} where
+  stopped : {U : S → List ℕ → AnswerFault → S → Type 0} {fault : AnswerFault} → IsCut R U (IsWhole seed rows) s s' fault → HasStopped R U seed rows s s' fault
+  stopped {U} {fault} cut = record {
     front = cut.front;
-    is_front = front_of cut.front cut.is_front;
+    is_front = front_of seed rows cut.front cut.is_front;
     state = cut.state;
     said = cut.answers;
     stops = at_end cut.stops;
@@ -90,10 +91,10 @@ module _ {S : Type 0} {R : S → List ℕ → Answer → S → Type 0} {U : S �
     where
       at_end : ((line : List ℕ) × (answer : Answer) × IsFrontOf (IsWhole seed rows) (cut.front ++ record { line = line; answer = answer } ∷ []) × U cut.state line fault s') ⊎ ((fault ≡ Memory) × (s' ≡ cut.state))
           → ((line : List ℕ) × (answer : Answer) × IsDemoFront seed rows (cut.front ++ record { line = line; answer = answer } ∷ []) × U cut.state line fault s') ⊎ ((fault ≡ Memory) × (s' ≡ cut.state))
-      at_end (inl h) = inl (h.0, h.1, front_of (cut.front ++ record { line = h.0; answer = h.1 } ∷ []) h.2, h.3)
+      at_end (inl h) = inl (h.0, h.1, front_of seed rows (cut.front ++ record { line = h.0; answer = h.1 } ∷ []) h.2, h.3)
       at_end (inr h) = inr h
 
-  pub stopped_rounds : {fault : AnswerFault} → IsCut R U (AreRounds seed rows 0 (rounds_of rows)) s s' fault → HasStopped R U seed rows s s' fault
+  pub stopped_rounds : {U : S → List ℕ → AnswerFault → S → Type 0} {fault : AnswerFault} → IsCut R U (AreRounds seed rows 0 (rounds_of rows)) s s' fault → HasStopped R U seed rows s s' fault
   stopped_rounds cut = stopped (cut_first (IsWhole seed rows) behind cut)
     where
       behind : (said : List Said) → AreRounds seed rows 0 (rounds_of rows) said → (rest : List Said) × IsWhole seed rows (said ++ rest)
@@ -101,7 +102,7 @@ module _ {S : Type 0} {R : S → List ℕ → Answer → S → Type 0} {U : S �
           let last = some_lines (last_lines rows) in
           (last.0, (said, last.0, record { are_rounds = p; are_last = last.1 }, refl))
 
-  pub stopped_last : {t : S} {m : ℕ} {fault : AnswerFault} → IsSaid R (AreRounds seed rows 0 (rounds_of rows)) s t m → IsCut R U (Says (last_lines rows)) t s' fault → HasStopped R U seed rows s s' fault
+  pub stopped_last : {U : S → List ℕ → AnswerFault → S → Type 0} {t : S} {m : ℕ} {fault : AnswerFault} → IsSaid R (AreRounds seed rows 0 (rounds_of rows)) s t m → IsCut R U (Says (last_lines rows)) t s' fault → HasStopped R U seed rows s s' fault
   stopped_last rounds cut = stopped (cut_behind (IsWhole seed rows) s rounds.said rounds.answers behind cut)
     where
       behind : (said : List Said) → Says (last_lines rows) said → (rest : List Said) × IsWhole seed rows (rounds.said ++ (said ++ rest))

@@ -6,3 +6,4 @@ pub mod LineParts
 pub mod Progress
 pub mod RoundParts
 pub mod RowParts
+pub mod Texts

@@ -1,16 +1,29 @@
 -- lines that are said one after the other, whatever they are answered
-use Rattle.std.proofs.Common.{◌≡◌, ℕ, zero, suc, ◌+◌, ◌<◌, List, [], ◌∷◌, ◌++◌, length, map, refl, sym, ap, ◌∙◌, subst, append_assoc, zero-add, arith}
-use Rattle.std.proofs.lemmas.List.{append-nil}
+use Rattle.std.proofs.Common.{◌≡◌, ℕ, zero, suc, ◌+◌, ◌<◌, ◌≤◌, List, [], ◌∷◌, ◌++◌, length, map, drop, get_or, add-one, refl, sym, ap, ◌∙◌, subst, append_assoc, zero-add, arith}
+use Rattle.std.proofs.lemmas.List.{append-nil, drop_all}
+use Rattle.std.proofs.Math.Seq.{drop-cons}
+use Rattle.std.specs.Borrow.{Bor}
 use Rattle.script_run.specs.declared.engine.AnswerFault.{AnswerFault}
 use Rattle.script_run.specs.declared.engine.AnswerFault.TheVariants.{Memory}
 use Rattle.demo_script.specs.declared.answer.Answer.{Answer}
+use Rattle.demo_script.specs.declared.heard.Heard.{Heard}
 use Rattle.demo_script.specs.Conversation.{Said, Says}
 use Rattle.demo_script.specs.Played.{AreSaid}
-use Rattle.demo_script.specs.Saying.{IsCut, IsSaid}
+use Rattle.demo_script.specs.Saying.{Hears, IsCut, IsSaid}
 use Rattle.demo_script.specs.Summary.{answer_of, inserted, inserted_rows}
 use Rattle.demo_script.proofs.Joins.{cut_at_line, cut_at_memory, cut_behind, one_said}
 use Rattle.demo_script.proofs.Endings.{committed, some_lines}
 use Rattle.demo_script.proofs.Progress.{SaidSoFar, said_more}
+
+-- the bytes of the lines
+abbrev pub texts_of : List (Bor (List ℕ)) → List (List ℕ)
+texts_of lines = map (λ (line : Bor (List ℕ)). line.now) lines
+
+pub next_text : (lines : List (Bor (List ℕ))) (i : ℕ) (d : Bor (List ℕ)) → i < length lines → texts_of (drop i lines) ≡ (get_or lines i d).now ∷ texts_of (drop (i + 1) lines)
+next_text lines i d h = ap texts_of (drop-cons lines i d h) ∙ ap (λ (k : ℕ). (get_or lines i d).now ∷ texts_of (drop k lines)) (sym (add-one i))
+
+pub no_text : (lines : List (Bor (List ℕ))) (i : ℕ) → length lines ≤ i → texts_of (drop i lines) ≡ []
+no_text lines i h = ap texts_of (drop_all i lines h)
 
 -- Some of these lines were said: whatever is said to those that are left, all are said behind it.
 pub record LinesSoFar {S : Type 0} (R : S → List ℕ → Answer → S → Type 0) (lines : List (List ℕ)) (s t : S) (left : List (List ℕ)) (n : ℕ) : Type 0 where
@@ -32,7 +45,7 @@ lines_of-append (one ∷ a) b = ap (λ (ls : List (List ℕ)). one.line ∷ ls) 
 pub Says-append : (l m : List (List ℕ)) (a b : List Said) → Says l a → Says m b → Says (l ++ m) (a ++ b)
 Says-append l m a b h k = lines_of-append a b ∙ (λ i. h i ++ k i)
 
-module _ {S : Type 0} {R : S → List ℕ → Answer → S → Type 0} {U : S → List ℕ → AnswerFault → S → Type 0} {lines : List (List ℕ)} {s t : S} {left : List (List ℕ)} {m : ℕ} (far : LinesSoFar R lines s t left m) where
+module _ {S : Type 0} {R : S → List ℕ → Answer → S → Type 0} {lines : List (List ℕ)} {s t : S} {left : List (List ℕ)} {m : ℕ} (far : LinesSoFar R lines s t left m) where
   -- a part of the lines that are left, and those behind it
   next_lines : (part left' : List (List ℕ)) → left ≡ part ++ left' → (one : List Said) → Says part one → (rest : List Said) → Says left' rest → Says lines (far.said ++ (one ++ rest))
   next_lines part left' is one p rest h = far.onward (one ++ rest) (Says-append part left' one rest p h ∙ sym is)
@@ -44,8 +57,8 @@ module _ {S : Type 0} {R : S → List ℕ → Answer → S → Type 0} {U : S �
     onward = λ rest h. subst (Says lines) (sym (append_assoc far.said one.said rest)) (next_lines part left' is one.said one.part rest h);
   }
 
-  pub more_lines : {u : S} (line : List ℕ) (left' : List (List ℕ)) → left ≡ line ∷ left' → (answer : Answer) → R t line answer u → LinesSoFar R lines s u left' (m + inserted answer)
-  more_lines {u} line left' is answer r = more_parts (line ∷ []) left' is (one_said R (Says (line ∷ [])) t u line answer r refl)
+  pub more_lines : {u : S} (line : List ℕ) (left' : List (List ℕ)) → left ≡ line ∷ left' → (heard : Heard) → Hears R t line heard u → LinesSoFar R lines s u left' (m + heard.rows)
+  more_lines {u} line left' is heard h = more_parts (line ∷ []) left' is (one_said R (Says (line ∷ [])) t u line heard h refl)
 
   pub all_lines : left ≡ [] → IsSaid R (Says lines) s t m
   all_lines is = record {
@@ -55,7 +68,7 @@ module _ {S : Type 0} {R : S → List ℕ → Answer → S → Type 0} {U : S �
     counted = far.far.counted;
   }
 
-  pub cut_parts : {s' : S} {fault : AnswerFault} (part left' : List (List ℕ)) → left ≡ part ++ left' → IsCut R U (Says part) t s' fault → IsCut R U (Says lines) s s' fault
+  pub cut_parts : {U : S → List ℕ → AnswerFault → S → Type 0} {s' : S} {fault : AnswerFault} (part left' : List (List ℕ)) → left ≡ part ++ left' → IsCut R U (Says part) t s' fault → IsCut R U (Says lines) s s' fault
   cut_parts part left' is cut = cut_behind (Says lines) s far.said far.far.answers ends cut
     where
       ends : (said : List Said) → Says part said → (rest : List Said) × Says lines (far.said ++ (said ++ rest))

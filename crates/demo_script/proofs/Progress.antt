@@ -37,7 +37,7 @@ no_rows R seed first count busy s left is = record {
   onward = λ rest end h. subst (λ (c : ℕ). AreRows seed first c busy rest end) is h;
 }
 
-module _ {S : Type 0} {R : S → List ℕ → Answer → S → Type 0} {U : S → List ℕ → AnswerFault → S → Type 0} {seed first count : ℕ} {busy : Bool} {s t : S} {row left : ℕ} {now : Bool} {m : ℕ}
+module _ {S : Type 0} {R : S → List ℕ → Answer → S → Type 0} {seed first count : ℕ} {busy : Bool} {s t : S} {row left : ℕ} {now : Bool} {m : ℕ}
     (far : RowsSoFar R seed first count busy s t row left now m) where
   -- one row, and those behind it
   next_rows : (left' : ℕ) → left ≡ suc left' → (one : List Said) (between : Bool) → IsRow seed row now one between → (rest : List Said) (end : Bool) → AreRows seed (suc row) left' between rest end
@@ -51,8 +51,8 @@ module _ {S : Type 0} {R : S → List ℕ → Answer → S → Type 0} {U : S �
     said = far.said ++ one.said;
     far = said_more far.far one;
     onward = λ rest end h.
-    subst (λ (l : List Said). AreRows seed first count busy l end) (sym (append_assoc far.said one.said rest))
-    (next_rows left' is one.said between one.part rest end (subst (λ (r : ℕ). AreRows seed r left' between rest end) (add-one row) h));
+        subst (λ (l : List Said). AreRows seed first count busy l end) (sym (append_assoc far.said one.said rest))
+        (next_rows left' is one.said between one.part rest end (subst (λ (r : ℕ). AreRows seed r left' between rest end) (add-one row) h));
   }
 
   pub all_rows : left ≡ 0 → IsSaid R (λ (said : List Said). AreRows seed first count busy said now) s t m
@@ -63,7 +63,7 @@ module _ {S : Type 0} {R : S → List ℕ → Answer → S → Type 0} {U : S �
     counted = far.far.counted;
   }
 
-  pub cut_rows : {s' : S} {fault : AnswerFault} (left' : ℕ) → left ≡ suc left' → IsCut R U (LeavesKeeper (IsRow seed row now)) t s' fault → IsCut R U (LeavesKeeper (AreRows seed first count busy)) s s' fault
+  pub cut_rows : {U : S → List ℕ → AnswerFault → S → Type 0} {s' : S} {fault : AnswerFault} (left' : ℕ) → left ≡ suc left' → IsCut R U (LeavesKeeper (IsRow seed row now)) t s' fault → IsCut R U (LeavesKeeper (AreRows seed first count busy)) s s' fault
   cut_rows left' is cut = cut_behind (LeavesKeeper (AreRows seed first count busy)) s far.said far.far.answers ends cut
     where
       ends : (said : List Said) → LeavesKeeper (IsRow seed row now) said → (rest : List Said) × LeavesKeeper (AreRows seed first count busy) (far.said ++ (said ++ rest))
@@ -86,7 +86,7 @@ no_rounds R seed rows count s left is = record {
   onward = λ rest h. subst (λ (c : ℕ). AreRounds seed rows 0 c rest) is h;
 }
 
-module _ {S : Type 0} {R : S → List ℕ → Answer → S → Type 0} {U : S → List ℕ → AnswerFault → S → Type 0} {seed rows count : ℕ} {s t : S} {round left m : ℕ} (far : RoundsSoFar R seed rows count s t round left m) where
+module _ {S : Type 0} {R : S → List ℕ → Answer → S → Type 0} {seed rows count : ℕ} {s t : S} {round left m : ℕ} (far : RoundsSoFar R seed rows count s t round left m) where
   next_rounds : (left' : ℕ) → left ≡ suc left' → (one : List Said) → IsRound seed rows round one → (rest : List Said) → AreRounds seed rows (suc round) left' rest → AreRounds seed rows 0 count (far.said ++ (one ++ rest))
   next_rounds left' is one round_said rest h = far.onward (one ++ rest) (subst (λ (c : ℕ). AreRounds seed rows round c (one ++ rest)) (sym is) (one, rest, round_said, h, refl))
 
@@ -95,7 +95,7 @@ module _ {S : Type 0} {R : S → List ℕ → Answer → S → Type 0} {U : S �
     said = far.said ++ one.said;
     far = said_more far.far one;
     onward = λ rest h.
-    subst (AreRounds seed rows 0 count) (sym (append_assoc far.said one.said rest)) (next_rounds left' is one.said one.part rest (subst (λ (r : ℕ). AreRounds seed rows r left' rest) (add-one round) h));
+        subst (AreRounds seed rows 0 count) (sym (append_assoc far.said one.said rest)) (next_rounds left' is one.said one.part rest (subst (λ (r : ℕ). AreRounds seed rows r left' rest) (add-one round) h));
   }
 
   pub all_rounds : left ≡ 0 → IsSaid R (AreRounds seed rows 0 count) s t m
@@ -106,7 +106,7 @@ module _ {S : Type 0} {R : S → List ℕ → Answer → S → Type 0} {U : S �
     counted = far.far.counted;
   }
 
-  pub cut_rounds : {s' : S} {fault : AnswerFault} (left' : ℕ) → left ≡ suc left' → IsCut R U (IsRound seed rows round) t s' fault → IsCut R U (AreRounds seed rows 0 count) s s' fault
+  pub cut_rounds : {U : S → List ℕ → AnswerFault → S → Type 0} {s' : S} {fault : AnswerFault} (left' : ℕ) → left ≡ suc left' → IsCut R U (IsRound seed rows round) t s' fault → IsCut R U (AreRounds seed rows 0 count) s s' fault
   cut_rounds left' is cut = cut_behind (AreRounds seed rows 0 count) s far.said far.far.answers ends cut
     where
       ends : (said : List Said) → IsRound seed rows round said → (rest : List Said) × AreRounds seed rows 0 count (far.said ++ (said ++ rest))

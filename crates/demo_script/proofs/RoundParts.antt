@@ -1,11 +1,13 @@
 -- one round, part by part
-use Rattle.std.proofs.Common.{◌≡◌, ℕ, zero, suc, ◌+◌, ◌*◌, Bool, true, false, List, [], ◌∷◌, ◌++◌, codes, refl, sym, ap, ◌∙◌, subst, append_assoc, arith}
+use Rattle.std.proofs.Common.{◌≡◌, ◌≢◌, ℕ, zero, suc, ◌+◌, ◌*◌, Bool, true, false, List, [], ◌∷◌, ◌++◌, codes, refl, sym, ap, ◌∙◌, subst, append_assoc, arith}
 use Rattle.std.proofs.lemmas.List.{append-nil}
+use Rattle.std.proofs.lemmas.Bool.{false≢true}
 use Rattle.script_run.specs.declared.engine.AnswerFault.{AnswerFault}
 use Rattle.demo_script.specs.declared.answer.Answer.{Answer}
+use Rattle.demo_script.specs.declared.heard.Heard.{Heard}
 use Rattle.demo_script.specs.Conversation.{AreRows, Closes, IsRound, Opens, Said, Says, each_session, has_hand, keeper, rows_of_round}
 use Rattle.demo_script.specs.Played.{AreSaid}
-use Rattle.demo_script.specs.Saying.{IsCut, IsSaid, LeavesKeeper}
+use Rattle.demo_script.specs.Saying.{Hears, IsCut, IsSaid, LeavesKeeper}
 use Rattle.demo_script.specs.Summary.{inserted, inserted_rows}
 use Rattle.demo_script.proofs.Joins.{AreSaid-append, cut_at_line, cut_behind, cut_first, inserted_rows-append, one_said}
 use Rattle.demo_script.proofs.Endings.{committed, some_closing, some_lines, some_opening, some_rows}
@@ -15,14 +17,16 @@ use Rattle.demo_script.proofs.Endings.{committed, some_closing, some_lines, some
 pub no_opening : {S : Type 0} (R : S → List ℕ → Answer → S → Type 0) (s : S) → IsSaid R (λ (said : List Said). Opens zero said false) s s 0
 no_opening R s = record { said = []; part = (refl, refl); answers = refl; counted = refl }
 
-pub said_opening : {S : Type 0} (R : S → List ℕ → Answer → S → Type 0) (s t : S) (round : ℕ) (answer : Answer) → R s (keeper (codes "start summarize di")) answer t
-    → IsSaid R (λ (said : List Said). Opens (suc round) said (has_hand answer)) s t (inserted answer)
-said_opening R s t round answer r =
-    one_said R (λ (said : List Said). Opens (suc round) said (has_hand answer)) s t (keeper (codes "start summarize di")) answer r (answer, refl, refl)
+pub said_opening : {S : Type 0} (R : S → List ℕ → Answer → S → Type 0) (s t : S) (round : ℕ) (heard : Heard) → round ≢ 0 → Hears R s (keeper (codes "start summarize di")) heard t
+    → IsSaid R (λ (said : List Said). Opens round said heard.busy) s t heard.rows
+said_opening R s t zero heard e h = absurd (e refl)
+said_opening R s t (suc round) heard e h =
+    one_said R (λ (said : List Said). Opens (suc round) said heard.busy) s t (keeper (codes "start summarize di")) heard h (h.answer, refl, h.tells.busy)
 
-pub cut_opening : {S : Type 0} (R : S → List ℕ → Answer → S → Type 0) (U : S → List ℕ → AnswerFault → S → Type 0) (s s' : S) (fault : AnswerFault) (round : ℕ) → U s (keeper (codes "start summarize di")) fault s'
-    → IsCut R U (LeavesKeeper (Opens (suc round))) s s' fault
-cut_opening R U s s' fault round u =
+pub cut_opening : {S : Type 0} (R : S → List ℕ → Answer → S → Type 0) (U : S → List ℕ → AnswerFault → S → Type 0) (s s' : S) (fault : AnswerFault) (round : ℕ) → round ≢ 0
+    → U s (keeper (codes "start summarize di")) fault s' → IsCut R U (LeavesKeeper (Opens round)) s s' fault
+cut_opening R U s s' fault zero e u = absurd (e refl)
+cut_opening R U s s' fault (suc round) e u =
     let some = some_opening (suc round) in
     cut_at_line R U (LeavesKeeper (Opens (suc round))) s s s' fault [] refl (keeper (codes "start summarize di")) (committed []).answer [] some.1 u
 
@@ -31,16 +35,18 @@ cut_opening R U s s' fault round u =
 pub no_closing : {S : Type 0} (R : S → List ℕ → Answer → S → Type 0) (s : S) → IsSaid R (Closes false) s s 0
 no_closing R s = record { said = []; part = refl; answers = refl; counted = refl }
 
-pub said_closing : {S : Type 0} (R : S → List ℕ → Answer → S → Type 0) (s t : S) (answer : Answer) → R s (keeper (codes "finish")) answer t → IsSaid R (Closes true) s t (inserted answer)
-said_closing R s t answer r = one_said R (Closes true) s t (keeper (codes "finish")) answer r refl
+pub said_closing : {S : Type 0} (R : S → List ℕ → Answer → S → Type 0) (busy : Bool) (s t : S) (heard : Heard) → busy ≡ true → Hears R s (keeper (codes "finish")) heard t → IsSaid R (Closes busy) s t heard.rows
+said_closing R false s t heard e h = absurd (false≢true e)
+said_closing R true s t heard e h = one_said R (Closes true) s t (keeper (codes "finish")) heard h refl
 
-pub cut_closing : {S : Type 0} (R : S → List ℕ → Answer → S → Type 0) (U : S → List ℕ → AnswerFault → S → Type 0) (s s' : S) (fault : AnswerFault) → U s (keeper (codes "finish")) fault s'
-    → IsCut R U (Closes true) s s' fault
-cut_closing R U s s' fault u = cut_at_line R U (Closes true) s s s' fault [] refl (keeper (codes "finish")) (committed []).answer [] refl u
+pub cut_closing : {S : Type 0} (R : S → List ℕ → Answer → S → Type 0) (U : S → List ℕ → AnswerFault → S → Type 0) (busy : Bool) (s s' : S) (fault : AnswerFault) → busy ≡ true → U s (keeper (codes "finish")) fault s'
+    → IsCut R U (Closes busy) s s' fault
+cut_closing R U false s s' fault e u = absurd (false≢true e)
+cut_closing R U true s s' fault e u = cut_at_line R U (Closes true) s s s' fault [] refl (keeper (codes "finish")) (committed []).answer [] refl u
 
 -- ---- the whole round
 
-module _ {S : Type 0} {R : S → List ℕ → Answer → S → Type 0} {U : S → List ℕ → AnswerFault → S → Type 0} (seed rows round : ℕ) where
+module _ (seed rows round : ℕ) where
   abbrev Begins : List Said → Type 0
   Begins = Says (each_session (codes "begin"))
 
@@ -95,12 +101,12 @@ module _ {S : Type 0} {R : S → List ℕ → Answer → S → Type 0} {U : S �
       let more = behind_begun opened b.0 busy o b.1 in
       (b.0 ++ more.0, subst Round (append_assoc opened b.0 more.0) more.1)
 
-  module _ {s : S} where
-    pub cut_opened : {s' : S} {fault : AnswerFault} → IsCut R U (LeavesKeeper (Opens round)) s s' fault → IsCut R U Round s s' fault
+  module _ {S : Type 0} {R : S → List ℕ → Answer → S → Type 0} {s : S} where
+    pub cut_opened : {U : S → List ℕ → AnswerFault → S → Type 0} {s' : S} {fault : AnswerFault} → IsCut R U (LeavesKeeper (Opens round)) s s' fault → IsCut R U Round s s' fault
     cut_opened cut = cut_first Round (λ said p. behind_opened said p.0 p.1) cut
 
     module _ {t : S} {m : ℕ} (busy : Bool) (opened : IsSaid R (λ (said : List Said). Opens round said busy) s t m) where
-      pub cut_begun : {s' : S} {fault : AnswerFault} → IsCut R U Begins t s' fault → IsCut R U Round s s' fault
+      pub cut_begun : {U : S → List ℕ → AnswerFault → S → Type 0} {s' : S} {fault : AnswerFault} → IsCut R U Begins t s' fault → IsCut R U Round s s' fault
       cut_begun cut = cut_behind Round s opened.said opened.answers ends cut
         where
           ends : (said : List Said) → Begins said → (rest : List Said) × Round (opened.said ++ (said ++ rest))
@@ -112,7 +118,7 @@ module _ {S : Type 0} {R : S → List ℕ → Answer → S → Type 0} {U : S �
         two : AreSaid R s (opened.said ++ begun.said) u
         two = AreSaid-append R s t u opened.said begun.said opened.answers begun.answers
 
-        pub cut_put : {s' : S} {fault : AnswerFault} → IsCut R U (LeavesKeeper (Rows busy)) u s' fault → IsCut R U Round s s' fault
+        pub cut_put : {U : S → List ℕ → AnswerFault → S → Type 0} {s' : S} {fault : AnswerFault} → IsCut R U (LeavesKeeper (Rows busy)) u s' fault → IsCut R U Round s s' fault
         cut_put cut = cut_behind Round s (opened.said ++ begun.said) two ends cut
           where
             ends : (said : List Said) → LeavesKeeper (Rows busy) said → (rest : List Said) × Round ((opened.said ++ begun.said) ++ (said ++ rest))
@@ -124,7 +130,7 @@ module _ {S : Type 0} {R : S → List ℕ → Answer → S → Type 0} {U : S �
           three : AreSaid R s (opened.said ++ begun.said ++ put.said) v
           three = AreSaid-append R s u v (opened.said ++ begun.said) put.said two put.answers
 
-          pub cut_closed : {s' : S} {fault : AnswerFault} → IsCut R U (Closes busy') v s' fault → IsCut R U Round s s' fault
+          pub cut_closed : {U : S → List ℕ → AnswerFault → S → Type 0} {s' : S} {fault : AnswerFault} → IsCut R U (Closes busy') v s' fault → IsCut R U Round s s' fault
           cut_closed cut = cut_behind Round s (opened.said ++ begun.said ++ put.said) three ends cut
             where
               ends : (said : List Said) → Closes busy' said → (rest : List Said) × Round ((opened.said ++ begun.said ++ put.said) ++ (said ++ rest))
@@ -136,7 +142,7 @@ module _ {S : Type 0} {R : S → List ℕ → Answer → S → Type 0} {U : S �
             four : AreSaid R s (opened.said ++ begun.said ++ put.said ++ closed.said) w
             four = AreSaid-append R s v w (opened.said ++ begun.said ++ put.said) closed.said three closed.answers
 
-            pub cut_ended : {s' : S} {fault : AnswerFault} → IsCut R U Commits w s' fault → IsCut R U Round s s' fault
+            pub cut_ended : {U : S → List ℕ → AnswerFault → S → Type 0} {s' : S} {fault : AnswerFault} → IsCut R U Commits w s' fault → IsCut R U Round s s' fault
             cut_ended cut = cut_behind Round s (opened.said ++ begun.said ++ put.said ++ closed.said) four ends cut
               where
                 ends : (said : List Said) → Commits said → (rest : List Said) × Round ((opened.said ++ begun.said ++ put.said ++ closed.said) ++ (said ++ rest))
@@ -149,8 +155,7 @@ module _ {S : Type 0} {R : S → List ℕ → Answer → S → Type 0} {U : S �
               said = opened.said ++ begun.said ++ put.said ++ closed.said ++ ended.said;
               part = joined opened.said begun.said put.said closed.said ended.said busy busy' opened.part begun.part put.part closed.part ended.part;
               answers = AreSaid-append R s w x (opened.said ++ begun.said ++ put.said ++ closed.said) ended.said four ended.answers;
-              counted = omega
-              (
+              counted = omega (
                 arith,
                 inserted_rows-append (opened.said ++ begun.said ++ put.said ++ closed.said) ended.said,
                 inserted_rows-append (opened.said ++ begun.said ++ put.said) closed.said,

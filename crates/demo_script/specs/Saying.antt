@@ -3,9 +3,24 @@ use Rattle.std.specs.Prelude.{◌≡◌, ◌⊎◌, ℕ, Bool, List, [], ◌∷�
 use Rattle.script_run.specs.declared.engine.AnswerFault.{AnswerFault}
 use Rattle.script_run.specs.declared.engine.AnswerFault.TheVariants.{Memory}
 use Rattle.demo_script.specs.declared.answer.Answer.{Answer}
-use Rattle.demo_script.specs.Conversation.{Said, Says, last_lines, selects}
+use Rattle.demo_script.specs.declared.heard.Heard.{Heard}
+use Rattle.demo_script.specs.Conversation.{Said, Says, has_hand, is_blocked, last_lines, selects}
 use Rattle.demo_script.specs.Played.{AreSaid}
-use Rattle.demo_script.specs.Summary.{answer_of, found_rows, inserted_rows, named_blocks}
+use Rattle.demo_script.specs.Summary.{answer_of, found_rows, inserted, inserted_rows, named_blocks}
+
+-- what matters of the answer
+pub record TellsOf (answer : Answer) (heard : Heard) : Type 0 where
+  pub busy : heard.busy ≡ has_hand answer
+  pub blocked : heard.blocked ≡ is_blocked answer
+  pub rows : heard.rows ≡ inserted answer
+  pub found : heard.found ≡ found_rows answer
+  pub read : heard.read ≡ named_blocks answer
+
+-- the line was answered, and this is what matters of its answer
+pub record Hears {S : Type 0} (R : S → List ℕ → Answer → S → Type 0) (s : S) (line : List ℕ) (heard : Heard) (s' : S) : Type 0 where
+  pub answer : Answer
+  pub answers : R s line answer s'
+  pub tells : TellsOf answer heard
 
 -- a part of this kind was said, and so many rows were inserted
 pub record IsSaid {S : Type 0} (R : S → List ℕ → Answer → S → Type 0) (P : List Said → Type 0) (s s' : S) (rows : ℕ) : Type 0 where

@@ -22,9 +22,11 @@ pub fn render_summary(counts: &Counts, blocks: u32, out: &mut Vec<u8>) -> Result
     let ranges = (u64::from(blocks) + 15) / 16;
     let [first, second, third, fourth] = counts.found;
     let read = counts.read;
-    let written = write!(
+    match write!(
         out,
         "rows {rows}\nblocks {blocks}\nranges {ranges}\nfound {first} {second} {third} {fourth}\nread {read}\n"
-    );
-    written.map_err(|_| NoMemory)
+    ) {
+        Ok(()) => Ok(()),
+        Err(_) => Err(NoMemory),
+    }
 }

@@ -25,9 +25,10 @@ pub fn play<A: Answerer>(
     let mut line = String::new(alloc);
     let inserted = say_rounds(answerer, &mut line, seed, rows)?;
     let last = say_last(answerer, &mut line, rows)?;
+    let found = last.found;
     Ok(Counts {
         rows: inserted,
-        found: last.found,
+        found,
         read: last.read,
     })
 }

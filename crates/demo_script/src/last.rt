@@ -1,12 +1,11 @@
 //! The lines behind the last round.
 
 ghost use Rattle.std.specs.Prelude.{◌≡◌, ◌≤◌, IfOk, IfErr};
-ghost use Rattle.demo_script.specs.declared.answer.Answer.{Answer};
 ghost use Rattle.demo_script.specs.Conversation.{Says, last_lines, selects};
 ghost use Rattle.demo_script.specs.Saying.{HasFound, HasLooked, IsCut};
-ghost use Rattle.demo_script.specs.Summary.{found_rows};
 
 use crate::answer::Answerer;
+use crate::heard::say;
 use crate::lines::{make_explain, make_select};
 use crate::round::say_all;
 use script_run::AnswerFault;
@@ -33,11 +32,11 @@ pub fn say_last<A: Answerer>(
     say_all(answerer, &PREPARES)?;
     let found = select_all(answerer, line, rows)?;
     make_explain(line, rows)?;
-    let explained = answerer.ask(line.as_bytes())?;
-    answerer.ask(b"d0 commit")?;
+    let explained = say(answerer, line.as_bytes())?;
+    say(answerer, b"d0 commit")?;
     Ok(Looks {
         found,
-        read: explained.named_blocks(),
+        read: explained.read,
     })
 }
 
@@ -52,18 +51,9 @@ fn select_all<A: Answerer>(
     ensures cut { IfErr result (IsCut A.answers A.stops (Says (selects rows)) answerer.old answerer.new) }
 {
     make_select(line, rows)?;
-    let first = find_rows(answerer, line.as_bytes())?;
-    let second = find_rows(answerer, b"d0 select d where v = 7")?;
-    let third = find_rows(answerer, b"d0 select d where r @> [500,501)")?;
-    let fourth = find_rows(answerer, b"d0 select d where a = 10.0.0.7")?;
-    Ok([first, second, third, fourth])
-}
-
-/// Says a select, and counts what it finds.
-fn find_rows<A: Answerer>(answerer: &mut A, line: &[u8]) -> Result<u64, AnswerFault>
-    ensures found { IfOk result (λ found. (answer : Answer) × A.answers answerer.old line.now answer answerer.new × (found ≡ found_rows answer)) }
-    ensures stops { IfErr result (λ fault. A.stops answerer.old line.now fault answerer.new) }
-{
-    let answer = answerer.ask(line)?;
-    Ok(answer.found_rows())
+    let first = say(answerer, line.as_bytes())?;
+    let second = say(answerer, b"d0 select d where v = 7")?;
+    let third = say(answerer, b"d0 select d where r @> [500,501)")?;
+    let fourth = say(answerer, b"d0 select d where a = 10.0.0.7")?;
+    Ok([first.found, second.found, third.found, fourth.found])
 }

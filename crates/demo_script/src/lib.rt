@@ -6,10 +6,11 @@
 
 mod answer;
 mod counts;
+mod demo;
+mod heard;
 mod last;
 mod layout;
 mod lines;
-mod demo;
 mod round;
 mod row;
 #[cfg(test)]
@@ -17,5 +18,5 @@ mod tests;
 
 pub use answer::{Answer, Answerer};
 pub use counts::{Counts, render_summary};
-pub use layout::demo_layout;
 pub use demo::play;
+pub use layout::demo_layout;

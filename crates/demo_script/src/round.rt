@@ -5,8 +5,12 @@ ghost use Rattle.demo_script.specs.Conversation.{AreRounds, AreRows, Closes, IsR
 ghost use Rattle.demo_script.specs.Saying.{IsCut, IsSaid, LeavesKeeper};
 
 use crate::answer::Answerer;
+use crate::heard::say;
 use crate::row::{Ending, say_row};
 use script_run::AnswerFault;
+
+/// The rows of a round.
+const ROUND_ROWS: u32 = 400;
 
 const BEGINS: [&[u8]; 4] = [b"d0 begin", b"d1 begin", b"d2 begin", b"d3 begin"];
 
@@ -25,7 +29,7 @@ pub fn say_rounds<A: Answerer>(
     ensures cut { IfErr result (IsCut A.answers A.stops (AreRounds seed rows 0 (rounds_of rows)) answerer.old answerer.new) }
 {
     let mut inserted = 0;
-    'rounds: for round in 0..rows.div_ceil(400) {
+    'rounds: for round in 0..rows.div_ceil(ROUND_ROWS) {
         inserted += say_round(answerer, line, seed, rows, round)?;
     }
     Ok(inserted)
@@ -48,8 +52,8 @@ fn say_round<A: Answerer>(
 {
     let opened = open_round(answerer, round)?;
     let begun = say_all(answerer, &BEGINS)?;
-    let first = 400 * round;
-    let count = (rows - first).min(400);
+    let first = ROUND_ROWS * round;
+    let count = ROUND_ROWS.min(rows - first);
     let put = say_rows(answerer, line, seed, first, count, opened.busy)?;
     let closed = close_round(answerer, put.busy)?;
     let committed = say_all(answerer, &COMMITS)?;
@@ -68,10 +72,10 @@ fn open_round<A: Answerer>(answerer: &mut A, round: u32) -> Result<Ending, Answe
             rows: 0,
         });
     }
-    let answer = answerer.ask(b"m start summarize di")?;
+    let heard = say(answerer, b"m start summarize di")?;
     Ok(Ending {
-        busy: answer.has_hand(),
-        rows: answer.inserted(),
+        busy: heard.busy,
+        rows: heard.rows,
     })
 }
 
@@ -112,8 +116,8 @@ fn close_round<A: Answerer>(answerer: &mut A, busy: bool) -> Result<u64, AnswerF
     if !busy {
         return Ok(0);
     }
-    let answer = answerer.ask(b"m finish")?;
-    Ok(answer.inserted())
+    let heard = say(answerer, b"m finish")?;
+    Ok(heard.rows)
 }
 
 /// Says the lines one after the other, and counts the rows that are inserted.
@@ -125,8 +129,8 @@ pub fn say_all<A: Answerer>(answerer: &mut A, lines: &[&[u8]]) -> Result<u64, An
 {
     let mut inserted = 0;
     'lines: for line in lines {
-        let answer = answerer.ask(line)?;
-        inserted += answer.inserted();
+        let heard = say(answerer, line)?;
+        inserted += heard.rows;
     }
     Ok(inserted)
 }

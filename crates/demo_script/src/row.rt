@@ -5,6 +5,7 @@ ghost use Rattle.demo_script.specs.Conversation.{IsRow, Puts, StepsOn};
 ghost use Rattle.demo_script.specs.Saying.{IsCut, IsSaid, LeavesKeeper};
 
 use crate::answer::Answerer;
+use crate::heard::say;
 use crate::lines::{make_finish, make_insert};
 use script_run::AnswerFault;
 
@@ -52,19 +53,19 @@ fn put_row<A: Answerer>(
     ensures cut { IfErr result (IsCut A.answers A.stops (LeavesKeeper (Puts seed row busy)) answerer.old answerer.new) }
 {
     make_insert(line, seed, row)?;
-    let first = answerer.ask(line.as_bytes())?;
-    if !first.is_blocked() {
+    let first = say(answerer, line.as_bytes())?;
+    if !first.blocked {
         return Ok(Ending {
             busy,
-            rows: first.inserted(),
+            rows: first.rows,
         });
     }
-    let kept = answerer.ask(b"m finish")?;
+    let kept = say(answerer, b"m finish")?;
     make_finish(line, row)?;
-    let own = answerer.ask(line.as_bytes())?;
+    let own = say(answerer, line.as_bytes())?;
     Ok(Ending {
-        busy: kept.has_hand(),
-        rows: first.inserted() + kept.inserted() + own.inserted(),
+        busy: kept.busy,
+        rows: first.rows + kept.rows + own.rows,
     })
 }
 
@@ -77,9 +78,9 @@ fn step_keeper<A: Answerer>(answerer: &mut A, busy: bool) -> Result<Ending, Answ
     if !busy {
         return Ok(Ending { busy, rows: 0 });
     }
-    let answer = answerer.ask(b"m step")?;
+    let heard = say(answerer, b"m step")?;
     Ok(Ending {
-        busy: answer.has_hand(),
-        rows: answer.inserted(),
+        busy: heard.busy,
+        rows: heard.rows,
     })
 }
