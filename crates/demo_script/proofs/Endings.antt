@@ -1,9 +1,8 @@
 -- each part can be completed: whatever its lines are, `committed` may answer them all
-use Rattle.std.proofs.Common.{◌≡◌, ℕ, zero, suc, ◌+◌, ◌*◌, Bool, true, false, List, [], ◌∷◌, ◌++◌, map, codes, refl, ap, inl}
+use Rattle.std.proofs.Common.{ℕ, zero, suc, ◌*◌, Bool, true, false, List, [], ◌∷◌, ◌++◌, codes, refl, ap, inl}
 use Rattle.block_model.specs.declared.reply.Reply.TheVariants as replies
-use Rattle.demo_script.specs.declared.answer.Answer.{Answer}
 use Rattle.demo_script.specs.declared.answer.Answer.TheVariants as answers
-use Rattle.demo_script.specs.Conversation.{AreRounds, AreRows, Closes, IsRound, IsRow, Opens, Puts, Said, Says, StepsOn, each_session, has_hand, keeper, rows_of_round}
+use Rattle.demo_script.specs.Conversation.{AreRounds, AreRows, Closes, IsRound, IsRow, Opens, Puts, Said, Says, StepsOn, each_session, keeper, rows_of_round}
 use Rattle.demo_script.specs.DemoLines.{insert_line}
 use Rattle.demo_script.specs.Saying.{LeavesKeeper}
 

@@ -1,19 +1,18 @@
 -- the lines behind the last round, and the whole demo
-use Rattle.std.proofs.Common.{◌≡◌, ◌⊎◌, ℕ, ◌+◌, ◌<◌, List, [], ◌∷◌, ◌++◌, length, map, codes, refl, sym, ap, ◌∙◌, subst, inl, inr, append_assoc, length-append, arith}
+use Rattle.std.proofs.Common.{◌≡◌, ◌⊎◌, ℕ, ◌+◌, ◌<◌, List, [], ◌∷◌, ◌++◌, length, codes, refl, sym, ap, ◌∙◌, subst, inl, inr, length-append, arith}
 use Rattle.std.proofs.lemmas.List.{append-nil, length-map}
 use Rattle.script_run.specs.declared.engine.AnswerFault.{AnswerFault}
 use Rattle.script_run.specs.declared.engine.AnswerFault.TheVariants.{Memory}
 use Rattle.demo_script.specs.declared.answer.Answer.{Answer}
-use Rattle.demo_script.specs.declared.counts.Counts.{Counts}
 use Rattle.demo_script.specs.declared.heard.Heard.{Heard}
 use Rattle.demo_script.specs.Conversation.{AreRounds, IsDemo, IsDemoFront, Said, Says, keeper, last_lines, rounds_of, selects}
 use Rattle.demo_script.specs.DemoLines.{middle_conditions, select_line}
-use Rattle.demo_script.specs.Played.{AreSaid, HasPlayed, HasStopped}
+use Rattle.demo_script.specs.Played.{HasPlayed, HasStopped}
 use Rattle.demo_script.specs.Saying.{HasFound, HasLooked, Hears, IsCut, IsFrontOf, IsSaid}
 use Rattle.demo_script.specs.Summary.{answer_of, found_rows, inserted_rows, named_blocks}
 use Rattle.demo_script.proofs.Joins.{AreSaid-append, cut_behind, cut_first}
 use Rattle.demo_script.proofs.Endings.{some_lines}
-use Rattle.demo_script.proofs.LineParts.{LinesSoFar, Says-append, answer_of-behind, answer_of-front, more_lines, more_parts, no_lines}
+use Rattle.demo_script.proofs.LineParts.{LinesSoFar, Says-append, answer_of-behind, answer_of-front, no_lines}
 
 -- what stands before the selects
 abbrev pub prepares : List (List ℕ)
@@ -37,7 +36,7 @@ module _ {S : Type 0} (R : S → List ℕ → Answer → S → Type 0) (rows : �
       → HasFound R rows s w (first.found ∷ second.found ∷ third.found ∷ fourth.found ∷ [])
   found_all t u v w first second third fourth a b c d = record {
     said = record { line = select_line (middle_conditions rows); answer = a.answer } ∷ record { line = select_line (codes "v = 7"); answer = b.answer }
-    ∷ record { line = select_line (codes "r @> [500,501)"); answer = c.answer } ∷ record { line = select_line (codes "a = 10.0.0.7"); answer = d.answer } ∷ [];
+        ∷ record { line = select_line (codes "r @> [500,501)"); answer = c.answer } ∷ record { line = select_line (codes "a = 10.0.0.7"); answer = d.answer } ∷ [];
     are_selects = refl;
     answers = (t, a.answers, (u, b.answers, (v, c.answers, (w, d.answers, refl))));
     counted = λ i. a.tells.found i ∷ b.tells.found i ∷ c.tells.found i ∷ d.tells.found i ∷ [];

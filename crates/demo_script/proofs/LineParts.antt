@@ -8,9 +8,8 @@ use Rattle.script_run.specs.declared.engine.AnswerFault.TheVariants.{Memory}
 use Rattle.demo_script.specs.declared.answer.Answer.{Answer}
 use Rattle.demo_script.specs.declared.heard.Heard.{Heard}
 use Rattle.demo_script.specs.Conversation.{Said, Says}
-use Rattle.demo_script.specs.Played.{AreSaid}
 use Rattle.demo_script.specs.Saying.{Hears, IsCut, IsSaid}
-use Rattle.demo_script.specs.Summary.{answer_of, inserted, inserted_rows}
+use Rattle.demo_script.specs.Summary.{answer_of}
 use Rattle.demo_script.proofs.Joins.{cut_at_line, cut_at_memory, cut_behind, one_said}
 use Rattle.demo_script.proofs.Endings.{committed, some_lines}
 use Rattle.demo_script.proofs.Progress.{SaidSoFar, said_more}

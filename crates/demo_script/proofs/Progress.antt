@@ -1,9 +1,9 @@
 -- how far the rows of a round, the rounds, and some lines have come
-use Rattle.std.proofs.Common.{◌≡◌, ℕ, zero, suc, ◌+◌, Bool, List, [], ◌∷◌, ◌++◌, map, refl, sym, ap, ◌∙◌, subst, append_assoc, add-one}
+use Rattle.std.proofs.Common.{◌≡◌, ℕ, suc, ◌+◌, Bool, List, [], ◌++◌, refl, sym, ap, ◌∙◌, subst, append_assoc, add-one}
 use Rattle.std.proofs.lemmas.List.{append-nil}
 use Rattle.script_run.specs.declared.engine.AnswerFault.{AnswerFault}
 use Rattle.demo_script.specs.declared.answer.Answer.{Answer}
-use Rattle.demo_script.specs.Conversation.{AreRounds, AreRows, IsRound, IsRow, Said, Says}
+use Rattle.demo_script.specs.Conversation.{AreRounds, AreRows, IsRound, IsRow, Said}
 use Rattle.demo_script.specs.Played.{AreSaid}
 use Rattle.demo_script.specs.Saying.{IsCut, IsSaid, LeavesKeeper}
 use Rattle.demo_script.specs.Summary.{inserted_rows}

@@ -1,14 +1,13 @@
 -- one round, part by part
-use Rattle.std.proofs.Common.{◌≡◌, ◌≢◌, ℕ, zero, suc, ◌+◌, ◌*◌, Bool, true, false, List, [], ◌∷◌, ◌++◌, codes, refl, sym, ap, ◌∙◌, subst, append_assoc, arith}
+use Rattle.std.proofs.Common.{◌≡◌, ◌≢◌, ℕ, zero, suc, ◌+◌, ◌*◌, Bool, true, false, List, [], ◌++◌, codes, refl, sym, subst, append_assoc, arith}
 use Rattle.std.proofs.lemmas.List.{append-nil}
 use Rattle.std.proofs.lemmas.Bool.{false≢true}
 use Rattle.script_run.specs.declared.engine.AnswerFault.{AnswerFault}
 use Rattle.demo_script.specs.declared.answer.Answer.{Answer}
 use Rattle.demo_script.specs.declared.heard.Heard.{Heard}
-use Rattle.demo_script.specs.Conversation.{AreRows, Closes, IsRound, Opens, Said, Says, each_session, has_hand, keeper, rows_of_round}
+use Rattle.demo_script.specs.Conversation.{AreRows, Closes, IsRound, Opens, Said, Says, each_session, keeper, rows_of_round}
 use Rattle.demo_script.specs.Played.{AreSaid}
 use Rattle.demo_script.specs.Saying.{Hears, IsCut, IsSaid, LeavesKeeper}
-use Rattle.demo_script.specs.Summary.{inserted, inserted_rows}
 use Rattle.demo_script.proofs.Joins.{AreSaid-append, cut_at_line, cut_behind, cut_first, inserted_rows-append, one_said}
 use Rattle.demo_script.proofs.Endings.{committed, some_closing, some_lines, some_opening, some_rows}
 

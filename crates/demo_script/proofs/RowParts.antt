@@ -1,16 +1,15 @@
 -- one row, part by part
-use Rattle.std.proofs.Common.{◌≡◌, ℕ, ◌+◌, Bool, true, false, not, List, [], ◌∷◌, ◌++◌, codes, refl, sym, ap, ◌∙◌, subst, inl, inr, append_assoc, add-zero, arith}
+use Rattle.std.proofs.Common.{◌≡◌, ℕ, ◌+◌, Bool, true, false, not, List, [], ◌∷◌, ◌++◌, codes, refl, sym, ◌∙◌, subst, inl, inr, arith}
 use Rattle.std.proofs.lemmas.List.{append-nil}
 use Rattle.std.proofs.lemmas.Bool.{false≢true, not-false, not-true}
 use Rattle.script_run.specs.declared.engine.AnswerFault.{AnswerFault}
 use Rattle.script_run.specs.declared.engine.AnswerFault.TheVariants.{Memory}
 use Rattle.demo_script.specs.declared.answer.Answer.{Answer}
 use Rattle.demo_script.specs.declared.heard.Heard.{Heard}
-use Rattle.demo_script.specs.Conversation.{IsRow, Puts, PutsBlocked, Said, StepsOn, has_hand, is_blocked, keeper}
+use Rattle.demo_script.specs.Conversation.{IsRow, Puts, Said, StepsOn, has_hand, is_blocked, keeper}
 use Rattle.demo_script.specs.DemoLines.{insert_line, line, session_of}
 use Rattle.demo_script.specs.Played.{AreSaid}
 use Rattle.demo_script.specs.Saying.{Hears, IsCut, IsSaid, LeavesKeeper}
-use Rattle.demo_script.specs.Summary.{inserted, inserted_rows}
 use Rattle.demo_script.proofs.Joins.{both_said, cut_at_line, cut_at_memory, cut_behind, cut_first, one_said}
 use Rattle.demo_script.proofs.Endings.{committed, some_put, some_step}
 

@@ -30,8 +30,8 @@ pub fn make_finish(text: &mut String, row: u32) -> Result<(), AllocError>
     ensures { OnOk result (string_bytes text.new ≡ line (session_of row) (codes "finish")) }
 {
     text.clear();
-    let session = row % 4;
-    write!(text, "d{session} finish")?;
+    let own = row % 4;
+    write!(text, "d{own} finish")?;
     Ok(())
 }
 

@@ -30,7 +30,7 @@ returns-in_err-first-clause-cut g c =
     let is = c.as_bytes.ensures.value ∙ c.in_ok-make_select.ensures in
     rw (p.1, p.2)
     (cut_lines g.A.Answerer.stops (none_found g.A.Answerer.answers c.args.rows s) t fault (select_line (middle_conditions c.args.rows)) (second ∷ third ∷ fourth ∷ []) refl
-      (subst (λ (l : List ℕ). g.A.Answerer.stops s l fault t) is c.in_err-first.ensures.stops))
+    (subst (λ (l : List ℕ). g.A.Answerer.stops s l fault t) is c.in_err-first.ensures.stops))
 
 pub returns-in_err-second-clause-cut : goal.returns-in_err-second-clause-cut
 returns-in_err-second-clause-cut g c =

@@ -9,5 +9,5 @@ returns c =
     let none = c.clear.ensures.bytes in
     rw bytes
     (rw none
-      (insert_pieces (codes "d") (decimal (row % 4)) (codes " insert d ") (decimal row) (codes " ") (decimal ((c.args.seed + 37 * row) % 1000)) (codes " [") (codes ",") (decimal (row + 10)) (codes ") ")
-        (codes "10.") (decimal (row / 65536)) (codes ".") (decimal (row / 256 % 256)) (decimal (row % 256))))
+    (insert_pieces (codes "d") (decimal (row % 4)) (codes " insert d ") (decimal row) (codes " ") (decimal ((c.args.seed + 37 * row) % 1000)) (codes " [") (codes ",") (decimal (row + 10)) (codes ") ")
+    (codes "10.") (decimal (row / 65536)) (codes ".") (decimal (row / 256 % 256)) (decimal (row % 256))))

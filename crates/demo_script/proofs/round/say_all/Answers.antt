@@ -1,4 +1,4 @@
-use Rattle.std.proofs.Common.{◌+◌, [], arith, drop, get_or}
+use Rattle.std.proofs.Common.{◌+◌, arith, drop}
 use Rattle.std.proofs.lemmas.Result.{err_from_is_err_and}
 use Rattle.demo_script.proofs.LineParts.{all_lines, cut_lines, more_lines, next_text, no_text, texts_of}
 use Rattle.demo_script.proofs.round.say_all.Goals as goal

@@ -1,4 +1,4 @@
-use Rattle.std.proofs.Common.{◌≤◌, drop, map}
+use Rattle.std.proofs.Common.{◌≤◌, drop}
 use Rattle.demo_script.proofs.LineParts.{LinesSoFar, texts_of}
 use Rattle.demo_script.proofs.round.say_all.Given as goal
 

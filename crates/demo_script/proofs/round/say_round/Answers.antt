@@ -23,14 +23,14 @@ returns-in_err-closed-clause-cut g c =
     let p = err_from_is_err_and c.from_residual-in_err-closed.result c.from_residual-in_err-closed.ensures.1 in
     rw (p.1, p.2)
     (cut_closed c.args.seed c.args.rows c.args.round c.in_ok-opened.opened.busy c.in_ok-opened.ensures.said c.in_ok-begun.ensures.said c.in_ok-put.put.busy
-      (rw c.min-count.ensures at c.in_ok-put.ensures.said) c.in_err-closed.ensures.cut)
+    (rw c.min-count.ensures at c.in_ok-put.ensures.said) c.in_err-closed.ensures.cut)
 
 pub returns-in_err-committed-clause-cut : goal.returns-in_err-committed-clause-cut
 returns-in_err-committed-clause-cut g c =
     let p = err_from_is_err_and c.from_residual-in_err-committed.result c.from_residual-in_err-committed.ensures.1 in
     rw (p.1, p.2)
     (cut_ended c.args.seed c.args.rows c.args.round c.in_ok-opened.opened.busy c.in_ok-opened.ensures.said c.in_ok-begun.ensures.said c.in_ok-put.put.busy
-      (rw c.min-count.ensures at c.in_ok-put.ensures.said) c.in_ok-closed.ensures.said c.in_err-committed.ensures.cut)
+    (rw c.min-count.ensures at c.in_ok-put.ensures.said) c.in_ok-closed.ensures.said c.in_err-committed.ensures.cut)
 
 pub returns-clause-said : goal.returns-clause-said
 returns-clause-said g c =

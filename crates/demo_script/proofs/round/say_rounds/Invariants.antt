@@ -1,4 +1,4 @@
-use Rattle.std.proofs.Common.{◌+◌, ◌-◌, ◌*◌, ◌≤◌}
+use Rattle.std.proofs.Common.{◌-◌, ◌*◌, ◌≤◌}
 use Rattle.demo_script.specs.Conversation.{rounds_of}
 use Rattle.demo_script.proofs.Progress.{RoundsSoFar}
 use Rattle.demo_script.proofs.round.say_rounds.Given as goal

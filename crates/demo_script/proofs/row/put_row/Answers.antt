@@ -64,7 +64,7 @@ returns-in_err-own-clause-cut g c =
     let heard = subst (λ (l : List ℕ). Hears g.A.Answerer.answers s l first t) is c.in_ok-first.ensures.heard in
     rw (p.1, p.2)
     (cut_finish g.A.Answerer.answers g.A.Answerer.stops c.args.seed c.args.row c.args.busy s t first c.if-not-first.false heard u c.in_ok-kept.kept c.in_ok-kept.ensures.heard v fault
-      (subst (λ (l : List ℕ). g.A.Answerer.stops u l fault v) own_is c.in_err-own.ensures.stops))
+    (subst (λ (l : List ℕ). g.A.Answerer.stops u l fault v) own_is c.in_err-own.ensures.stops))
 
 pub returns-clause-said : goal.returns-clause-said
 returns-clause-said g c =
