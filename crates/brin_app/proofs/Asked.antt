@@ -12,6 +12,7 @@ use Rattle.command_words.specs.declared.command.Command.TheVariants as commands
 use Rattle.command_words.specs.declared.command.CommandFault.{CommandFault}
 use Rattle.command_words.specs.declared.command.CommandFault.TheVariants as faults
 use Rattle.command_words.specs.CommandWords.{IsCommand, IsOnlyCommand}
+use Rattle.command_words.specs.Laws.{AreDemoNumbers}
 use Rattle.schema_words.specs.declared.declarations.DeclFault.{DeclFault}
 use Rattle.schema_words.specs.declared.declarations.DeclFault.TheVariants as declarations
 use Rattle.schema_words.specs.FirstFault.{Answers}
@@ -21,7 +22,7 @@ use Rattle.brin_app.specs.declared.top.Task.TheVariants as tasks
 use Rattle.brin_app.specs.declared.top.WordsFault.{WordsFault}
 use Rattle.brin_app.specs.declared.top.WordsFault.TheVariants.{Usage, Memory}
 use Rattle.brin_app.specs.WordsFaults.{of_command, of_declarations}
-use Rattle.brin_app.specs.Tasks.{Asks, IsLayoutFor, IsTaskOf, IsUsage, IsWrong}
+use Rattle.brin_app.specs.Tasks.{Asks, HasDemoNumbers, IsLayoutFor, IsTaskOf, IsUsage, IsWrong}
 
 -- a layout that was made of a declared schema
 pub ok_made : {E : Type 0} (declared : List (List ℕ)) (schema : Schema) (sizes : Sizes) (result : Result DiskLayout E) → Denotes declared schema
@@ -124,6 +125,14 @@ module _ (words : List (List ℕ)) (command : Command) (only : IsOnlyCommand wor
 
   pub wrong_nothing : IsWrong command → (task : Task) → ¬ (Asks words task)
   wrong_nothing wrong task asks = not_wrong command task (task_there task asks) wrong
+
+-- the numbers of a demo are within their limits
+pub numbers_within : ((words : List (List ℕ)) (seed rows : ℕ) → IsCommand words (commands.Demo seed rows) → AreDemoNumbers seed rows) → (words : List (List ℕ)) (command : Command) → IsCommand words command
+    → HasDemoNumbers command
+numbers_within law words (commands.Init sizes declared) is = tt
+numbers_within law words (commands.Run sizes declared) is = tt
+numbers_within law words commands.RunStored is = tt
+numbers_within law words (commands.Demo seed rows) is = law words seed rows is
 
 -- words that are no command ask for nothing
 pub no_command : (words : List (List ℕ)) → ((command : Command) → ¬ (IsCommand words command)) → (task : Task) → ¬ (Asks words task)

@@ -116,7 +116,7 @@ fn sum_up<D: Disk + Drop, K: Sink>(
     let alloc = sessions.alloc;
     let counts = play(alloc, numbers.seed, numbers.rows, sessions)?;
     sessions.store.layout().known();
-    let blocks = sessions.store.blocks(DEMO_TABLE);
+    let blocks = sessions.store.block_count(DEMO_TABLE);
     let mut summary = Vec::new(alloc);
     render_summary(&counts, blocks, &mut summary)?;
     write_all(sink, summary.as_slice())?;

@@ -245,7 +245,7 @@ impl<D: Disk + Drop> Store<D> {
     }
 
     /// How many blocks of the table are started.
-    pub fn blocks(&self, table: u8) -> u32
+    pub fn block_count(&self, table: u8) -> u32
         requires { table < length self.now.pages.layout.schema.tables }
         ensures { Tells D.told self.now.pages → (p : Place) → ShowsPlace self.now p → result ≡ (p.tables table).blocks }
     {

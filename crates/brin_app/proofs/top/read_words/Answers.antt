@@ -1,6 +1,6 @@
 use Rattle.std.proofs.Common.{inl}
 use Rattle.std.proofs.lemmas.Result.{err_from_is_err_and}
-use Rattle.brin_app.proofs.Asked.{no_command, ok_asked, ok_only, ok_right, usage_is, usage_of_command, wrong_nothing, wrong_usage}
+use Rattle.brin_app.proofs.Asked.{no_command, ok_asked, ok_only, ok_right, numbers_within, usage_is, usage_of_command, wrong_nothing, wrong_usage}
 use Rattle.brin_app.proofs.top.read_words.Goals as goal
 
 pub returns-in_err-command-clause-usage : goal.returns-in_err-command-clause-usage
@@ -27,3 +27,6 @@ returns-clause-usage c = λ e. wrong_usage c.args.words.now c.in_ok-command.comm
 
 pub returns-clause-nothing : goal.returns-clause-nothing
 returns-clause-nothing c = λ e. wrong_nothing c.args.words.now c.in_ok-command.command c.in_ok-command.ensures.ok (c.task_of.ensures.usage e)
+
+pub task_of-requires : goal.task_of-requires
+task_of-requires c = numbers_within c.demos_have_limits.ensures.within c.args.words.now c.in_ok-command.command c.in_ok-command.ensures.ok.is
