@@ -1,5 +1,5 @@
 -- what is done for the demo, by what is done with its disk
-use Rattle.std.proofs.Common.{◌≡◌, ◌≢◌, ℕ, ◌≤◌, List, Option, None, Ok, Err, refl, sym, ap, ◌∙◌, subst, arith, ◌⊎◌, inl, inr}
+use Rattle.std.proofs.Common.{◌≡◌, ◌≢◌, ℕ, ◌≤◌, List, Option, None, Ok, Err, refl, sym, ◌∙◌, subst, arith, ◌⊎◌, inl, inr}
 use Rattle.std.specs.Prelude.{IsTrue}
 use Rattle.block_model.specs.Causes.{Rose, rose_earlier}
 use Rattle.block_model.specs.DatabaseState.{initial_state}
@@ -26,9 +26,9 @@ use Rattle.store_starts.specs.OpenedParts.{ShowsStart}
 use Rattle.store_starts.specs.Started.{ImagesStay, OpensTable}
 use Rattle.brin_app.specs.declared.top.Task.TheVariants.{Demo}
 use Rattle.brin_app.specs.CrashRule.{IsOfStop}
-use Rattle.brin_app.specs.DemoOutput.{DemoFillsJournal, DemoWrites, IsCompleteDemo, IsDemoOutput, IsDemoRun, IsFreshDemo, IsLeftOff, IsSpentByDemo}
+use Rattle.brin_app.specs.DemoOutput.{DemoFillsJournal, DemoWrites, IsDemoOutput, IsDemoRun, IsFreshDemo, IsLeftOff}
 use Rattle.brin_app.specs.DemoSums.{SumsFresh}
-use Rattle.brin_app.specs.ScriptOutput.{EachImageHas, HoldsFresh, IsIdle, IsOldOrEmpty, IsOldOrNone, IsUnopened, RunsThrough, StopsOfNewRun, StopsOfRun, exit_status}
+use Rattle.brin_app.specs.ScriptOutput.{EachImageHas, HoldsFresh, IsOldOrEmpty, IsOldOrNone, RunsThrough, StopsOfNewRun, StopsOfRun, exit_status}
 use Rattle.brin_app.specs.StatusCauses.{IsDoneSo}
 use Rattle.brin_app.specs.Statuses.{IsFit, IsUnfit, start_status}
 use Rattle.brin_app.proofs.Crash.{image_as, run_of}

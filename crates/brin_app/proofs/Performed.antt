@@ -14,6 +14,20 @@ pub performed : {status : ℕ} {old new : Told} {l l' k k' : Option (List ℕ)} 
     → IsDoneSo task status old new l l' k k' r w → (other : Task) → Asks words other → IsDoneSo other status old new l l' k k' r w
 performed words task alone done other asks = as_task task other (alone other asks) done
 
+-- no fault of the source was met
+pub with_source : {status : ℕ} {old new : Told} {l l' k k' : Option (List ℕ)} {r w : Type 0} {task : Task} → IsDoneSo task status old new l l' k k' ⊥ w → IsDoneSo task status old new l l' k k' r w
+with_source done = record {
+  output = done.output;
+  read_fault = λ e. absurd (done.read_fault e);
+  write_fault = done.write_fault;
+  disk_fault = done.disk_fault;
+  no_store = done.no_store;
+  damaged = done.damaged;
+  no_usage = done.no_usage;
+  spent = done.spent;
+  complete = λ _ no_write no_disk. done.complete (λ none. none) no_write no_disk;
+}
+
 -- by what is answered, and the disk that comes back
 module _ {D : Type 0} (told : D → Told) (old : Told) (status answered : ℕ) (disk back : D) (said : answered ≡ status) (same : back ≡ disk) where
   pub answered_done : {l l' k k' : Option (List ℕ)} {r w : Type 0} → IsDoneSo RunStored status old (told disk) l l' k k' r w → IsDoneSo RunStored answered old (told back) l l' k k' r w

@@ -7,7 +7,6 @@ use Rattle.io_traits.specs.Written.{AppendsPart}
 use Rattle.store_layout.specs.DiskLayout.{DiskLayout}
 use Rattle.store_opening.specs.StartCauses.{HasNoStore, IsDamagedStore}
 use Rattle.page_store.specs.Keeps.{Tells}
-use Rattle.script_run.specs.declared.engine.AnswerFault.{AnswerFault}
 use Rattle.script_run.specs.declared.engine.AnswerFault.TheVariants.{Memory}
 use Rattle.script_run.specs.declared.fault.RunFault.TheVariants as faults
 use Rattle.script_run.specs.Runs.{RunEnd}

@@ -1,6 +1,6 @@
 //! The demo over a new store.
 
-ghost use Rattle.std.specs.Prelude.{◌≡◌, ◌≢◌, ℕ, List, IsErrOf, IsTrue};
+ghost use Rattle.std.specs.Prelude.{◌≡◌, ◌≢◌, ℕ, List, None, Option, IsErrOf};
 ghost use Rattle.block_model.specs.Causes.{Rose};
 ghost use Rattle.command_words.specs.Laws.{AreDemoNumbers};
 ghost use Rattle.page_store.specs.Keeps.{Tells};
@@ -49,8 +49,8 @@ pub(crate) fn run_demo<D: Disk + Drop, K: Sink>(
     sink: &mut K,
 ) -> (u8, D)
     requires { AreDemoNumbers numbers.seed numbers.rows }
-    // Whatever source there is, nothing is read of it.
-    ensures done { (left : Option (List ℕ)) (F : Type 0) → IsDoneSo (tasks.Demo layout.now numbers.seed numbers.rows) result.0 (D.told disk) (D.told result.1) left left (K.taken sink.old) (K.taken sink.new) F (Rose (K.faults sink.old) (K.faults sink.new)) }
+    // Whatever source there is, nothing is read of it, and no fault of it is met.
+    ensures done { (left : Option (List ℕ)) → IsDoneSo (tasks.Demo layout.now numbers.seed numbers.rows) result.0 (D.told disk) (D.told result.1) left left (K.taken sink.old) (K.taken sink.new) ⊥ (Rose (K.faults sink.old) (K.faults sink.new)) }
 {
     one_layout();
     an_image_opens_to_one_map(layout);
@@ -95,7 +95,7 @@ fn demo_over<D: Disk + Drop, K: Sink>(
     ensures write_fault { result.0 ≡ 5 → Rose (K.faults sink.old) (K.faults sink.new) }
     ensures disk_fault { result.0 ≡ 6 → store.pages.failed ≡ None → Rose (D.told store.pages.disk).faults (D.told result.1).faults }
     ensures damaged { result.0 ≡ 11 → Tells D.told store.pages → store.pages.failed ≡ None → ⊥ }
-    ensures others { (result.0 ≢ 2) × (result.0 ≢ 4) × (result.0 ≢ 9) }
+    ensures others { (result.0 ≢ 2) × ((result.0 ≢ 4) × (result.0 ≢ 9)) }
 {
     an_image_opens_to_one_map(store.layout());
     let mut sessions = Sessions { alloc, store };

@@ -5,7 +5,6 @@ ghost use Rattle.block_model.specs.Causes.{Rose};
 ghost use Rattle.block_model.specs.DatabaseState.{initial_state};
 ghost use Rattle.block_model.specs.declared.schema.Schema.{Schema};
 ghost use Rattle.disk_trait.specs.Throughout.{Throughout};
-ghost use Rattle.store_layout.specs.DiskLayout.{DiskLayout};
 ghost use Rattle.store_layout.specs.FirstBrokenRule.{first_broken_rule};
 ghost use Rattle.schema_words.specs.DeclaredSchema.{Denotes};
 ghost use Rattle.page_store.specs.Keeps.{Tells};
@@ -50,8 +49,8 @@ use store_opening::{StartFault, an_image_opens_to_one_map};
 
 /// Does what the words of a command line say. `init` with options and the declarations of tables and indexes makes an empty store of the disk; `run`
 /// with them does so first, and then runs the script of the source over it, line after line, and writes the text of each line to the sink before the
-/// next line is judged; `run` alone runs it over the store that stands on the disk. The status is 0 where all was done, 2 where the words are no
-/// command or a limit is passed, 4 for a read fault, 5 for a write fault, 6 for a disk fault, 7 for want of memory, 8 where the requests of a line
+/// next line is judged; `run` alone runs it over the store that stands on the disk. `demo` makes a store of its own, reads nothing of the source, and
+/// writes what its script sums up. The status is 0 where all was done, 2 where the words are no command or a limit is passed, 4 for a read fault, 5 for a write fault, 6 for a disk fault, 7 for want of memory, 8 where the requests of a line
 /// don't fit into the journal of 1048576 entries, or 1073741824 bytes of script were taken and another came, 9 where no store stands on the disk, or
 /// it hasn't the size for one, and 11 where the store is damaged. The disk comes back with each.
 pub fn brin_main<D: Disk + Drop, S: Source, K: Sink>(

@@ -1,7 +1,7 @@
 use Rattle.std.proofs.Common.{subst}
 use Rattle.brin_app.specs.Tasks.{HasNumbers}
 use Rattle.brin_app.proofs.Doing.{init_done}
-use Rattle.brin_app.proofs.Performed.{as_task}
+use Rattle.brin_app.proofs.Performed.{as_task, with_source}
 use Rattle.brin_app.proofs.top.perform.Goals as goal
 
 pub returns-in-Init : goal.returns-in-Init
@@ -19,4 +19,4 @@ pub run_demo-requires : goal.run_demo-requires
 run_demo-requires g c = subst HasNumbers c.in-Demo.is c.requires.numbers
 
 pub returns-in-Demo : goal.returns-in-Demo
-returns-in-Demo g c = record { done = as_task _ c.args.task c.in-Demo.is (c.run_demo.ensures _ _) }
+returns-in-Demo g c = record { done = as_task _ c.args.task c.in-Demo.is (with_source (c.run_demo.ensures.done _)) }
