@@ -19,7 +19,7 @@ use crate::stage::{Stage, count_at};
 use crate::steps::step_in;
 use block_model::NoMemory;
 use disk_trait::Disk;
-use engine_pages::PageStore;
+use logged_pages::PageStore;
 use index_steps::Within;
 use page_locks::{Did, Locks, Rights};
 use page_store::MachineFault;

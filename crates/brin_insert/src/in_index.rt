@@ -23,7 +23,7 @@ ghost use Rattle.brin_insert.specs.StepAnswers.{DamageAt, StandsAfter, StepFull}
 use crate::stage::Stage;
 use block_model::{Place, Point, Spot, Value};
 use disk_trait::Disk;
-use engine_pages::PageStore;
+use logged_pages::PageStore;
 use index_contents::relation_of;
 use index_steps::{
     Swapped, Within, a_row_is_added_to_what_is_seen, an_index_that_stays_is_read, copy_tuple,

@@ -25,7 +25,7 @@ use crate::in_index::step_in;
 use crate::stage::Stage;
 use block_model::{NoMemory, Value};
 use disk_trait::Disk;
-use engine_pages::PageStore;
+use logged_pages::PageStore;
 use index_steps::{Within, declared_index, tuples_of_an_index_need_one_room};
 use page_locks::{Did, Locks};
 use page_store::MachineFault;

@@ -31,7 +31,7 @@ use crate::indexes::{asks_at, index_count, range_in};
 use crate::laws::{a_kept_table_is_read, a_row_is_put_in_its_table, an_insert_steps_in_its_table};
 use block_model::{NoMemory, Point, Row, Spot};
 use disk_trait::Disk;
-use engine_pages::PageStore;
+use logged_pages::PageStore;
 use heap_rows::put;
 use index_steps::{declared_index, rows_of_the_table_are_taken};
 use page_locks::{Did, Locks};

@@ -12,7 +12,7 @@ use crate::judging::Judging;
 use crate::stage::Stage;
 use block_model::{NoMemory, Query};
 use disk_trait::Disk;
-use engine_pages::PageStore;
+use logged_pages::PageStore;
 use page_locks::{Did, Point};
 use page_store::MachineFault;
 use std::alloc::Global;

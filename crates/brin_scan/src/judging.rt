@@ -23,7 +23,7 @@ use crate::readers::{IndexReader, readers_of};
 use crate::stage::Stage;
 use block_model::{Cond, NoMemory, Query, Spot};
 use disk_trait::Disk;
-use engine_pages::PageStore;
+use logged_pages::PageStore;
 use heap_rows::blocks;
 use index_steps::{copy_tuple, read_map};
 use page_locks::Point;

@@ -23,7 +23,7 @@ use crate::sight::{LastStatuses, is_visible};
 use crate::stage::Stage;
 use block_model::{Cond, Query, Row, Spot, Value, matches};
 use disk_trait::Disk;
-use engine_pages::PageStore;
+use logged_pages::PageStore;
 use heap_rows::{PageRows, Stored, rows_of};
 use page_locks::{Did, Point};
 use page_store::MachineFault;

@@ -11,7 +11,7 @@ ghost use Rattle.brin_scan.specs.Finds.{OfSight, Sight, none_read, sees_stored};
 ghost use Rattle.brin_scan.specs.LastStatuses.{Remembers, RemembersOne, StandsSo};
 
 use disk_trait::Disk;
-use engine_pages::PageStore;
+use logged_pages::PageStore;
 use heap_rows::Stored;
 use page_store::StoreError;
 use snapshot_core::{Snapshot, Status};

@@ -21,7 +21,7 @@ use crate::course::{
 use crate::wish::Wish;
 use block_model::{NoMemory, Point};
 use disk_trait::Disk;
-use engine_pages::PageStore;
+use logged_pages::PageStore;
 use heap_rows::blocks;
 use index_steps::Within;
 use page_locks::{Did, Locks, Rights};

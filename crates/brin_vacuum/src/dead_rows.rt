@@ -11,7 +11,7 @@ ghost use Rattle.snapshot_core.specs.declared.snapshots.Snapshot.{Snapshot as An
 ghost use Rattle.brin_vacuum.specs.DeadRows.{AddsAtMost, IsPicked, dead_slots, is_dead, living};
 
 use disk_trait::Disk;
-use engine_pages::PageStore;
+use logged_pages::PageStore;
 use heap_rows::Stored;
 use page_store::StoreError;
 use snapshot_core::{Snapshot, Status, dead_to_all};

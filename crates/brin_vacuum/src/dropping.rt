@@ -15,7 +15,7 @@ ghost use Rattle.index_contents.specs.IndexChanges.{LeavesOtherPages};
 
 use block_model::Place;
 use disk_trait::Disk;
-use engine_pages::PageStore;
+use logged_pages::PageStore;
 use page_store::StoreError;
 use wal_record::Change;
 

@@ -11,7 +11,7 @@ ghost use Rattle.brin_vacuum.specs.NextPages.{IsKindOf, IsNextIn, IsNextOf, IsWi
 
 use block_model::Place;
 use disk_trait::Disk;
-use engine_pages::PageStore;
+use logged_pages::PageStore;
 use index_contents::{index_pages_are_known, relation_of};
 use index_layout::{MAP, META, REGULAR, UNSTARTED, kind_of};
 use page_layout::Page;

@@ -25,7 +25,7 @@ use crate::standing::{Course, Standing};
 use crate::sweeping::sweep;
 use block_model::{NoMemory, PAGE_SIZE, Place, Point};
 use disk_trait::Disk;
-use engine_pages::PageStore;
+use logged_pages::PageStore;
 use heap_rows::{PageRows, blocks};
 use index_contents::relation_of;
 use index_steps::lock_of_another;

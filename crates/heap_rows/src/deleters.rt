@@ -13,7 +13,7 @@ ghost use Rattle.heap_rows.specs.RowPlaces.{IsInUse, slot_at};
 use crate::heap::{known, relation_of};
 use block_model::{Place, Spot, Values};
 use disk_trait::Disk;
-use engine_pages::PageStore;
+use logged_pages::PageStore;
 use page_layout::{Form, Page, row_at, row_in, slot_count};
 use page_store::StoreError;
 

@@ -13,7 +13,7 @@ ghost use Rattle.heap_rows.specs.DroppedRows.{AreAscending, AreInUse, DropsRows,
 use crate::heap::{MAX_SLOTS, known, relation_of};
 use block_model::Place;
 use disk_trait::Disk;
-use engine_pages::PageStore;
+use logged_pages::PageStore;
 use page_layout::slots_are_read;
 use page_store::StoreError;
 use wal_record::Change;

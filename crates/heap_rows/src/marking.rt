@@ -12,7 +12,7 @@ ghost use Rattle.heap_rows.specs.RowPlaces.{IsInUse, MarksRow, MarksSlot};
 use crate::heap::{known, relation_of};
 use block_model::{Place, Spot};
 use disk_trait::Disk;
-use engine_pages::PageStore;
+use logged_pages::PageStore;
 use page_store::StoreError;
 use wal_record::Change;
 

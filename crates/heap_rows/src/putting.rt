@@ -21,7 +21,7 @@ ghost use Rattle.heap_rows.specs.RowPut.{FillsFreeSlot, HasNoPlace, HasPlace, Is
 use crate::heap::{known, relation_of, slots_in_all, write_new};
 use block_model::{Place, RowId, Spot, Value};
 use disk_trait::Disk;
-use engine_pages::PageStore;
+use logged_pages::PageStore;
 use page_layout::{HEAP, MAX_ROW, slots_are_read};
 use page_store::{MachineFault, Room, StoreError};
 use store_layout::Layout;

@@ -16,7 +16,7 @@ use crate::heap::{known, relation_of};
 use crate::rows::{PageRows, Stored};
 use block_model::{Place, Values};
 use disk_trait::Disk;
-use engine_pages::PageStore;
+use logged_pages::PageStore;
 use page_layout::{Form, Page, row_at, row_in, slot_count};
 use page_store::StoreError;
 

@@ -16,7 +16,7 @@ ghost use Rattle.heap_versions.specs.Finds.{InOrder, LookOutcome, found_at, foun
 use crate::versions::Hit;
 use block_model::{NoMemory, Query, Row, Rows, Spot, row_matches};
 use disk_trait::Disk;
-use engine_pages::PageStore;
+use logged_pages::PageStore;
 use heap_rows::{PageRows, Stored, rows_of};
 use page_layout::slots_are_read;
 use page_store::MachineFault;

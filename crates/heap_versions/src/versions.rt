@@ -37,7 +37,7 @@ ghost use Rattle.heap_versions.specs.Hits.{AreHits, IsHit, mark_of, marking_answ
 use crate::finding::{find_in_blocks, hits_in_order, rows_in_order};
 use block_model::{NoMemory, Numbers, Query, RowId, Rows, Spot, Value};
 use disk_trait::Disk;
-use engine_pages::PageStore;
+use logged_pages::PageStore;
 use heap_rows::{blocks, blocks_of_a_table_are_one_list, unstarted_tables_have_no_blocks};
 use page_layout::slots_are_read;
 use page_store::{MachineFault, StoreError};

@@ -19,7 +19,7 @@ use crate::reading::page_at;
 use crate::swapping::Within;
 use block_model::Spot;
 use disk_trait::Disk;
-use engine_pages::PageStore;
+use logged_pages::PageStore;
 use page_locks::Locks;
 use page_store::StoreError;
 use range_store::drop_at;

@@ -19,7 +19,7 @@ use crate::reading::page_at;
 use crate::swapping::{Within, map_page_of};
 use block_model::Spot;
 use disk_trait::Disk;
-use engine_pages::PageStore;
+use logged_pages::PageStore;
 use index_contents::relation_of;
 use page_locks::{Held, Locks};
 use page_store::{MachineFault, StoreError};

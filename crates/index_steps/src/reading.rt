@@ -12,7 +12,7 @@ ghost use Rattle.index_steps.specs.Readings.{HasRangeAt, IsMisnamed, IsMisread, 
 
 use block_model::{Place, Spot};
 use disk_trait::Disk;
-use engine_pages::PageStore;
+use logged_pages::PageStore;
 use index_contents::relation_of;
 use page_store::StoreError;
 use range_store::{Scratch, tuple_at};

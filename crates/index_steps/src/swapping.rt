@@ -16,7 +16,7 @@ ghost use Rattle.index_steps.specs.SwapAnswers.{FaultNamesPageOf, IsSwapFull, Le
 
 use block_model::{Place, Spot};
 use disk_trait::Disk;
-use engine_pages::PageStore;
+use logged_pages::PageStore;
 use index_contents::relation_of;
 use index_layout::MAP_ENTRIES;
 use page_locks::{Held, Locks};

@@ -1,4 +1,4 @@
-//! Tests of the range map of an index and of its tuples, over the public calls of revmap, range_store and engine_pages. Nothing
+//! Tests of the range map of an index and of its tuples, over the public calls of revmap, range_store and logged_pages. Nothing
 //! stands on it.
 #![tactic(auto)]
 

@@ -9,7 +9,7 @@ use block_model::{
     Class, Column, Index, Kind, Name, PAGE_SIZE, Part, Place, Schema, Sequence, Sizes, Table,
 };
 use disk_trait::FileDisk;
-use engine_pages::PageStore;
+use logged_pages::PageStore;
 use page_layout::MAP;
 use std::alloc::Global;
 use std::fs::File;

@@ -21,13 +21,11 @@ use Rattle.page_store.specs.FirstRoom.{IsFirstRoom}
 use Rattle.page_store.specs.Forms.{HasForm, IsPageIn, form_of, forms_of}
 use Rattle.page_store.specs.PageFacts.{facts_in, facts_on, no_facts}
 use Rattle.page_store.specs.PageMap.{IsWhole, PageMap, block_at, block_limit, page_at, page_in, unstarted_page}
-use Rattle.page_store.specs.Relations.{IsRelation}
 use Rattle.page_store.specs.Started.{AreFirst, is_started}
 use Rattle.page_store.proofs.FactsKept.{OneList}
-use Rattle.page_store.proofs.Filling.{filled_enough}
 use Rattle.page_store.proofs.Maps.{blocks_in, relations_in}
 use Rattle.page_store.proofs.PageKinds.{unstarted_facts, unstarted_is}
-use Rattle.page_store.proofs.Relations.{all_pages, first_of_index, first_of_pages, started_first, started_same}
+use Rattle.page_store.proofs.Relations.{AreFactsOf, first_of_index, first_of_pages, started_first, started_same}
 use Rattle.logged_pages.specs.StoreFacts.{facts_at}
 
 -- the forms of a layout
@@ -81,11 +79,9 @@ module _ (layout : DiskLayout) (pages : PageMap) (whole : IsWhole layout pages) 
       let many : length facts ≡ length (relation_blocks layout) = sym (length-map facts (length {A = PageFacts})) ∙ ap (length {A = ℕ}) counts in
       sym (get_or-map (length {A = PageFacts}) facts relation [] 0 (omega (arith, many, low))) ∙ ap (λ (l : List ℕ). get_or l relation 0) counts
 
-  of_relation : IsRelation (form_of layout relation) (get_or pages relation []) (length (get_or facts relation [])) (get_or facts relation [])
+  of_relation : AreFactsOf (form_of layout relation) (get_or pages relation []) (get_or facts relation [])
   of_relation = record {
-    formed = formed;
-    few = omega (arith, pages_long, facts_long);
-    reserved = omega arith;
+    many = omega (arith, pages_long, facts_long);
     checked = λ block. ⊎_elim
         (λ (small : block < block_limit layout relation). checked (record { relation = relation; block = block }) (record { relation = low; block = small }))
         (λ (past : block_limit layout relation ≤ block). inl (get_or_past (get_or pages relation []) block unstarted_page (omega (arith, past, pages_long)) ∙ unstarted_is))
@@ -98,31 +94,28 @@ module _ (layout : DiskLayout) (pages : PageMap) (whole : IsWhole layout pages) 
         (cases_lt block (block_limit layout relation));
   }
 
-  all_own : all_pages (get_or pages relation []) (get_or facts relation []) ≡ get_or pages relation []
-  all_own = sym (filled_enough unstarted_page (length (get_or facts relation [])) (get_or pages relation []) (omega (arith, pages_long, facts_long)))
-
   pub count_known : count_by tells_started (get_or facts relation []) ≡ count_by is_started (get_or pages relation [])
-  count_known = sym (started_same (form_of layout relation) (get_or pages relation []) (length (get_or facts relation [])) (get_or facts relation []) of_relation) ∙ ap (count_by is_started) all_own
+  count_known = sym (started_same (form_of layout relation) (get_or pages relation []) (get_or facts relation []) of_relation)
 
   pub first_known : (n : ℕ) → AreFirst (block_limit layout relation) (block_at pages relation) n → count_by tells_started (get_or facts relation []) ≡ n
   first_known n first =
-      started_first (form_of layout relation) (get_or pages relation []) (length (get_or facts relation [])) (get_or facts relation []) of_relation n
-      (subst (λ (l : List (List ℕ)). AreFirst (length l) (page_in l) n) (sym all_own) (subst (λ (k : ℕ). AreFirst k (block_at pages relation) n) (sym pages_long) first))
+      started_first (form_of layout relation) (get_or pages relation []) (get_or facts relation []) of_relation n
+      (subst (λ (k : ℕ). AreFirst k (block_at pages relation) n) (sym pages_long) first)
 
   pub room_known : OneList → (need past : ℕ) (result : Option ℕ) → (IsOfIndex (form_of layout relation) → IsFirstOfIndex (get_or facts relation []) need past result) → ((IsOfIndex (form_of layout relation) → ⊥) → IsFirstOf (get_or facts relation []) result)
       → IsFirstRoom (form_of layout relation) (block_limit layout relation) need past (block_at pages relation) result
   room_known one need past result index rows =
       subst (λ (k : ℕ). IsFirstRoom (form_of layout relation) k need past (block_at pages relation) result) pages_long
-      (subst (λ (l : List (List ℕ)). IsFirstRoom (form_of layout relation) (length l) need past (page_in l) result) all_own (by (form_of layout relation) refl))
+      (by (form_of layout relation) refl)
     where
-      by : (form : Form) → form_of layout relation ≡ form → IsFirstRoom (form_of layout relation) (length (all_pages (get_or pages relation []) (get_or facts relation []))) need past (page_in (all_pages (get_or pages relation []) (get_or facts relation []))) result
+      by : (form : Form) → form_of layout relation ≡ form → IsFirstRoom (form_of layout relation) (length (get_or pages relation [])) need past (block_at pages relation) result
       by forms.Status e =
-          first_of_pages (form_of layout relation) (get_or pages relation []) (length (get_or facts relation [])) (get_or facts relation []) of_relation one (λ is. subst IsOfIndex e is) need past result (rows (λ is. subst IsOfIndex e is))
+          first_of_pages (form_of layout relation) (get_or pages relation []) (get_or facts relation []) of_relation one (λ is. subst IsOfIndex e is) need past result (rows (λ is. subst IsOfIndex e is))
       by (forms.Heap row count kinds format) e =
-          first_of_pages (form_of layout relation) (get_or pages relation []) (length (get_or facts relation [])) (get_or facts relation []) of_relation one (λ is. subst IsOfIndex e is) need past result (rows (λ is. subst IsOfIndex e is))
+          first_of_pages (form_of layout relation) (get_or pages relation []) (get_or facts relation []) of_relation one (λ is. subst IsOfIndex e is) need past result (rows (λ is. subst IsOfIndex e is))
       by forms.Index e =
           let is : IsOfIndex (form_of layout relation) = subst IsOfIndex (sym e) tt in
-          first_of_index (form_of layout relation) (get_or pages relation []) (length (get_or facts relation [])) (get_or facts relation []) of_relation is need past result (index is)
+          first_of_index (form_of layout relation) (get_or pages relation []) (get_or facts relation []) of_relation is need past result (index is)
 
   pub maps_known : (facts_in (get_or facts relation []) 0).maps ≡ map_pages_of (block_at pages relation 0)
   maps_known = ap (λ (f : PageFacts). f.maps) (of_relation.known 0)

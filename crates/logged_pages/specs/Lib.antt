@@ -10,3 +10,4 @@ pub mod StoreFacts
 pub mod Noted
 pub mod Begun
 pub mod Refused
+pub mod SurvivesLaws

@@ -14,7 +14,7 @@ use Rattle.page_locks.specs.declared.did.Did.{Did}
 use Rattle.page_locks.specs.declared.did.Did.TheVariants as did
 use Rattle.page_locks.specs.LockHolders.{LockState, holder}
 use Rattle.logged_pages.specs.Survives.{Survives}
-use Rattle.engine_pages.specs.SurvivesLaws.{survives_on}
+use Rattle.logged_pages.specs.SurvivesLaws.{survives_on}
 use Rattle.index_contents.specs.Calls.{refused_then}
 use Rattle.index_contents.specs.IndexContents.{contents, index_page, relation_of}
 use Rattle.index_contents.specs.IndexChanges.{LeavesOthers}

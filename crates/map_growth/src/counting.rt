@@ -20,7 +20,7 @@ use crate::judging::METAPAGE;
 use crate::stage::Stage;
 use block_model::{Place, Point};
 use disk_trait::Disk;
-use engine_pages::PageStore;
+use logged_pages::PageStore;
 use index_contents::relation_of;
 use index_steps::{lock_of_another, page_at};
 use map_pages::{NextPage, PageState, a_page_of_a_state_is_not_damaged, count_page, next_page};

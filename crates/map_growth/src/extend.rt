@@ -24,7 +24,7 @@ use crate::moving::{drop_old, set};
 use crate::stage::Stage;
 use block_model::NoMemory;
 use disk_trait::Disk;
-use engine_pages::PageStore;
+use logged_pages::PageStore;
 use index_steps::Within;
 use page_locks::{Did, Locks};
 use page_store::MachineFault;

@@ -15,7 +15,7 @@ use crate::moving::evacuate;
 use crate::stage::Stage;
 use block_model::{Place, Point};
 use disk_trait::Disk;
-use engine_pages::PageStore;
+use logged_pages::PageStore;
 use index_contents::relation_of;
 use index_steps::lock_of_another;
 use map_pages::{NextPage, PageState, flag_page, next_page, start_map_page, turn_page};

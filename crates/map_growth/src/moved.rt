@@ -11,7 +11,7 @@ ghost use Rattle.map_growth.specs.MovedTuples.{IsFirstOf};
 
 use block_model::{NoMemory, PAGE_SIZE};
 use disk_trait::Disk;
-use engine_pages::PageStore;
+use logged_pages::PageStore;
 use map_pages::{FirstTuple, first_tuple};
 use page_store::StoreError;
 use std::alloc::Global;

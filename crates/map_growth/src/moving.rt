@@ -23,7 +23,7 @@ use crate::moved::Moved;
 use crate::stage::Stage;
 use block_model::{Place, Point, Spot};
 use disk_trait::Disk;
-use engine_pages::PageStore;
+use logged_pages::PageStore;
 use index_contents::relation_of;
 use index_steps::{Within, drop_moved, lock_of_another, map_page_of, name_moved};
 use map_pages::FirstTuple;

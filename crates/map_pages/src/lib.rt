@@ -3,7 +3,7 @@
 //! and the first tuple of a page that is emptied for it (`first_tuple`). Each says what it makes of entries, tuples and pages of the
 //! index (index_contents), and keeps the order in which its pages stand. A call that answers an error leaves every page as it was, and
 //! none takes memory. A crash in the middle of a call leaves an image that opens to the pages from before it, or as one of that time did.
-//! The crate stands on index_contents and engine_pages.
+//! The crate stands on index_contents and logged_pages.
 #![tactic(auto)]
 
 mod changes;

@@ -16,7 +16,7 @@ ghost use Rattle.map_pages.specs.NextPages.{HasEntry, IsEmptyMap, IsNext, IsNext
 
 use block_model::Place;
 use disk_trait::Disk;
-use engine_pages::PageStore;
+use logged_pages::PageStore;
 use index_contents::{index_pages_are_known, relation_of};
 use index_layout::{
     EVACUATED, MAP, MAP_ENTRIES, REGULAR, UNSTARTED, an_index_page_has_one_list, entry_at, kind_of,

@@ -8,4 +8,4 @@ pub mod FactLists
 pub mod Rooms
 pub mod Relations
 pub mod Maps
-pub mod Stores
+pub mod HeapForms

@@ -11,5 +11,3 @@ pub mod PageFacts
 pub mod Lowest
 pub mod TupleRoom
 pub mod FactLists
-pub mod Relations
-pub mod Store

@@ -2,7 +2,7 @@
 
 use thiserror::Error;
 
-/// Why a call of a store of pages isn't done. Nothing is changed then. A store in memory alone answers neither `Disk` nor `Reopen`.
+/// Why a call of a store of pages isn't done. Nothing is changed then.
 #[derive(Clone, Copy, Debug, Error, PartialEq, Eq)]
 pub enum StoreError {
     /// The disk failed in this call.

@@ -1,9 +1,8 @@
-//! Keeps the pages of all relations over a disk, so that the layers above speak of pages by their places and of no bytes of
-//! the disk. The layer above makes a store with all the memory that it ever takes, reads pages by `read`, changes them by
-//! `change` and `start_with`, and asks `first_room`, `room_at` and `map_pages` without reading one. It sees the store as a map
-//! of places to pages, the record of specs/PageMap.antt. A read gives what the changes made, in order, and a call that
-//! answers an error leaves the map as it was. Every page passes the check of its relation's form (`known`). The pages stand in
-//! memory, and what is known of each page stands apart from it. The crate stands on page_layout, page_redo and a disk.
+//! What a store of pages is, for those that keep one and those that stand on one: a map of places to pages, the record of
+//! specs/PageMap.antt, with what its calls tell of it. A read gives what the changes made, in order, and a call that answers an
+//! error leaves the map as it was. Here stands too what memory keeps of each page of a relation beside the page itself, so that
+//! `FactList` answers which block has room without reading one: a look at one number for each 128 blocks, and at what is kept of
+//! the pages of those that may have room. The crate stands on page_layout, page_redo and a disk.
 #![tactic(auto)]
 
 mod fact_list;
@@ -13,9 +12,6 @@ mod forms;
 mod laws;
 mod lowest;
 mod page_room;
-mod pages;
-mod relation;
-mod store;
 mod tuple_room;
 
 pub use fact_list::FactList;
@@ -24,4 +20,3 @@ pub use faults::{MachineFault, StoreError};
 pub use forms::tables_have_forms;
 pub use laws::maps_with_the_same_pages_are_equal;
 pub use page_room::Room;
-pub use store::PageStore;

@@ -6,7 +6,7 @@ ghost use Rattle.wal_record.specs.Changes.{logged, place_of};
 use crate::int8_rows::{ROW, heap, layout_of};
 use block_model::Place;
 use disk_trait::{Disk, SteadyDisk};
-use engine_pages::PageStore;
+use logged_pages::PageStore;
 use page_redo::fits;
 use page_store::Room;
 use std::alloc::Global;

@@ -18,7 +18,7 @@ ghost use Rattle.range_store.specs.PageTuples.{DropsOn, StaysWithoutTuples};
 use crate::changes::drop_tuple;
 use block_model::{Place, Spot};
 use disk_trait::Disk;
-use engine_pages::PageStore;
+use logged_pages::PageStore;
 use index_contents::{index_pages_are_known, relation_of};
 use index_layout::{a_put_changes_one_slot, an_index_page_has_one_list, tuple_at};
 use page_layout::Page;

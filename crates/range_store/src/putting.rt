@@ -18,7 +18,7 @@ ghost use Rattle.range_store.specs.Tuples.{IsFirstUnstarted, IsTupleSize, TakesB
 use crate::changes::{put_tuple, start_with};
 use block_model::{Place, Spot};
 use disk_trait::Disk;
-use engine_pages::PageStore;
+use logged_pages::PageStore;
 use index_contents::{index_pages_are_known, relation_of};
 use index_layout::{
     REGULAR, UNSTARTED, a_put_changes_one_slot, an_index_page_has_one_list, free_slot, kind_of,

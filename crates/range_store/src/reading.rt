@@ -15,7 +15,7 @@ ghost use Rattle.range_store.specs.Tuples.{IsOfRange};
 use crate::scratch::Scratch;
 use block_model::{PAGE_SIZE, Place, Spot};
 use disk_trait::Disk;
-use engine_pages::PageStore;
+use logged_pages::PageStore;
 use index_contents::{index_pages_are_known, relation_of};
 use index_layout::{an_index_page_has_one_list, tuple_range};
 use page_layout::Page;

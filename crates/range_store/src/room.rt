@@ -13,7 +13,7 @@ ghost use Rattle.range_store.specs.FirstTarget.{IsFirstTarget};
 ghost use Rattle.range_store.specs.Tuples.{IsFirstUnstarted, TakesBytes};
 
 use disk_trait::Disk;
-use engine_pages::PageStore;
+use logged_pages::PageStore;
 use index_contents::relation_of;
 
 /// The page for a tuple of so many bytes: the lowest one behind the map pages that takes tuples and has room, else the next one that

@@ -25,7 +25,7 @@ ghost use Rattle.range_summarise.specs.SummariseSteps.{RestsBlocked, StandsAfter
 
 use crate::stage::Stage;
 use disk_trait::Disk;
-use engine_pages::PageStore;
+use logged_pages::PageStore;
 use index_contents::relation_of;
 use index_steps::{Within, map_page_of};
 use map_growth::{Extend, Stage as GrowthStage};

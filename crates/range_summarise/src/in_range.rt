@@ -34,7 +34,7 @@ use crate::rows::{add_rows, blocks_a_range, first_block, lesser, rows_are_taken,
 use crate::stage::Stage;
 use block_model::{Point, Spot};
 use disk_trait::Disk;
-use engine_pages::PageStore;
+use logged_pages::PageStore;
 use heap_rows::{PageRows, blocks, rows_of};
 use index_steps::{
     Placed, Swapped, Within, a_row_is_added_to_what_is_seen, an_index_that_stays_is_read,

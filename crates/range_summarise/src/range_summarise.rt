@@ -24,7 +24,7 @@ use crate::stage::Stage;
 use crate::work::{Work, step_in};
 use block_model::NoMemory;
 use disk_trait::Disk;
-use engine_pages::PageStore;
+use logged_pages::PageStore;
 use index_steps::{Within, tuples_of_an_index_need_one_room};
 use map_growth::Extend;
 use page_locks::{Did, Locks};

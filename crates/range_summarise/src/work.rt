@@ -29,7 +29,7 @@ use crate::in_range::{
 use crate::stage::Stage;
 use block_model::{Point, Spot};
 use disk_trait::Disk;
-use engine_pages::PageStore;
+use logged_pages::PageStore;
 use heap_rows::PageRows;
 use index_steps::Within;
 use map_growth::Extend;

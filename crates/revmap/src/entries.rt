@@ -19,7 +19,7 @@ use crate::faults::SetFault;
 use crate::map_pages::{entry_at, set_entry};
 use block_model::{Place, Spot};
 use disk_trait::Disk;
-use engine_pages::PageStore;
+use logged_pages::PageStore;
 use index_contents::relation_of;
 use index_layout::{MAP_ENTRIES, an_index_page_has_one_list};
 use page_store::StoreError;

@@ -16,7 +16,7 @@ ghost use Rattle.revmap.specs.MapEntries.{IsNameable};
 
 use block_model::{Place, Spot};
 use disk_trait::Disk;
-use engine_pages::PageStore;
+use logged_pages::PageStore;
 use page_store::StoreError;
 use wal_record::Change;
 

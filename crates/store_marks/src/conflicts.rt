@@ -17,7 +17,7 @@ ghost use Rattle.transactions.specs.TransactionsState.{OfOpen};
 ghost use Rattle.store_marks.specs.HitConflicts.{HitConflicts};
 
 use disk_trait::Disk;
-use engine_pages::PageStore;
+use logged_pages::PageStore;
 use heap_rows::deleter_of;
 use page_store::StoreError;
 use snapshot_core::Status;

@@ -3,7 +3,7 @@
 use crate::dropped_requests::DroppedRequests;
 use crate::journal::Journal;
 use disk_trait::Disk;
-use engine_pages::PageStore;
+use logged_pages::PageStore;
 use page_locks::{Locks, Rights};
 use std::alloc::Global;
 use summary_queue::Queue;

@@ -13,7 +13,7 @@ ghost use Rattle.store_starts.specs.OpenedParts.{AreOpened, IsDone, IsRefused, S
 
 use crate::laws::{a_new_store_is_at_its_start, opened_parts_fit};
 use disk_trait::Disk;
-use engine_pages::PageStore;
+use logged_pages::PageStore;
 use page_locks::{Locks, Rights};
 use page_store::MachineFault;
 use std::alloc::Global;

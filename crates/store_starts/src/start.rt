@@ -16,7 +16,7 @@ ghost use Rattle.store_starts.specs.Started.{ImagesStay, IsOfStart, OpensTable, 
 use crate::parts::open_parts;
 use control_page::one_layout;
 use disk_trait::Disk;
-use engine_pages::PageStore;
+use logged_pages::PageStore;
 use page_store::{MachineFault, StoreError};
 use std::alloc::Global;
 use store_images::an_image_is_shown;

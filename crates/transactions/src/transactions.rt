@@ -26,7 +26,7 @@ ghost use Rattle.transactions.specs.TransactionsState.{AreOpen, OfOpen, next_ope
 use crate::faults::Unbegun;
 use block_model::{Numbers, RowId};
 use disk_trait::Disk;
-use engine_pages::PageStore;
+use logged_pages::PageStore;
 use page_store::{MachineFault, StoreError};
 use row_versions::{
     Open, Standing, count_row, fail_open, no_transactions, numbers_of, oldest_of, open_of,

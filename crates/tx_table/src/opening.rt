@@ -18,7 +18,7 @@ ghost use Rattle.tx_table.specs.TxState.{IsNext};
 use crate::status_pages::{ENTRIES, RELATION};
 use block_model::Place;
 use disk_trait::Disk;
-use engine_pages::PageStore;
+use logged_pages::PageStore;
 use page_layout::{Page, STATUS_ENTRIES, status_at};
 use page_store::StoreError;
 

@@ -14,7 +14,7 @@ ghost use Rattle.tx_table.specs.Statuses.{HasStatuses, IsStartedBlock, OfStatuse
 
 use block_model::Place;
 use disk_trait::Disk;
-use engine_pages::PageStore;
+use logged_pages::PageStore;
 use page_layout::{STATUS_ENTRIES, status_at};
 use page_store::StoreError;
 use snapshot_core::Status;

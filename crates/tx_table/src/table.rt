@@ -17,7 +17,7 @@ use crate::faults::BeginFault;
 use crate::opening::next_number;
 use crate::status_pages::{flush, number_limit, set_each, set_status, stored_status};
 use disk_trait::Disk;
-use engine_pages::PageStore;
+use logged_pages::PageStore;
 use page_store::StoreError;
 use snapshot_core::Status;
 use std::marker::Model;

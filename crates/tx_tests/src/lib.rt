@@ -1,4 +1,4 @@
-//! Tests of the table of transactions, over the public calls of tx_table and engine_pages. Nothing stands on it.
+//! Tests of the table of transactions, over the public calls of tx_table and logged_pages. Nothing stands on it.
 #![tactic(auto)]
 
 #[cfg(test)]

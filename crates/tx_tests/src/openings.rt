@@ -7,7 +7,7 @@ use crate::steps::{Answer, Difference, Step, difference};
 use crate::trial::opened;
 use block_model::PAGE_SIZE;
 use disk_trait::Disk;
-use engine_pages::PageStore;
+use logged_pages::PageStore;
 use snapshot_core::Status;
 use std::alloc::Global;
 use std::test::Fail;

@@ -4,7 +4,7 @@ ghost use Rattle.std.specs.Prelude.{◌<◌};
 
 use block_model::{PAGE_SIZE, Place, Sizes};
 use disk_trait::{Disk, SteadyDisk};
-use engine_pages::PageStore;
+use logged_pages::PageStore;
 use page_layout::{Form, Page, STATUS, check};
 use small_layouts::{LEAST, table_layout};
 use std::alloc::Global;

@@ -3,7 +3,7 @@
 use crate::watched::{Reads, WatchedDisk};
 use block_model::{Place, Sizes};
 use disk_trait::{Disk, SteadyDisk};
-use engine_pages::PageStore;
+use logged_pages::PageStore;
 use small_layouts::{LEAST, table_layout};
 use std::alloc::Global;
 use store_format::format;

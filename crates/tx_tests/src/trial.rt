@@ -10,7 +10,7 @@ ghost use Rattle.tx_table.specs.TxState.{IsOver, IsOwn};
 
 use block_model::Place;
 use disk_trait::Disk;
-use engine_pages::PageStore;
+use logged_pages::PageStore;
 use page_layout::STATUS_ENTRIES;
 use page_store::StoreError;
 use snapshot_core::Status;

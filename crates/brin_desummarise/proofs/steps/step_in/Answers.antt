@@ -6,7 +6,7 @@ use Rattle.page_locks.specs.LockCounts.{locks_of}
 use Rattle.page_locks.specs.LockHolders.{LockState, holder}
 use Rattle.page_store.specs.Keeps.{Tells}
 use Rattle.page_store.specs.PageMap.{View}
-use Rattle.engine_pages.specs.SurvivesLaws.{survives_still}
+use Rattle.logged_pages.specs.SurvivesLaws.{survives_still}
 use Rattle.index_contents.specs.IndexContents.{relation_of}
 use Rattle.index_order.specs.OrderLaws.{order_kept}
 use Rattle.index_steps.specs.LockLaws.{same_apart, takes_none}

@@ -3,7 +3,7 @@ use Rattle.std.proofs.lemmas.List.{drop_more}
 use Rattle.std.proofs.lemmas.Result.{err_from_is_err_and}
 use Rattle.block_model.specs.declared.place.Spot.{Spot}
 use Rattle.block_model.specs.declared.row.Row.{Row}
-use Rattle.engine_pages.specs.SurvivesLaws.{survives_on, survives_still}
+use Rattle.logged_pages.specs.SurvivesLaws.{survives_on, survives_still}
 use Rattle.page_store.specs.Keeps.{keeps_on}
 use Rattle.store_layout.specs.DiskLayout.{DiskLayout}
 use Rattle.snapshot_core.specs.declared.statuses.Status.{Status}

@@ -1,4 +1,4 @@
-use Rattle.engine_pages.specs.SurvivesLaws.{survives_on}
+use Rattle.logged_pages.specs.SurvivesLaws.{survives_on}
 use Rattle.brin_scan.proofs.scan.find_on.Goals as goal
 
 pub returns-in-Ok-find_among-clause-survives : goal.returns-in-Ok-find_among-clause-survives

@@ -1,5 +1,5 @@
 use Rattle.std.proofs.Common.{sym}
-use Rattle.engine_pages.specs.SurvivesLaws.{survives_still}
+use Rattle.logged_pages.specs.SurvivesLaws.{survives_still}
 use Rattle.brin_scan.proofs.Remembered.{done_by_commit, done_by_nobody, done_by_none, done_own, stands_read}
 use Rattle.brin_scan.proofs.VisibleRows.{sight_of}
 use Rattle.brin_scan.proofs.sight.has_done.Goals as goal

@@ -1,4 +1,4 @@
-use Rattle.engine_pages.specs.SurvivesLaws.{survives_on}
+use Rattle.logged_pages.specs.SurvivesLaws.{survives_on}
 use Rattle.brin_scan.proofs.sight.is_visible.Goals as goal
 
 pub returns-clause-survives : goal.returns-clause-survives

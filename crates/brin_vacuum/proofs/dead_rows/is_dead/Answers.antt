@@ -1,7 +1,7 @@
 use Rattle.std.proofs.Common.{◌≡◌, List, ap, ◌∙◌}
 use Rattle.snapshot_core.specs.Dead.{is_dead_to_all}
 use Rattle.snapshot_core.specs.declared.statuses.Status.{Status}
-use Rattle.engine_pages.specs.SurvivesLaws.{survives_on}
+use Rattle.logged_pages.specs.SurvivesLaws.{survives_on}
 use Rattle.brin_vacuum.specs.DeadRows.{living}
 use Rattle.brin_vacuum.proofs.Onward.{statuses_before}
 use Rattle.brin_vacuum.proofs.dead_rows.is_dead.Goals as goal

@@ -1,7 +1,7 @@
 use Rattle.std.proofs.Common.{◌≡◌, ◌++◌, ◌+◌, ℕ, List, [], ◌∷◌, drop, length, refl, sym, ap, subst, ◌∙◌, arith}
 use Rattle.std.proofs.lemmas.List.{append-nil, drop_all, drop_more}
 use Rattle.snapshot_core.specs.declared.statuses.Status.{Status}
-use Rattle.engine_pages.specs.SurvivesLaws.{survives_on, survives_still}
+use Rattle.logged_pages.specs.SurvivesLaws.{survives_on, survives_still}
 use Rattle.page_store.specs.Keeps.{keeps_on}
 use Rattle.heap_rows.specs.declared.rows.Stored.{Stored}
 use Rattle.brin_vacuum.specs.DeadRows.{IsPicked, dead_slots, living}

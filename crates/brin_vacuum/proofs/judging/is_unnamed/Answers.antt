@@ -1,4 +1,4 @@
-use Rattle.engine_pages.specs.SurvivesLaws.{survives_still}
+use Rattle.logged_pages.specs.SurvivesLaws.{survives_still}
 use Rattle.brin_vacuum.proofs.judging.is_unnamed.Goals as goal
 
 pub returns-in_default-clause-survives : goal.returns-in_default-clause-survives

@@ -1,6 +1,6 @@
 use Rattle.std.proofs.Common.{◌≡◌, ◌<◌, ℕ, true, List, length, refl, sym, ap, subst, ◌∙◌, arith}
 use Rattle.coverage.specs.Counts.{NoneBelow}
-use Rattle.engine_pages.specs.SurvivesLaws.{survives_on, survives_still}
+use Rattle.logged_pages.specs.SurvivesLaws.{survives_on, survives_still}
 use Rattle.page_store.specs.Keeps.{Tells, keeps_on}
 use Rattle.index_layout.specs.IndexWrites.{are_ascending}
 use Rattle.index_contents.specs.IndexContents.{contents}

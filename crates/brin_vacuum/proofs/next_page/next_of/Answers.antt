@@ -1,6 +1,6 @@
 use Rattle.std.proofs.Common.{◌≡◌, ◌<◌, inr, length, ap, sym, subst, ◌∙◌, arith}
 use Rattle.store_layout.specs.DiskLayout.{DiskLayout}
-use Rattle.engine_pages.specs.SurvivesLaws.{survives_on, survives_still}
+use Rattle.logged_pages.specs.SurvivesLaws.{survives_on, survives_still}
 use Rattle.page_store.specs.Keeps.{keeps_on}
 use Rattle.block_model.specs.declared.schema.Sizes.{Sizes}
 use Rattle.coverage.specs.IndexView.{Mapping}

@@ -1,6 +1,6 @@
 use Rattle.std.proofs.Common.{◌≡◌, ◌+◌, ℕ, ◌∷◌, inl, inr, drop, get_or, refl, ap, sym, subst, ◌∙◌, arith}
 use Rattle.std.specs.Prelude.{None, Option, Some}
-use Rattle.engine_pages.specs.SurvivesLaws.{survives_on, survives_still}
+use Rattle.logged_pages.specs.SurvivesLaws.{survives_on, survives_still}
 use Rattle.page_store.specs.Keeps.{keeps_on}
 use Rattle.std.proofs.lemmas.List.{drop_all, drop_more}
 use Rattle.store_layout.specs.DiskLayout.{DiskLayout}

@@ -1,7 +1,7 @@
 use Rattle.std.proofs.Common.{◌≡◌, ◌<◌, ℕ, List, length, ap, sym, subst, ◌∙◌, arith}
 use Rattle.store_layout.specs.DiskLayout.{DiskLayout}
 use Rattle.snapshot_core.specs.declared.statuses.Status.{Status}
-use Rattle.engine_pages.specs.SurvivesLaws.{survives_on}
+use Rattle.logged_pages.specs.SurvivesLaws.{survives_on}
 use Rattle.page_store.specs.Keeps.{Tells, keeps_on}
 use Rattle.heap_rows.specs.DroppedRows.{AreAscending, AreInUse, FreesSlots, with_slots_free}
 use Rattle.heap_rows.specs.HeapBlocks.{OfBlocks}

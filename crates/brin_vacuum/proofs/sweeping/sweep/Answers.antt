@@ -7,7 +7,7 @@ use Rattle.page_store.specs.PageMap.{page_at}
 use Rattle.index_layout.specs.IndexPages.{IsRegular}
 use Rattle.index_layout.specs.IndexReading.{slots_of}
 use Rattle.index_layout.specs.IndexWrites.{CanDrop, dropped, trimmed}
-use Rattle.engine_pages.specs.SurvivesLaws.{survives_on}
+use Rattle.logged_pages.specs.SurvivesLaws.{survives_on}
 use Rattle.index_contents.specs.IndexContents.{relation_of}
 use Rattle.brin_vacuum.proofs.SlotBytes.{none_there, some_there}
 use Rattle.brin_vacuum.proofs.SweptStore.{place_of, sweep_can, sweep_counts, sweep_done, sweep_of_none, sweep_order}

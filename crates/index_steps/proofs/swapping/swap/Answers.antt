@@ -6,7 +6,7 @@ use Rattle.page_store.specs.PageMap.{PageMap}
 use Rattle.page_locks.specs.LockChanges.{IsFreeFor, page_of}
 use Rattle.page_locks.specs.LockHolders.{holder}
 use Rattle.coverage.specs.Verdicts.{SwapVerdict, Waits}
-use Rattle.engine_pages.specs.SurvivesLaws.{survives_on, survives_still}
+use Rattle.logged_pages.specs.SurvivesLaws.{survives_on, survives_still}
 use Rattle.index_contents.specs.IndexContents.{contents, relation_of}
 use Rattle.index_order.specs.OrderLaws.{order_then}
 use Rattle.index_steps.specs.IndexTuples.{seen, shape_of}

@@ -3,7 +3,7 @@ use Rattle.block_model.specs.declared.place.Place.{Place}
 use Rattle.store_layout.specs.DiskLayout.{DiskLayout}
 use Rattle.page_store.specs.Keeps.{Untold}
 use Rattle.page_locks.specs.LockHolders.{holder}
-use Rattle.engine_pages.specs.SurvivesLaws.{survives_still}
+use Rattle.logged_pages.specs.SurvivesLaws.{survives_still}
 use Rattle.index_contents.specs.IndexContents.{relation_of}
 use Rattle.map_growth.specs.declared.stage.Stage.TheVariants as stages
 use Rattle.map_growth.specs.Called.{Called, hand_at}

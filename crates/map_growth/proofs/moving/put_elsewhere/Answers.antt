@@ -6,7 +6,7 @@ use Rattle.page_store.specs.Keeps.{Tells, Untold}
 use Rattle.page_locks.specs.declared.did.Did.TheVariants as did
 use Rattle.page_locks.specs.LockChanges.{IsFreeFor, page_of}
 use Rattle.page_locks.specs.LockHolders.{LockState, holder}
-use Rattle.engine_pages.specs.SurvivesLaws.{survives_still}
+use Rattle.logged_pages.specs.SurvivesLaws.{survives_still}
 use Rattle.index_contents.specs.IndexContents.{contents, relation_of}
 use Rattle.map_growth.specs.declared.stage.Stage.TheVariants as stages
 use Rattle.map_growth.specs.Called.{Called, hand_at}

@@ -1,4 +1,4 @@
-use Rattle.page_store.proofs.Stores.{have_forms}
+use Rattle.page_store.proofs.HeapForms.{have_forms}
 use Rattle.page_store.proofs.forms.tables_have_forms.Goals as goal
 
 pub returns-clause-forms : goal.returns-clause-forms

@@ -7,7 +7,7 @@ use Rattle.page_store.specs.Outcome.{NamesPage}
 use Rattle.index_contents.specs.Calls.{past_the_limit}
 use Rattle.index_contents.specs.IndexChanges.{LeavesOtherPages}
 use Rattle.index_contents.specs.PageLaws.{leaves_others}
-use Rattle.engine_pages.specs.SurvivesLaws.{survives_still}
+use Rattle.logged_pages.specs.SurvivesLaws.{survives_still}
 use Rattle.store_opening.specs.PageOrder.{kind_of}
 use Rattle.index_order.specs.OrderLaws.{order_kept}
 use Rattle.index_order.specs.OrderedCalls.{keeps_by_drop}

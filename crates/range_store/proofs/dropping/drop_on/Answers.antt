@@ -4,7 +4,7 @@ use Rattle.page_store.specs.PageMap.{PageMap, page_at}
 use Rattle.index_layout.specs.IndexPages.{IsRegular}
 use Rattle.index_layout.specs.IndexReading.{is_regular, slots_of}
 use Rattle.index_layout.specs.IndexWrites.{trimmed}
-use Rattle.engine_pages.specs.SurvivesLaws.{survives_on}
+use Rattle.logged_pages.specs.SurvivesLaws.{survives_on}
 use Rattle.range_store.proofs.Found.{has_tuples, slot_below}
 use Rattle.range_store.proofs.PageWrites.{drops_on}
 use Rattle.range_store.proofs.dropping.drop_on.Goals as goal

@@ -10,7 +10,7 @@ use Rattle.page_store.specs.Outcome.{NamesPage}
 use Rattle.index_contents.specs.Calls.{past_the_limit}
 use Rattle.index_contents.specs.IndexContents.{tuple_on}
 use Rattle.index_contents.specs.Reading.{tuple_there}
-use Rattle.engine_pages.specs.SurvivesLaws.{survives_still}
+use Rattle.logged_pages.specs.SurvivesLaws.{survives_still}
 use Rattle.range_store.proofs.Spots.{none_past}
 use Rattle.range_store.proofs.reading.tuple_at.Goals as goal
 

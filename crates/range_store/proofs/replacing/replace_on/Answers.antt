@@ -4,7 +4,7 @@ use Rattle.page_store.specs.PageMap.{PageMap, page_at}
 use Rattle.index_layout.specs.declared.format.TheConstants.{REGULAR}
 use Rattle.index_layout.specs.IndexPages.{IsRegular}
 use Rattle.index_layout.specs.IndexReading.{slots_of}
-use Rattle.engine_pages.specs.SurvivesLaws.{survives_on}
+use Rattle.logged_pages.specs.SurvivesLaws.{survives_on}
 use Rattle.range_store.proofs.Fitting.{can_replace}
 use Rattle.range_store.proofs.Misfits.{misfit_names_none, misfit_told}
 use Rattle.range_store.proofs.PageWrites.{replaces_on}

@@ -2,7 +2,7 @@ use Rattle.std.proofs.Common.{sym, ap, subst, ◌∙◌}
 use Rattle.range_summarise.specs.declared.stage.Stage.{Stage}
 use Rattle.range_summarise.specs.ShownHeap.{heap_of}
 use Rattle.range_summarise.specs.SummariseSteps.{StandsAfter, StepsAt}
-use Rattle.engine_pages.specs.SurvivesLaws.{survives_still}
+use Rattle.logged_pages.specs.SurvivesLaws.{survives_still}
 use Rattle.page_store.specs.Keeps.{Tells}
 use Rattle.range_summarise.specs.StepCauses.{DamageAt}
 use Rattle.range_summarise.specs.Works.{hand_of}

@@ -6,7 +6,7 @@ use Rattle.coverage.specs.IndexView.{map_page_of}
 use Rattle.index_contents.specs.IndexContents.{relation_of}
 use Rattle.index_contents.specs.Calls.{past_the_limit}
 use Rattle.index_contents.specs.Reading.{uncounted}
-use Rattle.engine_pages.specs.SurvivesLaws.{survives_still}
+use Rattle.logged_pages.specs.SurvivesLaws.{survives_still}
 use Rattle.revmap.proofs.RangeEntries.{entry_past, entry_read}
 use Rattle.revmap.proofs.entries.entry.Goals as goal
 

@@ -1,4 +1,4 @@
-use Rattle.engine_pages.specs.SurvivesLaws.{survives_on}
+use Rattle.logged_pages.specs.SurvivesLaws.{survives_on}
 use Rattle.revmap.proofs.entries.set.Goals as goal
 
 pub returns-in-Ok-set_found-clause-survives : goal.returns-in-Ok-set_found-clause-survives

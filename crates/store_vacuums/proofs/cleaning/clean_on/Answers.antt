@@ -18,7 +18,7 @@ use Rattle.store_parts.specs.StoreFaults.{fault_of}
 use Rattle.store_parts.specs.UndoneLaws.{StepsSo}
 use Rattle.store_parts.proofs.Undone.{refused_is_undone}
 use Rattle.store_upkeep.proofs.UpkeepParts.{leaves_same}
-use Rattle.engine_pages.specs.SurvivesLaws.{survives_still}
+use Rattle.logged_pages.specs.SurvivesLaws.{survives_still}
 use Rattle.store_vacuums.proofs.CleaningDone.{finished, moved}
 use Rattle.store_vacuums.proofs.CleaningParts.{fits, heap_there, of, with_these, within}
 use Rattle.store_vacuums.proofs.CleaningRights.{right_left}

@@ -5,7 +5,7 @@ use Rattle.store_layout.specs.DiskLayout.{DiskLayout}
 use Rattle.heap_rows.specs.DroppedRows.{with_slots_free}
 use Rattle.heap_rows.specs.HeapBlocks.{HasBlocks}
 use Rattle.heap_rows.specs.LeavesOthers.{LeavesOthers}
-use Rattle.engine_pages.specs.SurvivesLaws.{survives_on}
+use Rattle.logged_pages.specs.SurvivesLaws.{survives_on}
 use Rattle.brin_vacuum.specs.Vacuums.{ComesTo, VacuumState}
 use Rattle.brin_vacuum.proofs.Pruned.{has_after, tables_then}
 use Rattle.brin_vacuum.proofs.Beginning.{prunes_rows}

@@ -5,7 +5,7 @@ use Rattle.store_layout.specs.DiskLayout.{DiskLayout}
 use Rattle.page_locks.specs.LockChanges.{IsAnothers, IsFreeFor, page_of}
 use Rattle.page_locks.specs.LockHolders.{holder}
 use Rattle.heap_rows.specs.HeapBlocks.{HasBlocks}
-use Rattle.engine_pages.specs.SurvivesLaws.{survives_on}
+use Rattle.logged_pages.specs.SurvivesLaws.{survives_on}
 use Rattle.index_contents.specs.IndexChanges.{LeavesOtherPages, LeavesOthers}
 use Rattle.index_contents.specs.IndexContents.{relation_of}
 use Rattle.index_order.specs.OrderLaws.{order_then}
