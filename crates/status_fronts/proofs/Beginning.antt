@@ -15,7 +15,7 @@ use Rattle.snapshot_core.specs.declared.statuses.Status.TheVariants.{Begun, Unus
 use Rattle.snapshot_core.specs.Visibility.{is_committed}
 use Rattle.row_versions.specs.declared.sessions.Open.{Open}
 use Rattle.row_versions.specs.StoredVersions.{transaction_of}
-use Rattle.heap_versions.specs.ShownVersions.{version_of}
+use Rattle.transactions.specs.ShownVersions.{version_of}
 use Rattle.tx_table.specs.Statuses.{after_stop}
 use Rattle.transactions.specs.GivenStatuses.{given_status}
 use Rattle.transactions.specs.Sessions.{HaveTransactions}

@@ -26,7 +26,7 @@ use Rattle.row_versions.proofs.Copies.{rewritten}
 use Rattle.row_versions.proofs.Ends.{committed_effect}
 use Rattle.row_versions.proofs.Sights.{status_other, status_own}
 use Rattle.row_versions.proofs.Stored.{AreDistinct}
-use Rattle.heap_versions.specs.ShownVersions.{shown_tables}
+use Rattle.transactions.specs.ShownVersions.{shown_tables}
 use Rattle.tx_table.specs.Statuses.{HasStatuses, status_relation, with_all}
 use Rattle.transactions.specs.GivenStatuses.{given_status, given_statuses}
 use Rattle.transactions.specs.Sessions.{committed_by}

@@ -19,8 +19,8 @@ use Rattle.row_versions.specs.declared.table.Version.{Version}
 use Rattle.row_versions.specs.StoredVersions.{stored}
 use Rattle.row_versions.specs.VisibleState.{is_of_commit, status_of, table_of}
 use Rattle.row_versions.proofs.Stored.{AreDistinct, get-table_of, row_of as its_row, stored_id}
-use Rattle.heap_versions.specs.ShownVersions.{version_of}
-use Rattle.heap_versions.proofs.Marks.{stored_there}
+use Rattle.transactions.specs.ShownVersions.{version_of}
+use Rattle.transactions.proofs.StoredThere.{stored_there}
 use Rattle.tx_table.specs.Statuses.{HasStatuses, after_stop}
 use Rattle.transactions.specs.GivenStatuses.{given_status, given_statuses}
 use Rattle.transactions.specs.ShowsDatabase.{ShowsDatabase}

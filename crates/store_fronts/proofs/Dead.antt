@@ -29,7 +29,7 @@ use Rattle.row_versions.specs.declared.sessions.Open.{Open}
 use Rattle.row_versions.specs.StoredVersions.{IsKnown, stored, transaction_of}
 use Rattle.row_versions.specs.VisibleState.{is_marked, status_of}
 use Rattle.row_versions.proofs.Stored.{contains-ids_of}
-use Rattle.heap_versions.specs.ShownVersions.{version_of}
+use Rattle.transactions.specs.ShownVersions.{version_of}
 use Rattle.transactions.specs.GivenStatuses.{given_status, given_statuses}
 use Rattle.transactions.specs.Sessions.{HaveTransactions, IsCopyOf}
 use Rattle.transactions.specs.ShowsDatabase.{ShowsDatabase}

@@ -16,7 +16,7 @@ use Rattle.snapshot_core.specs.Dead.{is_deleted_for_all, is_rolled_back}
 use Rattle.snapshot_core.specs.Visibility.{had_ended, has_done, in_snapshot, is_committed}
 use Rattle.row_versions.specs.declared.sessions.Open.{Open}
 use Rattle.row_versions.specs.StoredVersions.{transaction_of}
-use Rattle.heap_versions.specs.ShownVersions.{version_of}
+use Rattle.transactions.specs.ShownVersions.{version_of}
 use Rattle.transactions.specs.GivenStatuses.{given_status}
 use Rattle.transactions.specs.ShowsDatabase.{ShowsDatabase}
 use Rattle.transactions.specs.StoredRows.{StandsAt}

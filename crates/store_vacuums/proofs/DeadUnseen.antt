@@ -16,7 +16,7 @@ use Rattle.row_versions.specs.declared.sessions.Open.{Open}
 use Rattle.row_versions.specs.declared.table.Version.{Version}
 use Rattle.row_versions.specs.StoredVersions.{IsKnown, IsUnderWay, transaction_of}
 use Rattle.row_versions.specs.VisibleState.{status_of}
-use Rattle.heap_versions.specs.ShownVersions.{version_of}
+use Rattle.transactions.specs.ShownVersions.{version_of}
 use Rattle.transactions.specs.GivenStatuses.{given_statuses}
 use Rattle.transactions.specs.ShowsDatabase.{ShowsDatabase}
 use Rattle.transactions.specs.StoredRows.{StandsAt}

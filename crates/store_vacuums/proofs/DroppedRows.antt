@@ -12,8 +12,8 @@ use Rattle.heap_rows.specs.HeapBlocks.{slots_of}
 use Rattle.heap_rows.specs.RowPlaces.{slot_at}
 use Rattle.snapshot_core.specs.declared.statuses.Status.{Status}
 use Rattle.row_versions.specs.declared.table.Version.{Version}
-use Rattle.heap_versions.specs.ShownVersions.{version_of, versions_in, versions_of_table, versions_on}
-use Rattle.heap_versions.proofs.Tables.{own_table, same_versions, table_by_blocks}
+use Rattle.transactions.specs.ShownVersions.{version_of, versions_in, versions_of_table, versions_on}
+use Rattle.transactions.proofs.Tables.{own_table, same_versions, table_by_blocks}
 use Rattle.tx_table.specs.Kept.{started_blocks_kept, statuses_kept}
 use Rattle.transactions.specs.GivenStatuses.{given_statuses}
 use Rattle.transactions.specs.ShowsDatabase.{ShowsDatabase}

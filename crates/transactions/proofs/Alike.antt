@@ -10,8 +10,8 @@ use Rattle.snapshot_core.specs.declared.statuses.Status.TheVariants.{Unused}
 use Rattle.row_versions.specs.declared.table.Version.{Version}
 use Rattle.row_versions.specs.StoredVersions.{AreVersions, stored}
 use Rattle.row_versions.specs.VisibleState.{all_versions, visible_state}
-use Rattle.heap_versions.specs.ShownVersions.{shown_tables, versions_of_table}
-use Rattle.heap_versions.proofs.Tables.{same_versions, shown_at}
+use Rattle.transactions.specs.ShownVersions.{shown_tables, versions_of_table}
+use Rattle.transactions.proofs.Tables.{same_versions, shown_at}
 use Rattle.tx_table.specs.Kept.{HasSameStatusPages, started_blocks_kept, statuses_kept}
 use Rattle.transactions.specs.GivenStatuses.{given_status, given_statuses}
 use Rattle.transactions.specs.ShowsDatabase.{ShowsDatabase}

@@ -30,8 +30,8 @@ use Rattle.row_versions.specs.VisibleState.{all_versions, status_of, visible_sta
 use Rattle.row_versions.proofs.Begins.{begun_effect, begun_stored, new_open}
 use Rattle.row_versions.proofs.Copies.{Becomes, becomes, get_open, get_visible, rewritten, still_all}
 use Rattle.row_versions.proofs.Ends.{committed_effect, ended_stored, rolled_effect}
-use Rattle.heap_versions.specs.ShownVersions.{shown_tables}
-use Rattle.heap_versions.proofs.Tables.{own_table}
+use Rattle.transactions.specs.ShownVersions.{shown_tables}
+use Rattle.transactions.proofs.Tables.{own_table}
 use Rattle.tx_table.specs.Durable.{HasPart, IsBefore}
 use Rattle.tx_table.specs.LeavesRest.{AreStarted, LeavesRest}
 use Rattle.tx_table.specs.Statuses.{HasStatuses, OfStatuses, number_limit, status_relation}

@@ -23,7 +23,7 @@ use Rattle.row_versions.specs.VisibleState.{is_seen, table_of, visible_transacti
 use Rattle.row_versions.proofs.Stored.{get-table_of, row_of as its_row, stored_id}
 use Rattle.row_versions.proofs.Copies.{get_open, get_visible, is_idle}
 use Rattle.row_versions.proofs.Conflicts.{its_open}
-use Rattle.heap_versions.specs.ShownVersions.{version_of}
+use Rattle.transactions.specs.ShownVersions.{version_of}
 use Rattle.tx_table.specs.Statuses.{HasStatuses}
 use Rattle.transactions.specs.GivenStatuses.{given_status, given_statuses}
 use Rattle.transactions.specs.Laws.{IsOfTransactions, IsSeenInCopy}

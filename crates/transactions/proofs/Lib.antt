@@ -1,3 +1,8 @@
+pub mod Swaps
+pub mod Tables
+pub mod Changes
+pub mod TableSwaps
+pub mod StoredThere
 pub mod Given
 pub mod PageSlots
 pub mod Shown

@@ -27,11 +27,11 @@ use Rattle.row_versions.proofs.Among.{puts_deleter}
 use Rattle.row_versions.proofs.Copies.{get_open}
 use Rattle.row_versions.proofs.Markings.{conflict_effect, free_effect, marked_stored}
 use Rattle.row_versions.proofs.Puttings.{failed_state}
-use Rattle.heap_versions.specs.ShownVersions.{version_of, versions_of_table, versions_on}
-use Rattle.heap_versions.proofs.Marks.{its_swap, stored_there}
-use Rattle.heap_versions.proofs.Puts.{swaps_table}
-use Rattle.heap_versions.proofs.Swaps.{Swaps}
-use Rattle.heap_versions.proofs.Tables.{own_table, table_by_blocks}
+use Rattle.transactions.specs.ShownVersions.{version_of, versions_of_table, versions_on}
+use Rattle.transactions.proofs.StoredThere.{its_swap, stored_there}
+use Rattle.transactions.proofs.TableSwaps.{swaps_table}
+use Rattle.transactions.proofs.Swaps.{Swaps}
+use Rattle.transactions.proofs.Tables.{own_table, table_by_blocks}
 use Rattle.tx_table.specs.Kept.{started_blocks_kept, statuses_kept}
 use Rattle.transactions.specs.GivenStatuses.{given_status, given_statuses}
 use Rattle.transactions.specs.Laws.{IsMarking}

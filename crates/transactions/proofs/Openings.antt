@@ -23,8 +23,8 @@ use Rattle.row_versions.specs.StoredVersions.{IsStored, stored, transaction_of}
 use Rattle.row_versions.specs.VisibleState.{all_versions, is_of_commit, status_of, table_of, visible_sessions, visible_state, visible_transaction}
 use Rattle.row_versions.proofs.Copies.{get_visible}
 use Rattle.row_versions.proofs.Fresh.{empty_state, new_versions}
-use Rattle.heap_versions.specs.ShownVersions.{shown_tables, versions_of_table}
-use Rattle.heap_versions.proofs.Tables.{table_by_blocks}
+use Rattle.transactions.specs.ShownVersions.{shown_tables, versions_of_table}
+use Rattle.transactions.proofs.Tables.{table_by_blocks}
 use Rattle.tx_table.specs.LeavesRest.{AreStarted}
 use Rattle.tx_table.specs.Statuses.{HasStatuses, after_stop}
 use Rattle.tx_table.specs.TxState.{IsNext, TxState}

@@ -15,7 +15,7 @@ use Rattle.row_versions.specs.declared.sessions.Open.{Open}
 use Rattle.row_versions.specs.Marks.{holds}
 use Rattle.row_versions.specs.StoredVersions.{transaction_of}
 use Rattle.row_versions.proofs.Conflicts.{unheld_uncommitted}
-use Rattle.heap_versions.specs.ShownVersions.{version_of}
+use Rattle.transactions.specs.ShownVersions.{version_of}
 use Rattle.tx_table.specs.Statuses.{HasStatuses, after_stop, number_limit}
 use Rattle.transactions.specs.GivenStatuses.{given_status}
 use Rattle.transactions.specs.ShowsDatabase.{ShowsDatabase}

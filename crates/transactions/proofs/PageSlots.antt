@@ -1,7 +1,7 @@
 -- What the bytes of a page say of its slots.
 use Rattle.std.proofs.Common.{refl}
 use Rattle.page_layout.proofs.SlotsRead.{one_list, unstarted_free}
-use Rattle.heap_versions.proofs.Tables.{AreRead}
+use Rattle.transactions.proofs.Tables.{AreRead}
 
 pub are_read : AreRead
 are_read = record {

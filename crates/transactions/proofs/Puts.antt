@@ -24,11 +24,11 @@ use Rattle.row_versions.proofs.Stored.{AreDistinct, Puts, stored_after}
 use Rattle.row_versions.proofs.Among.{puts_new}
 use Rattle.row_versions.proofs.Copies.{Becomes, rewritten, still_all}
 use Rattle.row_versions.proofs.Puttings.{new_is_absent, new_version, put_effect, put_stored}
-use Rattle.heap_versions.specs.ShownVersions.{version_of, versions_of_table, versions_on}
-use Rattle.heap_versions.proofs.Changes.{swaps_put}
-use Rattle.heap_versions.proofs.Puts.{swaps_table}
-use Rattle.heap_versions.proofs.Swaps.{Swaps}
-use Rattle.heap_versions.proofs.Tables.{own_table, table_by_blocks}
+use Rattle.transactions.specs.ShownVersions.{version_of, versions_of_table, versions_on}
+use Rattle.transactions.proofs.Changes.{swaps_put}
+use Rattle.transactions.proofs.TableSwaps.{swaps_table}
+use Rattle.transactions.proofs.Swaps.{Swaps}
+use Rattle.transactions.proofs.Tables.{own_table, table_by_blocks}
 use Rattle.tx_table.specs.Kept.{HasSameStatusPages, started_blocks_kept, statuses_kept}
 use Rattle.transactions.specs.GivenStatuses.{given_status, given_statuses}
 use Rattle.transactions.specs.ShowsDatabase.{DoesRequest, ShowsDatabase}

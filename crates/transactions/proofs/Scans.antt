@@ -29,7 +29,7 @@ use Rattle.row_versions.specs.declared.sessions.Open.{Open}
 use Rattle.row_versions.specs.StoredVersions.{stored, transaction_of}
 use Rattle.row_versions.specs.VisibleState.{is_seen, table_of}
 use Rattle.row_versions.proofs.Stored.{stored_id}
-use Rattle.heap_versions.specs.ShownVersions.{version_of}
+use Rattle.transactions.specs.ShownVersions.{version_of}
 use Rattle.tx_table.specs.Statuses.{HasStatuses}
 use Rattle.transactions.specs.FoundRows.{AreFound, IsFoundThere}
 use Rattle.transactions.specs.GivenStatuses.{given_statuses}

@@ -13,7 +13,7 @@ use Rattle.row_versions.specs.declared.sessions.Open.{Open}
 use Rattle.row_versions.specs.StoredVersions.{IsStored, transaction_of}
 use Rattle.row_versions.specs.VisibleState.{all_versions, status_of, visible_state}
 use Rattle.row_versions.proofs.Sights.{begun_known}
-use Rattle.heap_versions.specs.ShownVersions.{shown_tables}
+use Rattle.transactions.specs.ShownVersions.{shown_tables}
 use Rattle.tx_table.specs.Statuses.{HasStatuses}
 use Rattle.tx_table.specs.TxState.{IsOwn}
 use Rattle.tx_table.proofs.Pages.{statuses_one}

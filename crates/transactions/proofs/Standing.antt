@@ -24,11 +24,11 @@ use Rattle.row_versions.specs.declared.table.Version.{Version}
 use Rattle.row_versions.specs.StoredVersions.{stored}
 use Rattle.row_versions.specs.VisibleState.{all_versions}
 use Rattle.row_versions.proofs.Stored.{AreDistinct, ids}
-use Rattle.heap_versions.specs.ShownVersions.{shown_tables, version_of, versions_in, versions_of_table, versions_on}
-use Rattle.heap_versions.proofs.Changes.{slot_there, swaps_mark}
-use Rattle.heap_versions.proofs.Puts.{swaps_shown}
-use Rattle.heap_versions.proofs.Swaps.{Swaps, swaps_in}
-use Rattle.heap_versions.proofs.Tables.{shown_at, table_by_blocks}
+use Rattle.transactions.specs.ShownVersions.{shown_tables, version_of, versions_in, versions_of_table, versions_on}
+use Rattle.transactions.proofs.Changes.{slot_there, swaps_mark}
+use Rattle.transactions.proofs.TableSwaps.{swaps_shown}
+use Rattle.transactions.proofs.Swaps.{Swaps, swaps_in}
+use Rattle.transactions.proofs.Tables.{shown_at, table_by_blocks}
 use Rattle.transactions.proofs.PageSlots.{are_read}
 use Rattle.transactions.proofs.Shown.{versions_on_pages}
 

@@ -1,3 +1,4 @@
+pub mod ShownVersions
 pub mod TransactionsState
 pub mod GivenStatuses
 pub mod ShowsDatabase

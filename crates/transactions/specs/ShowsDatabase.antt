@@ -15,7 +15,7 @@ use Rattle.snapshot_core.specs.declared.statuses.Status.TheVariants.{Unused}
 use Rattle.row_versions.specs.declared.table.Version.{Version}
 use Rattle.row_versions.specs.StoredVersions.{AreVersions, stored as stored_version}
 use Rattle.row_versions.specs.VisibleState.{all_versions, visible_state}
-use Rattle.heap_versions.specs.ShownVersions.{shown_tables}
+use Rattle.transactions.specs.ShownVersions.{shown_tables}
 use Rattle.tx_table.specs.LeavesRest.{AreStarted}
 use Rattle.tx_table.specs.Statuses.{HasStatuses}
 use Rattle.tx_table.specs.TxState.{IsNext}

@@ -1,8 +1,8 @@
 //! The open transactions of all sessions, over statuses that stand on pages, and which database they show: one whose transactions
 //! each work on a copy of the tables (specs/ShowsDatabase.antt). The pages are handed to each call. The layer above puts and marks
 //! rows on the pages of tables itself, and keeps indexes on others; the laws say what each such change is in the database, what a
-//! session sees of the rows in their slots, and what no other session sees of it. It stands on tx_table, on heap_rows, and on
-//! row_versions and heap_versions for the database that row versions show.
+//! session sees of the rows in their slots, and what no other session sees of it. It stands on tx_table, on heap_rows, whose rows
+//! are the versions (specs/ShownVersions.antt), and on row_versions for the database that row versions show.
 #![tactic(auto)]
 
 mod faults;

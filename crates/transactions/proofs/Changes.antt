@@ -12,9 +12,9 @@ use Rattle.page_layout.specs.PageWrites.{marked}
 use Rattle.heap_rows.specs.HeapBlocks.{slots_of}
 use Rattle.heap_rows.specs.RowPlaces.{FillsSlot, slot_at, with_row, with_slot, with_table_block}
 use Rattle.row_versions.specs.declared.table.Version.{Version}
-use Rattle.heap_versions.specs.ShownVersions.{version_of, versions_in, versions_on}
-use Rattle.heap_versions.proofs.Swaps.{Swaps, swaps_in}
-use Rattle.heap_versions.proofs.Tables.{free_have_none}
+use Rattle.transactions.specs.ShownVersions.{version_of, versions_in, versions_on}
+use Rattle.transactions.proofs.Swaps.{Swaps, swaps_in}
+use Rattle.transactions.proofs.Tables.{free_have_none}
 
 -- a slot with a row is one of a block
 pub slot_there : (blocks : List (List Slot)) (spot : Spot) (row : StoredRow) → slot_at blocks spot ≡ Some row → (spot.block < length blocks) × (spot.slot < length (slots_of blocks spot.block))

@@ -4,22 +4,20 @@ use Rattle.std.specs.Prelude.{None, Some, replicate}
 use Rattle.std.specs.List.{flat_map, range_with_len}
 use Rattle.std.proofs.lemmas.Bool.{cases_lt}
 use Rattle.std.proofs.lemmas.List.{get_or_past}
-use Rattle.std.proofs.lemmas.List.FromFn.{get_or-map-range_with_len, length-map-range_with_len, fill_by_all}
+use Rattle.std.proofs.lemmas.List.FromFn.{get_or-map-range_with_len, length-map-range_with_len}
 use Rattle.std.proofs.lemmas.List.Elements.{All-nil, All-cons, All-append}
-use Rattle.std.proofs.lemmas.List.{length-replicate, get_or-replicate}
-use Rattle.block_model.specs.declared.place.Place.{Place}
 use Rattle.store_layout.specs.DiskLayout.{DiskLayout}
 use Rattle.page_layout.specs.declared.page.Form.{Form}
 use Rattle.page_layout.specs.FreeSlots.{slot_count}
 use Rattle.page_layout.specs.PageContents.{HasSlots, IsUnstarted, Slot}
 use Rattle.page_layout.specs.SlotsOnPage.{slots_on}
-use Rattle.page_store.specs.PageMap.{PageMap, block_at, page_at}
+use Rattle.page_store.specs.PageMap.{PageMap, block_at}
 use Rattle.heap_rows.specs.Heaps.{form_at, relation_of}
 use Rattle.heap_rows.specs.HeapBlocks.{HasBlocks, slots_of}
 use Rattle.row_versions.specs.declared.table.Version.{Version}
 use Rattle.row_versions.specs.StoredVersions.{versions_at}
-use Rattle.heap_versions.specs.ShownVersions.{versions_in, versions_on, versions_of_block, versions_of_table, shown_tables}
-use Rattle.heap_versions.proofs.Swaps.{by_elements}
+use Rattle.transactions.specs.ShownVersions.{versions_in, versions_on, versions_of_block, versions_of_table, shown_tables}
+use Rattle.transactions.proofs.Swaps.{by_elements}
 
 -- what the bytes of a page say of its slots
 pub record AreRead : Type 0 where
@@ -82,13 +80,3 @@ own_table layout pages table =
           let long = length-map-range_with_len (versions_of_table layout pages) 0 (length layout.schema.tables) in
           subst (All P) (sym (get_or_past (shown_tables layout pages) table [] (omega arith))) (All-nil P)
     ]
-
--- no page is started
-pub none_started : AreRead → (layout : DiskLayout) (pages : PageMap) → ((place : Place) → IsUnstarted (page_at pages place)) → shown_tables layout pages ≡ replicate (length layout.schema.tables) []
-unfolding versions_of_table
-none_started read layout pages zeros =
-    let n = length layout.schema.tables in
-    sym (fill_by_all (versions_of_table layout pages) (replicate n []) n [] (length-replicate {A = List Version} n []) (λ k low.
-    get_or-replicate {A = List Version} n k [] [] low
-    ∙ sym (by_elements (versions_of_block layout pages k) (versions_on k) [] [] 0 layout.sizes.heap_blocks (omega arith) (λ j there. absurd (omega arith))
-    (λ j past below. unstarted_has_none read layout pages k (0 + j) (zeros (record { relation = relation_of k; block = 0 + j }))))))

@@ -1,17 +1,13 @@
 -- the row versions that stand on heap pages
-use Rattle.std.specs.Prelude.{ℕ, List, [], ◌∷◌, length, map, Option, None, Some}
+use Rattle.std.specs.Prelude.{ℕ, List, [], ◌∷◌, length, map, None, Some}
 use Rattle.std.specs.List.{flat_map, range_with_len}
 use Rattle.store_layout.specs.DiskLayout.{DiskLayout}
 use Rattle.page_layout.specs.PageContents.{Slot}
 use Rattle.page_layout.specs.RowBytes.{StoredRow}
 use Rattle.page_layout.specs.SlotsOnPage.{slots_on}
-use Rattle.page_store.specs.PageMap.{PageMap, View, block_at}
+use Rattle.page_store.specs.PageMap.{PageMap, block_at}
 use Rattle.heap_rows.specs.Heaps.{form_at, relation_of}
-use Rattle.snapshot_core.specs.declared.statuses.Status.{Status}
 use Rattle.row_versions.specs.declared.table.Version.{Version}
-use Rattle.row_versions.specs.declared.sessions.Open.{Open}
-use Rattle.row_versions.specs.VisibleState.{all_versions, visible_state}
-use Rattle.heap_versions.specs.HeapState.{HeapState}
 
 -- a row of the table of that number, as it is stored
 abbrev pub version_of : ℕ → StoredRow → Version
@@ -37,8 +33,3 @@ versions_of_table layout pages table = flat_map (versions_of_block layout pages 
 -- those of each table
 abbrev pub shown_tables : DiskLayout → PageMap → List (List Version)
 shown_tables layout pages = map (versions_of_table layout pages) (range_with_len 0 (length layout.schema.tables))
-
--- what pages, statuses, open transactions and room for so many statuses are seen as
-abbrev pub shown_heap : {D : Type 0} → View D → List Status → List (Option Open) → ℕ → HeapState D
-shown_heap store statuses sessions room =
-    record { store = store; database = visible_state (all_versions (shown_tables store.layout store.pages)) statuses sessions; statuses = statuses; room = room }
