@@ -1,5 +1,5 @@
 -- What changes of one page leave.
-use Rattle.std.proofs.Common.{◌≡◌, ℕ, ◌+◌, List, [], ◌∷◌, refl, ap, subst, ◌∙◌, arith}
+use Rattle.std.proofs.Common.{◌≡◌, ℕ, ◌+◌, List, [], ◌∷◌, ap, subst, ◌∙◌, arith}
 use Rattle.std.specs.Prelude.{Result, Ok, Err, OnOk, OnErr, Some, set}
 use Rattle.block_model.specs.declared.place.Place.{Place}
 use Rattle.block_model.specs.declared.place.Spot.{Spot}
@@ -27,10 +27,6 @@ pub change_leaves : {D T E : Type 0} (told : D → Told) (layout : DiskLayout) (
 change_leaves told layout place changes old new (Ok value) changed kept leaves = record { leaves = leaves; pages = λ told_old other apart. (changed told_old).others other apart }
 change_leaves told layout place changes old new (Err error) changed kept leaves = record { leaves = leaves; pages = λ told_old other apart. ap (λ pages. page_at pages other) (kept.pages told_old) }
 
--- and so does a call that changes none
-pub kept_leaves : {D : Type 0} (told : D → Told) (place : Place) (old new : View D) → Keeps told old new → LeavesOtherPages told place old new
-kept_leaves told place old new kept = record { leaves = kept.leaves; pages = λ told_old other apart. ap (λ pages. page_at pages other) (kept.pages told_old) }
-
 -- so a change of a table's page leaves every other table
 pub table_leaves : {D : Type 0} (told : D → Told) (table : ℕ) (place : Place) (old new : View D) → place.relation ≡ relation_of table → LeavesOtherPages told place old new → LeavesOthers told table old new
 table_leaves told table place old new at leaves = record {
@@ -41,12 +37,6 @@ table_leaves told table place old new at leaves = record {
       let relation : other + 1 ≡ table + 1 = ap (λ (p : Place). p.relation) same ∙ at in
       apart (omega arith)));
 }
-
--- and so does a call that changes no page
-pub kept_others : {D : Type 0} (told : D → Told) (table : ℕ) (old new : View D) → Keeps told old new → LeavesOthers told table old new
-kept_others told table old new kept =
-    let place : Place = record { relation = relation_of table; block = 0 } in
-    table_leaves told table place old new refl (kept_leaves told place old new kept)
 
 -- and every other block of the table
 pub block_leaves : {D : Type 0} (told : D → Told) (table : ℕ) (place : Place) (old new : View D) → LeavesOtherPages told place old new → Tells told old → LeavesOthersOf old.pages new.pages table place.block

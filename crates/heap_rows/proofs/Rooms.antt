@@ -6,7 +6,7 @@ use Rattle.std.proofs.lemmas.Option.{slice_get-get_or}
 use Rattle.block_model.specs.declared.place.Place.{Place}
 use Rattle.page_layout.specs.declared.page.Form.{Form}
 use Rattle.page_layout.specs.declared.page.Form.TheVariants as forms
-use Rattle.page_layout.specs.PageContents.{Slot, HasSlot, HasSlots, IsRowOf, IsUnstarted}
+use Rattle.page_layout.specs.PageContents.{Slot, HasSlots, IsRowOf, IsUnstarted}
 use Rattle.page_layout.specs.PageWrites.{IsEmptyHeap, IsOfHeap}
 use Rattle.page_layout.specs.FreeSlots.{slot_count, lowest_free}
 use Rattle.page_layout.specs.SlotLaws.{free_found, started_not}
@@ -38,12 +38,6 @@ first_free form page empty some =
 -- a page takes a start and a row
 pub start_fits : (form : Form) (page : List ℕ) (place : Place) (bytes : List ℕ) → IsOfHeap form → 0 < slot_count form → IsRowOf form bytes → FitInTurn form page (PageStart place 2 ∷ RowPut place 0 bytes ∷ [])
 start_fits form page place bytes heap some row = ((heap, refl), λ next empty. ((first_free form next empty some, row), λ last made. tt))
-
--- a slot of that number is on each page
-pub slot_zero : (form : Form) → IsOfHeap form → 0 < slot_count form → HasSlot form 0
-slot_zero forms.Status heap some = absurd heap
-slot_zero (forms.Heap row count ks format) heap some = some
-slot_zero forms.Index heap some = absurd heap
 
 -- a page that isn't started has the slots that a start gives it, and no others
 pub once_unstarted : (form : Form) (page : List ℕ) (slots : List Slot) → IsUnstarted page → HasSlotsOnceStarted form page slots → slots ≡ replicate (slot_count form) None

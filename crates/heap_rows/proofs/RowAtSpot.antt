@@ -1,14 +1,12 @@
 -- The row at a spot, on the page that is read for it.
-use Rattle.std.proofs.Common.{◌≡◌, ℕ, ◌≤◌, List, get_or, sym, subst, arith}
+use Rattle.std.proofs.Common.{◌≡◌, ℕ, List, get_or, sym, subst}
 use Rattle.std.specs.Prelude.{None, Some}
-use Rattle.std.proofs.lemmas.List.{get_or_past}
 use Rattle.block_model.specs.declared.place.Spot.{Spot}
 use Rattle.store_layout.specs.DiskLayout.{DiskLayout}
 use Rattle.page_layout.specs.declared.page.Form.{Form}
-use Rattle.page_layout.specs.FreeSlots.{slot_count}
 use Rattle.page_layout.specs.PageContents.{Slot, HasSlots, row_bytes_in}
 use Rattle.page_layout.specs.RowBytes.{StoredRow}
-use Rattle.page_layout.specs.SlotLaws.{free_read, free_slot, length-has}
+use Rattle.page_layout.specs.SlotLaws.{free_read, free_slot}
 use Rattle.page_store.specs.PageMap.{PageMap, block_at}
 use Rattle.heap_rows.specs.Heaps.{relation_of, form_at}
 use Rattle.heap_rows.specs.HeapBlocks.{HasBlocks, slots_of}
@@ -21,12 +19,6 @@ pub slots_read : {layout : DiskLayout} {table : ℕ} {pages : PageMap} {blocks :
 slots_read {layout} {table} {pages} {blocks} has spot row form page is at there =
     let within = in_use has spot row there in
     subst (λ (f : Form). HasSlots f page (slots_of blocks spot.block)) (sym is) (subst (λ (p : List ℕ). HasSlots (form_at layout table) p (slots_of blocks spot.block)) (sym at) (has.started spot.block within.0))
-
--- a slot that the page doesn't have has no row
-pub no_such_slot : (form : Form) (page : List ℕ) (slots : List Slot) (row : StoredRow) (slot : ℕ) → HasSlots form page slots → slot_count form ≤ slot → get_or slots slot None ≡ Some row → ⊥
-no_such_slot form page slots row slot has past there =
-    let none : get_or slots slot None ≡ None = get_or_past slots slot None (omega (arith, length-has form page slots has)) in
-    absurd cc
 
 -- nor has one of which no row is read
 pub none_read : (form : Form) (page : List ℕ) (slots : List Slot) (row : StoredRow) (slot : ℕ) → HasSlots form page slots → None ≡ row_bytes_in form slots slot → get_or slots slot None ≡ Some row → ⊥

@@ -33,10 +33,6 @@ pub record IsHeap (layout : DiskLayout) (table : ℕ) : Type 0 where
   pub some : 0 < slots_a_page layout table
   pub one : OneList
 
--- a fact of the form and the relation that the code found
-pub at_table : (layout : DiskLayout) (table relation : ℕ) (form : Form) (P : Form → ℕ → Type 0) → form ≡ form_at layout table → relation ≡ relation_of table → P form relation → P (form_at layout table) (relation_of table)
-at_table layout table relation form P is number holds = subst (λ (r : ℕ). P (form_at layout table) r) number (subst (λ (f : Form). P f relation) is holds)
-
 -- every page of the table but one is as before
 abbrev pub LeavesOthersOf : PageMap → PageMap → ℕ → ℕ → Type 0
 LeavesOthersOf old new table block = (other : ℕ) → other ≢ block → block_at new (relation_of table) other ≡ block_at old (relation_of table) other

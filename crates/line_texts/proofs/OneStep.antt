@@ -23,7 +23,7 @@ use Rattle.line_texts.specs.Requests.{Course, MakesAll, OneMore, MakesMark, Firs
 use Rattle.line_texts.specs.StatementSteps.{Outcome, Moved, Ended, Waits, course_of, MakesAt, RefusesSo, ForMemory, HeapIsFull, IndexIsFull, reply_after, StepsTo}
 use Rattle.line_texts.specs.StatementSteps.{GoesOn, Replies, MeetsConflict, IsRefused, AtOnce, NothingAsked, LacksMemoryAtOnce, NoNumber, IsWaiting}
 use Rattle.line_texts.specs.LineTexts as texts
-use Rattle.line_texts.specs.LineTexts.{Submits, Taken, NotTaken, WantsMemory, Does, Plain, RefusesPlain, Finishes, LastStep, block_refusal, dropped_at, outcome_text, refused_text}
+use Rattle.line_texts.specs.LineTexts.{Submits, Taken, NotTaken, WantsMemory, Plain, RefusesPlain, Finishes, LastStep, block_refusal, dropped_at, outcome_text, refused_text}
 use Rattle.line_texts.specs.LineTexts.{submit_refusal, with_statement}
 use Rattle.line_texts.specs.Laws.{IsTransactional, IsWant, OfMemory, OfRoom, OfLock, IsOneStep, IsWanting, PlainIsAsOneStep}
 use Rattle.line_texts.proofs.Orders.{updated_here, refusal_by_block}

@@ -1,8 +1,7 @@
 -- a version among others
-use Rattle.std.proofs.Common.{◌≡◌, Bool, true, false, cond, ℕ, List, [], ◌∷◌, ◌++◌, map, Option, None, Some, refl, sym, ap, ◌∙◌, subst}
+use Rattle.std.proofs.Common.{◌≡◌, Bool, true, false, cond, ℕ, List, [], ◌∷◌, ◌++◌, Option, None, Some, refl, sym, ap, ◌∙◌, subst}
 use Rattle.std.specs.List.{AllByRecursion, IsDistinct}
 use Rattle.std.specs.Cmp.{eq_by_cmp_equiv}
-use Rattle.std.specs.Option.{option_map}
 use Rattle.std.specs.Ordering.{eq_by_cmp}
 use Rattle.std.proofs.lemmas.Bool.{true≢false}
 use Rattle.std.proofs.lemmas.List.{map-append}
@@ -78,49 +77,3 @@ puts_deleter xs ys v t d = record {
     over_it : (b : Bool) (o : Option Version) → cond b (Some (with_deleter v t)) o ≡ cond b (Some (with_deleter v t)) (cond b (Some v) o)
     over_it true o = refl
     over_it false o = refl
-
--- ---- the version of an id, wherever it stands
-
--- the versions, with that of the id deleted by the transaction of the number
-abbrev pub with_deleted : List Version → RowId → ℕ → List Version
-with_deleted vs id t = map (λ (v : Version). cond (eq_by_cmp id_cmp id v.row.id) (with_deleter v t) v) vs
-
-same_ids : (vs : List Version) (id : RowId) (t : ℕ) → ids (with_deleted vs id t) ≡ ids vs
-same_ids [] id t = refl
-same_ids (x ∷ xs) id t =
-    elim (eq_by_cmp id_cmp id x.row.id) as (λ b. ids (cond b (with_deleter x t) x ∷ with_deleted xs id t) ≡ ids (x ∷ xs)) [
-      | true ↦ ap (λ (l : List RowId). x.row.id ∷ l) (same_ids xs id t)
-      | false ↦ ap (λ (l : List RowId). x.row.id ∷ l) (same_ids xs id t)
-    ]
-
-its_deleted : (vs : List Version) (id : RowId) (t : ℕ) → stored (with_deleted vs id t) id ≡ option_map (λ (v : Version). with_deleter v t) (stored vs id)
-its_deleted [] id t = refl
-its_deleted (x ∷ xs) id t = go (eq_by_cmp id_cmp id x.row.id) refl (its_deleted xs id t)
-  where
-    go : (b : Bool) → eq_by_cmp id_cmp id x.row.id ≡ b → stored (with_deleted xs id t) id ≡ option_map (λ (v : Version). with_deleter v t) (stored xs id)
-        → stored (cond b (with_deleter x t) x ∷ with_deleted xs id t) id ≡ option_map (λ (v : Version). with_deleter v t) (stored (x ∷ xs) id)
-    go true e rest =
-        ap (λ b. cond b (Some (with_deleter x t)) (stored (with_deleted xs id t) id)) e ∙ sym (ap (λ b. option_map (λ (v : Version). with_deleter v t) (cond b (Some x) (stored xs id))) e)
-    go false e rest =
-        ap (λ b. cond b (Some x) (stored (with_deleted xs id t) id)) e ∙ rest ∙ sym (ap (λ b. option_map (λ (v : Version). with_deleter v t) (cond b (Some x) (stored xs id))) e)
-
-others_kept : (vs : List Version) (id q : RowId) (t : ℕ) → eq_by_cmp id_cmp q id ≡ false → stored (with_deleted vs id t) q ≡ stored vs q
-others_kept [] id q t apart = refl
-others_kept (x ∷ xs) id q t apart = go (eq_by_cmp id_cmp id x.row.id) refl (others_kept xs id q t apart)
-  where
-    go : (b : Bool) → eq_by_cmp id_cmp id x.row.id ≡ b → stored (with_deleted xs id t) q ≡ stored xs q → stored (cond b (with_deleter x t) x ∷ with_deleted xs id t) q ≡ stored (x ∷ xs) q
-    go true e rest =
-        let ne : eq_by_cmp id_cmp q x.row.id ≡ false = ap (eq_by_cmp id_cmp q) (sym (same_id id x.row.id e)) ∙ apart in
-        ap (λ b. cond b (Some (with_deleter x t)) (stored (with_deleted xs id t) q)) ne ∙ rest ∙ sym (ap (λ b. cond b (Some x) (stored xs q)) ne)
-    go false e rest = ap (cond (eq_by_cmp id_cmp q x.row.id) (Some x)) rest
-
-pub puts_deleted : (vs : List Version) (v : Version) (t : ℕ) → AreDistinct vs → stored vs v.row.id ≡ Some v → Puts vs (with_deleted vs v.row.id t) (with_deleter v t)
-puts_deleted vs v t d there = record {
-  before = d;
-  after = subst (IsDistinct (eq_by_cmp id_cmp)) (sym (same_ids vs v.row.id t)) d;
-  at = λ q. go q (eq_by_cmp id_cmp q v.row.id) refl;
-}
-  where
-    go : (q : RowId) (b : Bool) → eq_by_cmp id_cmp q v.row.id ≡ b → stored (with_deleted vs v.row.id t) q ≡ cond b (Some (with_deleter v t)) (stored vs q)
-    go q true e = ap (stored (with_deleted vs v.row.id t)) (same_id q v.row.id e) ∙ its_deleted vs v.row.id t ∙ ap (option_map (λ (v : Version). with_deleter v t)) there
-    go q false e = others_kept vs v.row.id q t e

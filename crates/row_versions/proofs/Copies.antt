@@ -1,10 +1,10 @@
 -- the open transactions as a map of copies
 use Rattle.std.proofs.Common.{◌≡◌, Bool, true, false, cond, ℕ, zero, suc, ◌+◌, ◌<◌, List, [], ◌∷◌, map, length, get_or, set, Option, None, Some, refl, sym, ap, ◌∙◌, ◌⊎◌, inl, inr, subst, arith}
-use Rattle.std.specs.Option.{option_map, IfSome, IsSome}
+use Rattle.std.specs.Option.{option_map}
 use Rattle.std.specs.Ordering.{nat_cmp, eq_by_cmp}
 use Rattle.std.specs.Cmp.{nat_cmp_total, eq_by_cmp_equiv}
 use Rattle.std.specs.FinMap.{get, insert, remove, find, get-from_entries, get-insert, get-remove, same_map, nat_cmp-IsAntisymmetric}
-use Rattle.std.proofs.lemmas.Bool.{false≢true, cases_lt}
+use Rattle.std.proofs.lemmas.Bool.{cases_lt}
 use Rattle.std.proofs.lemmas.List.{get_or-set_same, get_or-set_other, get_or_past, length-set}
 use Rattle.block_model.specs.NumberMaps.{numbers_apart}
 use Rattle.block_model.specs.DatabaseState.{DatabaseState, OpenTransaction}
@@ -12,10 +12,8 @@ use Rattle.statements.specs.declared.limits.TheConstants.{MAX_SESSIONS}
 use Rattle.snapshot_core.specs.declared.statuses.Status.{Status}
 use Rattle.row_versions.specs.declared.table.Version.{Version}
 use Rattle.row_versions.specs.declared.sessions.Open.{Open}
-use Rattle.row_versions.specs.VersionsState.{standing_of}
 use Rattle.row_versions.specs.VisibleState.{visible_transaction, visible_sessions, visible_state, open_from}
 use Rattle.row_versions.specs.StoredVersions.{transaction_of}
-use Rattle.row_versions.specs.SessionChanges.{failed_open}
 use Rattle.row_versions.proofs.Choices.{chosen, same_number, other_number}
 
 -- the sessions' copies with their numbers
@@ -113,24 +111,12 @@ pub get_open : (vs : List Version) (ss : List Status) (os : List (Option Open)) 
     → get s.sessions n ≡ Some (visible_transaction ss vs o)
 get_open vs ss os n o s view was = ap (λ (s : DatabaseState). get s.sessions n) (sym view) ∙ get_visible ss vs os n ∙ ap (option_map (visible_transaction ss vs)) was
 
-mapped_some : (f : Open → OpenTransaction) (o : Option Open) → IsSome (option_map f o) → IsSome o
-mapped_some f None h = h
-mapped_some f (Some o) h = h
-
-pub is_there : (vs : List Version) (ss : List Status) (os : List (Option Open)) (n : ℕ) (s : DatabaseState) → visible_state vs ss os ≡ s → IsSome (get s.sessions n) → IsSome (transaction_of os n)
-is_there vs ss os n s view there =
-    mapped_some (visible_transaction ss vs) (transaction_of os n) (subst (λ (o : Option OpenTransaction). IsSome o) (ap (λ (s : DatabaseState). get s.sessions n) (sym view) ∙ get_visible ss vs os n) there)
-
 pub is_idle : (vs : List Version) (ss : List Status) (os : List (Option Open)) (n : ℕ) (s : DatabaseState) → visible_state vs ss os ≡ s → get s.sessions n ≡ None → transaction_of os n ≡ None
 is_idle vs ss os n s view none = unmapped (transaction_of os n) (sym (get_visible ss vs os n) ∙ ap (λ (s : DatabaseState). get s.sessions n) view ∙ none)
   where
     unmapped : (o : Option Open) → option_map (visible_transaction ss vs) o ≡ None → o ≡ None
     unmapped None h = refl
     unmapped (Some o) h = absurd (cc)
-
-pub standing_is : (vs : List Version) (ss : List Status) (os : List (Option Open)) (n : ℕ) (o : Option Open) (s : DatabaseState) → visible_state vs ss os ≡ s → transaction_of os n ≡ o
-    → standing_of (option_map (visible_transaction ss vs) o) ≡ standing_of (get s.sessions n)
-standing_is vs ss os n o s view was = ap standing_of (sym (ap (λ (s : DatabaseState). get s.sessions n) (sym view) ∙ get_visible ss vs os n ∙ ap (option_map (visible_transaction ss vs)) was))
 
 -- ---- of a write at the session's place
 
@@ -146,13 +132,3 @@ open_below os n o was = elim (cases_lt n (length os)) [ inl h ↦ h | inr h ↦ 
 
 pub rewritten : (os os' : List (Option Open)) (n : ℕ) (o : Open) (p : Option Open) → transaction_of os n ≡ Some o → os' ≡ set os n p → Becomes os os' n p
 rewritten os os' n o p was is = becomes os os' n p (open_below os n o was) is
-
--- what the failure of a session's transaction says of it
-pub failed_by : (os os' : List (Option Open)) (n : ℕ) → IsSome (transaction_of os n) → IfSome (transaction_of os n) (λ o. os' ≡ set os n (Some (failed_open o)))
-    → (o : Open) × (transaction_of os n ≡ Some o) × Becomes os os' n (Some (failed_open o)) × (length os ≡ MAX_SESSIONS → length os' ≡ MAX_SESSIONS)
-failed_by os os' n there is =
-    elim (transaction_of os n) as (λ p. transaction_of os n ≡ p → IsSome p → IfSome p (λ o. os' ≡ set os n (Some (failed_open o)))
-    → (o : Open) × (transaction_of os n ≡ Some o) × Becomes os os' n (Some (failed_open o)) × (length os ≡ MAX_SESSIONS → length os' ≡ MAX_SESSIONS)) [
-      | None ↦ λ e there is. absurd (false≢true there)
-      | Some o ↦ λ e there is. (o, e, rewritten os os' n o (Some (failed_open o)) e is, λ places. still_all os os' n (Some (failed_open o)) places is)
-    ] refl there is

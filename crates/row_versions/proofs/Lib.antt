@@ -1,14 +1,11 @@
 pub mod Choices
 pub mod Stored
 pub mod Copies
-pub mod Known
 pub mod Sights
 pub mod Begins
 pub mod Ends
 pub mod Puttings
 pub mod Among
 pub mod Fresh
-pub mod Listed
-pub mod Finds
 pub mod Conflicts
 pub mod Markings

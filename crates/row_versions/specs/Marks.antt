@@ -1,10 +1,5 @@
 -- marks of rows by a delete
 use Rattle.std.specs.Prelude.{ℕ, Bool, true, false, not, ◌&&◌, ◌==◌, List}
-use Rattle.block_model.specs.declared.request.Entry.{Entry}
-use Rattle.block_model.specs.declared.row.Query.{Query}
-use Rattle.block_model.specs.DatabaseState.{DatabaseState, OpenTransaction}
-use Rattle.block_model.specs.RequestEffect.{rows_found}
-use Rattle.statements.specs.StatementRequests.{mark_entries}
 use Rattle.snapshot_core.specs.declared.statuses.Status.{Status}
 use Rattle.snapshot_core.specs.declared.statuses.Status.TheVariants.{Unused, Begun, Committed, RolledBack}
 use Rattle.row_versions.specs.declared.table.Version.{Version}
@@ -24,7 +19,3 @@ conflicts statuses own v = not (v.row.id.t == own) && (not (v.deleter == own) &&
 -- the same row with another deleter
 abbrev pub with_deleter : Version → ℕ → Version
 with_deleter v own = record v { deleter = own }
-
--- the marks of a delete: of the rows that the session's copy has by the query, up to and with the first that conflicts
-abbrev pub delete_marks : DatabaseState → ℕ → Query → OpenTransaction → List Entry
-delete_marks database session query copy = mark_entries database session query.table (rows_found copy query)

@@ -1,5 +1,5 @@
 -- which of the open transactions is the oldest
-use Rattle.std.specs.Prelude.{ℕ, nat_lt, List, [], ◌∷◌, Option, None, Some, if◌then◌else◌}
+use Rattle.std.specs.Prelude.{nat_lt, List, [], ◌∷◌, Option, None, Some, if◌then◌else◌}
 use Rattle.row_versions.specs.declared.sessions.Open.{Open}
 
 -- the one of the lower number

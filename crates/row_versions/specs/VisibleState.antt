@@ -4,7 +4,6 @@ use Rattle.std.specs.List.{flat_map}
 use Rattle.std.specs.Ordering.{nat_cmp}
 use Rattle.std.specs.FinMap.{FinMap, from_entries}
 use Rattle.std.specs.FinSet as set
-use Rattle.block_model.specs.declared.row.Row.{Row}
 use Rattle.block_model.specs.TableState.{TableState, RowIds}
 use Rattle.block_model.specs.DatabaseState.{DatabaseState, OpenTransaction}
 use Rattle.snapshot_core.specs.declared.statuses.Status.{Status}
@@ -64,7 +63,3 @@ visible_sessions statuses versions sessions = from_entries (map (λ e. (e.0, vis
 abbrev pub visible_state : List Version → List Status → List (Option Open) → DatabaseState
 visible_state versions statuses sessions =
     record { next = length statuses; table = table_of (is_of_commit statuses) versions; sessions = visible_sessions statuses versions sessions }
-
--- the rows of each table's versions, in their order
-abbrev pub stored_rows : List (List Version) → List (List Row)
-stored_rows tables = map (λ versions. map (λ v. v.row) versions) tables

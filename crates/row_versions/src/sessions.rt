@@ -4,10 +4,10 @@ ghost use Rattle.std.specs.Prelude.{◌≡◌, ◌+◌, ◌^◌, ◌<◌, ◌≤
 ghost use Rattle.std.specs.Option.{option_copied};
 ghost use Rattle.statements.specs.declared.limits.TheConstants.{MAX_SESSIONS};
 ghost use Rattle.row_versions.specs.StoredVersions.{transaction_of};
-ghost use Rattle.row_versions.specs.SessionChanges.{numbers_of, with_next_k, failed_open, ended};
+ghost use Rattle.row_versions.specs.SessionChanges.{numbers_of, with_next_k, failed_open};
 
 use block_model::NoMemory;
-use snapshot_core::{Snapshot, Status};
+use snapshot_core::Snapshot;
 use statements::MAX_SESSIONS;
 use std::alloc::Global;
 
@@ -106,16 +106,5 @@ pub fn fail_open(sessions: &mut Vec<Option<Open>>, session: u32)
 {
     if let Some(open) = &mut sessions[session as usize] {
         open.failed = true;
-    }
-}
-
-/// How a transaction stands after it was to commit.
-pub fn ended(failed: bool) -> Status
-    ensures { result ≡ ended failed }
-{
-    if failed {
-        Status::RolledBack
-    } else {
-        Status::Committed
     }
 }

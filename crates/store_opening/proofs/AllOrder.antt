@@ -4,7 +4,7 @@ use Rattle.std.specs.Prelude.{IsTrue, IfNone, IfSome, None, Option, Some}
 use Rattle.index_layout.specs.IndexReading.{map_pages_of}
 use Rattle.store_layout.specs.RelationCounts.{blocks_of_index, blocks_of_statuses}
 use Rattle.store_layout.specs.RelationCounts.{count_relations}
-use Rattle.std.proofs.lemmas.Bool.{cases_eq, cases_lt}
+use Rattle.std.proofs.lemmas.Bool.{cases_lt}
 use Rattle.block_model.specs.declared.place.Place.{Place}
 use Rattle.store_layout.specs.DiskLayout.{DiskLayout, IsPlace, relation_blocks}
 use Rattle.disk_trait.specs.Told.{Told}
@@ -35,25 +35,6 @@ pub record OrderedBelow (layout : DiskLayout) (pages : PageMap) (n : ℕ) : Type
   pub tables : (table : ℕ) → 1 + table < n → table < length layout.schema.tables → StartsFirst (block_limit layout (1 + table)) (block_at pages (1 + table))
   pub indexes : (index : ℕ) → 1 + length layout.schema.tables + index < n → index < length layout.schema.indexes
       → IsIndexInOrder (block_limit layout (1 + length layout.schema.tables + index)) (block_at pages (1 + length layout.schema.tables + index))
-
-pub none_ordered : (layout : DiskLayout) (pages : PageMap) → OrderedBelow layout pages 0
-none_ordered layout pages = record { statuses = λ some. absurd (omega (arith, some)); tables = λ table low. absurd (omega (arith, low)); indexes = λ index low. absurd (omega (arith, low)) }
-
-pub ordered_more : (layout : DiskLayout) (pages : PageMap) (n : ℕ) → OrderedBelow layout pages n → OrderedAt layout pages n → OrderedBelow layout pages (n + 1)
-ordered_more layout pages n below here = record {
-  statuses = λ some. elim (cases_eq n 0) [
-    | inl is ↦ subst (λ (k : ℕ). (block : ℕ) → block < block_limit layout k → kind_of (block_at pages k block) ≡ 1) is (here.statuses is)
-    | inr other ↦ below.statuses (omega (arith, other))
-  ];
-  tables = λ table low inside. elim (cases_eq (1 + table) n) [
-    | inl is ↦ subst (λ (k : ℕ). StartsFirst (block_limit layout k) (block_at pages k)) (sym is) (here.tables (omega (arith, is)) (omega (arith, is, inside)))
-    | inr other ↦ below.tables table (omega (arith, low, other)) inside
-  ];
-  indexes = λ index low inside. elim (cases_eq (1 + length layout.schema.tables + index) n) [
-    | inl is ↦ subst (λ (k : ℕ). IsIndexInOrder (block_limit layout k) (block_at pages k)) (sym is) (here.indexes (omega (arith, is)))
-    | inr other ↦ below.indexes index (omega (arith, low, other)) inside
-  ];
-}
 
 pub all_ordered : (layout : DiskLayout) (pages : PageMap) (n : ℕ) → 1 + (length layout.schema.tables + length layout.schema.indexes) ≤ n → block_limit layout 0 ≡ layout.sizes.status_blocks
     → ((index : ℕ) → index < length layout.schema.indexes → block_limit layout (1 + length layout.schema.tables + index) ≡ layout.sizes.index_blocks) → OrderedBelow layout pages n → AreInOrder layout pages

@@ -1,7 +1,6 @@
 -- all frames of a log
 use Rattle.std.proofs.Common.{◌≡◌, ℕ, zero, suc, ◌+◌, ◌≤◌, Bool, List, [], ◌∷◌, ◌++◌, length, take, drop, refl, sym, ◌∙◌, ap, subst, arith, append_assoc, length-append}
 use Rattle.std.specs.Prelude.{IsTrue, Some, slice_get}
-use Rattle.std.proofs.lemmas.List.{take_all}
 use Rattle.std.specs.Int.{bytes_high_first}
 use Rattle.byte_fields.specs.Fields.{length-number}
 use Rattle.store_layout.specs.DiskLayout.{DiskLayout}
@@ -88,7 +87,3 @@ module _ (layout : DiskLayout) (frames : List LogFrame) (at : ℕ) (frame : LogF
     fit = can_be_redone layout start.contents so_far.done (shown_page layout pool mid.contents) (so_far.redoing.pages tells);
     amiss = amiss (take at frames) (drop (suc at) frames) start so_far.done next tells;
   }
-
--- all of them
-pub all_redone : (layout : DiskLayout) (frames : List LogFrame) (at : ℕ) (start now : Told) (pool : PoolState) (marks : List Bool) → length frames ≤ at → AreRedone layout frames (take at frames) start now pool marks → AreRedone layout frames frames start now pool marks
-all_redone layout frames at start now pool marks past r = subst (λ (l : List LogFrame). AreRedone layout frames l start now pool marks) (take_all at frames past) r

@@ -76,9 +76,6 @@ all_judged layout pool disk facts r = record {
   pages = λ place is. r.pages place.relation is.relation place.block is.block;
 }
 
-pub none_judged : (layout : DiskLayout) (pool : PoolState) (disk : Told) → JudgedRelations layout pool disk 0 []
-none_judged layout pool disk = record { count = refl; lengths = λ relation low. absurd (omega (arith, low)); pages = λ relation low. absurd (omega (arith, low)) }
-
 -- a read of the disk before or behind changes nothing of it
 pub judged_in_before : (layout : DiskLayout) (pool : PoolState) (relation limit : ℕ) (facts : List PageFacts) (old mid : Told) → mid ≡ record old { faults = mid.faults } → AreJudgedIn layout pool mid relation limit facts → AreJudgedIn layout pool old relation limit facts
 judged_in_before layout pool relation limit facts old mid same j =

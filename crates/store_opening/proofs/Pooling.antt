@@ -86,17 +86,6 @@ pub misfits_held : (layout : DiskLayout) (place : Place) (change : LoggedChange)
     → (Fits (form_of layout place.relation) held.content change → ⊥) → DoesNotFit layout place change disk pool
 misfits_held layout place change disk pool held got not = record { page = held.content; before = λ tells. inr (sym (pooled_held layout disk.contents pool place held got)); misfit = not }
 
--- ---- what a pool is ready for
-
-frames_set : (mid new : PoolState) (number : ℕ) (held : HeldPage) → SetsPage mid number held new → new.frames ≡ mid.frames
-frames_set mid new number held (inl kept) = ap (λ (p : PoolState). p.frames) kept.1
-frames_set mid new number held (inr gone) = ap (λ (p : PoolState). p.frames) gone.4
-
-pub frames_held : (number : ℕ) (page : List ℕ) (disk : Told) (pool : PoolState) (after : Told) (new : PoolState) → Holds number page disk pool after new → new.frames ≡ pool.frames
-frames_held number page disk pool after new h =
-    frames_set h.mid new number (record { content = page; log = Some 0 }) h.sets
-    ∙ ⊎_elim (λ (none : (after ≡ disk) × (h.mid ≡ pool)). ap (λ (p : PoolState). p.frames) none.1) (λ (c : Cleans pool h.mid 0 0 disk after). ap (λ (p : PoolState). p.frames) c.clean) h.cleans
-
 pub pages_held : (layout : DiskLayout) (fill : PagesFillDisk layout) (place : Place) (page : List ℕ) (disk : Told) (pool : PoolState) (after : Told) (new : PoolState) → IsPlace layout place → length page ≡ PAGE_SIZE → IsPageIn layout place.relation page
     → Holds (page_number layout place) page disk pool after new → HoldsDurablePages layout pool → HoldsDurablePages layout new
 pages_held layout fill place page disk pool after new is whole checked h held =

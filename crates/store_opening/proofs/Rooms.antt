@@ -1,6 +1,6 @@
 -- room in a pool
 use Rattle.std.proofs.Common.{◌≡◌, inl, inr, ℕ, ◌<◌, ◌≤◌, Bool, true, false, List, [], ◌∷◌, length, refl, ◌∙◌, ap, subst, ⊎_elim, arith}
-use Rattle.std.specs.Prelude.{Option, None, Some, IsSome, Result, Ok, Err}
+use Rattle.std.specs.Prelude.{Option, None, Some, IsSome, Ok}
 use Rattle.std.specs.Ordering.{eq_by_cmp, nat_cmp}
 use Rattle.std.specs.FinMap as map
 use Rattle.std.specs.FinMap.{entries, get-entries, len-entries}
@@ -8,11 +8,10 @@ use Rattle.std.proofs.lemmas.Bool.{cond-true, false≢true}
 use Rattle.std.proofs.lemmas.Cmp.{nat_cmp_total, eq_by_cmp_equiv}
 use Rattle.block_model.specs.NumberMaps.{get_put_here}
 use Rattle.disk_trait.specs.Told.{Told}
-use Rattle.disk_trait.specs.declared.disk.DiskFault.{DiskFault}
 use Rattle.buffer_pool.specs.PoolState.{HeldPage, PoolState, held_at}
 use Rattle.buffer_pool.specs.SetsPage.{IsAllDirty}
 use Rattle.buffer_pool.specs.WritesPage.{CleansOne}
-use Rattle.store_opening.specs.Holds.{AreDurable, MayClean, MayWrite}
+use Rattle.store_opening.specs.Holds.{AreDurable, MayClean}
 
 -- a map that isn't empty has a key
 some_entry : (m : map.FinMap nat_cmp HeldPage) (es : List (ℕ × HeldPage)) → entries m ≡ es → 1 ≤ length es → (n : ℕ) × (held : HeldPage) × (map.get m n ≡ Some held)
@@ -39,9 +38,3 @@ one_is_clean pool mid number disk after false durable frames all c again =
 pub may_clean : (pool mid : PoolState) (disk after : Told) (done : Bool) → CleansOne pool mid 0 0 disk after (Ok done) → MayClean disk pool after mid
 may_clean pool mid disk after true c = inr c
 may_clean pool mid disk after false c = inl (c.untouched, c.same)
-
--- what was written, also where that failed
-pub may_write : (pool mid : PoolState) (disk after : Told) (result : Result Bool DiskFault) → CleansOne pool mid 0 0 disk after result → MayWrite disk pool after
-may_write pool mid disk after (Ok true) c = inr (c.page, c.held, c.cleanable, c.writes)
-may_write pool mid disk after (Ok false) c = inl c.untouched
-may_write pool mid disk after (Err fault) c = inr (c.page, c.held, c.cleanable, c.writes)

@@ -9,10 +9,6 @@ use Rattle.snapshot_core.specs.declared.statuses.Status.TheVariants.{Unused}
 use Rattle.tx_table.specs.Statuses.{with_all}
 use Rattle.tx_table.specs.TxState.{IsNext}
 
-pub length-with_all : (statuses : List Status) (list : List ℕ) (status : Status) → length (with_all statuses list status) ≡ length statuses
-length-with_all statuses [] status = refl
-length-with_all statuses (t ∷ list) status = length-with_all (set statuses t status) list status ∙ length-set statuses t status
-
 with_all-append : (statuses : List Status) (list : List ℕ) (t : ℕ) (status : Status) → with_all statuses (list ++ t ∷ []) status ≡ set (with_all statuses list status) t status
 with_all-append statuses [] t status = refl
 with_all-append statuses (u ∷ list) t status = with_all-append (set statuses u status) list t status

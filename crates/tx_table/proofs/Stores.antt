@@ -1,11 +1,10 @@
 -- What calls leave of a store, one after the other.
 use Rattle.std.proofs.Common.{◌≡◌, ◌≢◌, inl, inr, ℕ, ◌+◌, ◌/◌, ◌%◌, ◌<◌, ◌≤◌, List, [], ◌∷◌, length, take, get_or, set, refl, sym, ap, subst, ◌∙◌, arith}
-use Rattle.std.specs.Prelude.{None, Some, Result, Ok, Err, OnOk, OnErr, Bool, true, false, nat_lt}
+use Rattle.std.specs.Prelude.{Result, Ok, Err, OnOk, OnErr}
 use Rattle.std.specs.List.{All}
-use Rattle.std.proofs.lemmas.Bool.{cases_eq, ltb-false}
+use Rattle.std.proofs.lemmas.Bool.{cases_eq}
 use Rattle.std.proofs.lemmas.List.{take_all}
 use Rattle.std.proofs.lemmas.List.Elements.{All-take}
-use Rattle.block_model.specs.Causes.{rose_earlier}
 use Rattle.block_model.specs.declared.place.Place.{Place}
 use Rattle.disk_trait.specs.Told.{Told}
 use Rattle.page_layout.specs.declared.page.Form.{Form}
@@ -15,21 +14,20 @@ use Rattle.page_redo.specs.Redo.{IsOfStatuses}
 use Rattle.page_store.specs.Forms.{FitsIn, IsPageIn}
 use Rattle.page_store.specs.declared.faults.StoreError.{StoreError}
 use Rattle.page_store.specs.declared.faults.StoreError.TheVariants as errors
-use Rattle.page_store.specs.Keeps.{Keeps, Leaves, Tells, Untold}
-use Rattle.page_store.specs.Outcome.{NamesPage, Outcome, Refused}
+use Rattle.page_store.specs.Keeps.{Keeps, Leaves, Tells}
+use Rattle.page_store.specs.Outcome.{NamesPage}
 use Rattle.page_store.specs.PageMap.{PageMap, View, block_at, page_at}
 use Rattle.snapshot_core.specs.declared.statuses.Status.{Status}
 use Rattle.snapshot_core.specs.declared.statuses.Status.TheVariants.{Unused, Begun, Committed, RolledBack}
 use Rattle.store_layout.specs.DiskLayout.{DiskLayout, page_offset}
 use Rattle.wal_record.specs.Changes.{StatusSet}
-use Rattle.tx_table.specs.Kept.{HasSameStatusPages}
 use Rattle.tx_table.specs.PageEntries.{entry_on}
-use Rattle.tx_table.specs.LeavesRest.{KeepsUnlessDisk, LeavesRest, NamesStatuses}
-use Rattle.tx_table.specs.Statuses.{HasEntry, HasStatuses, IsStartedBlock, OfStatuses, after_stop, number_limit, status_named, status_of, with_all}
+use Rattle.tx_table.specs.LeavesRest.{LeavesRest, NamesStatuses}
+use Rattle.tx_table.specs.Statuses.{HasEntry, HasStatuses, IsStartedBlock, OfStatuses, number_limit, status_named, status_of, with_all}
 use Rattle.tx_table.specs.TxState.{IsNext, IsOver, IsOwn, TxState}
 use Rattle.tx_table.proofs.Entries.{begun_started}
-use Rattle.tx_table.proofs.Lists.{next_begun, next_with_all, with_all-next}
-use Rattle.tx_table.proofs.Pages.{NumberSet, form_of_statuses, started_kept, status_read, statuses_one}
+use Rattle.tx_table.proofs.Lists.{next_with_all, with_all-next}
+use Rattle.tx_table.proofs.Pages.{NumberSet, form_of_statuses, started_kept, status_read}
 
 -- two calls
 pub leaves_then : {D : Type 0} (told : D → Told) (old mid new : View D) → Leaves told old mid → Leaves told mid new → Leaves told old new
@@ -58,23 +56,6 @@ rest_kept told old new kept = record {
   started = λ tells block started. subst (λ (pages : PageMap). IsStartedBlock pages block) (sym (kept.pages tells)) started;
 }
 
--- and the pages of statuses
-pub same_kept : {D : Type 0} (told : D → Told) (old new : View D) → Keeps told old new → Tells told old → HasSameStatusPages old.pages new.pages
-same_kept told old new kept tells = λ block. ap (λ (pages : PageMap). block_at pages 0 block) (kept.pages tells)
-
--- a call after others that were done
-pub outcome_then : {D T : Type 0} (told : D → Told) (old mid new : View D) (result : Result T StoreError) → old.failed ≡ None → mid.failed ≡ None → Leaves told old mid
-    → Outcome told (Untold told mid) mid new result → Outcome told (Untold told old) old new result
-outcome_then told old mid new (Ok value) none mid_none first outcome = (none, outcome.1, omega (arith, first.faults, outcome.2))
-outcome_then told old mid new (Err errors.Disk) none mid_none first outcome = (none, rose_earlier (told old.disk).faults (told mid.disk).faults (told new.disk).faults first.faults outcome.1, outcome.2)
-outcome_then told old mid new (Err (errors.Reopen faults)) none mid_none first outcome = absurd (let clash : None ≡ Some faults = sym mid_none ∙ outcome.0 in cc)
-outcome_then told old mid new (Err (errors.Damaged at)) none mid_none first outcome = (none, outcome.1, omega (arith, first.faults, outcome.2), λ tells. outcome.3 (first.tells ∙ tells))
-
--- no fault is kept after a call that was done
-pub done_none : {D T : Type 0} (told : D → Told) (Cause : Type 0) (old new : View D) (result : Result T StoreError) → Outcome told Cause old new result → OnOk result (new.failed ≡ None)
-done_none told Cause old new (Ok value) outcome = outcome.1
-done_none told Cause old new (Err error) outcome = tt
-
 -- a page of statuses is named
 pub names_statuses : (layout : DiskLayout) (place : Place) (error : StoreError) → place.relation ≡ 0 → place.block < layout.sizes.status_blocks → NamesPage layout place error → NamesStatuses layout error
 names_statuses layout place errors.Disk relation below names = tt
@@ -90,21 +71,6 @@ change_rest told t n old new (Ok value) changed kept leaves = record {
   started = λ tells block started. started_kept old.pages new.pages t n block (changed tells) started;
 }
 change_rest told t n old new (Err error) changed kept leaves = rest_kept told old new kept
-
--- only a disk fault comes after a change: a later call of the list
-pub unless_disk : {D : Type 0} (told : D → Told) (old mid new : View D) (error : StoreError) → mid.failed ≡ None → Leaves told old mid → Leaves told mid new
-    → Refused told (Untold told mid) mid new error → KeepsUnlessDisk told old new error
-unless_disk told old mid new errors.Disk none first second outcome = tt
-unless_disk told old mid new (errors.Reopen faults) none first second outcome = absurd (let clash : None ≡ Some faults = sym none ∙ outcome.0 in cc)
-unless_disk told old mid new (errors.Damaged at) none first second outcome = record {
-  leaves = leaves_then told old mid new first second;
-  pages = λ tells. absurd (outcome.3 (first.tells ∙ tells));
-}
-
-pub unless_disk_kept : {D : Type 0} (told : D → Told) (old new : View D) (error : StoreError) → Keeps told old new → KeepsUnlessDisk told old new error
-unless_disk_kept told old new errors.Disk kept = tt
-unless_disk_kept told old new (errors.Reopen faults) kept = kept
-unless_disk_kept told old new (errors.Damaged at) kept = kept
 
 -- the table is one of the store as it is now, where its statuses are these
 pub over_after : {D : Type 0} (told : D → Told) (table after : TxState) (old new : View D) → IsOver told table old → Leaves told old new → after.first ≡ table.first → table.next ≤ after.next → after.next ≤ number_limit old.layout
@@ -147,12 +113,6 @@ started_of told table store t over below begun tells =
     begun_started (block_at store.pages 0 (t / 32640)) (t % 32640)
     (subst (HasEntry (block_at store.pages 0 (t / 32640)) (t % 32640)) (begun tells found.0 found.1) (found.1.each t (omega (arith, below, over.within))))
 
--- the next number is unused
-pub next_unused : {D : Type 0} (told : D → Told) (table : TxState) (store : View D) → IsOver told table store → OfStatuses told store (λ statuses. status_of statuses table.next ≡ Unused)
-next_unused told table store over = λ tells statuses has.
-    let found = over.statuses tells in
-    ap (λ (l : List Status). status_of l table.next) (statuses_one store.layout store.pages statuses found.0 has found.1) ∙ found.2.unused table.next (omega arith)
-
 -- Several statuses
 
 -- one more of the list
@@ -191,38 +151,11 @@ over_all told table old new list status over leaves own used made =
       next_with_all statuses table.next (take some.0 list) status next (All-take (λ (t : ℕ). t < table.next) some.0 list (λ k d there. (own k d there).given)) (omega (arith, over.within, has.counted)) used,
     ))
 
--- and where the next one has begun
-pub over_begun : {D : Type 0} (told : D → Told) (table after : TxState) (old new : View D) (status : Status) → IsOver told table old → Leaves told old new → after.first ≡ table.first → after.next ≡ table.next + 1 → table.next < number_limit old.layout → status ≢ Unused
-    → OfStatuses told old (λ statuses. HasStatuses old.layout new.pages (set statuses table.next status)) → IsOver told after new
-over_begun told table after old new status over leaves first grown below used made =
-    over_after told table after old new over leaves first (omega (arith, grown)) (omega (arith, grown, below)) (λ statuses tells has next.
-    (set statuses table.next status, made tells statuses has, next_begun statuses table.next after.next status next grown (omega (arith, below, has.counted)) used))
-
--- what is written is used
-pub begun_used : Begun ≢ Unused
-begun_used = λ same. absurd cc
-
 pub committed_used : Committed ≢ Unused
 committed_used = λ same. absurd cc
 
 pub rolled_back_used : RolledBack ≢ Unused
 rolled_back_used = λ same. absurd cc
-
--- The status that is told
-
-pub unused_told : (earlier : Bool) → after_stop earlier Unused ≡ Unused
-unused_told true = refl
-unused_told false = refl
-
-begun_since : (earlier : Bool) (status : Status) → after_stop earlier status ≡ Begun → earlier ≡ false
-begun_since true Begun is = absurd cc
-begun_since true Unused is = absurd cc
-begun_since true Committed is = absurd cc
-begun_since true RolledBack is = absurd cc
-begun_since false status is = refl
-
-pub begun_own : (t first : ℕ) (status : Status) → after_stop (nat_lt t first) status ≡ Begun → first ≤ t
-begun_own t first status is = ltb-false t first (begun_since (nat_lt t first) status is)
 
 -- of a list of one
 pub all_one : (P : ℕ → Type 0) (t : ℕ) → P t → All P (t ∷ [])

@@ -1,5 +1,5 @@
 -- what calls leave of the statuses
-use Rattle.std.specs.Prelude.{◌≡◌, ℕ, ◌/◌, ◌%◌, ◌<◌, ◌≤◌, Bool, true, false}
+use Rattle.std.specs.Prelude.{◌≡◌, ℕ, ◌/◌, ◌%◌, ◌≤◌, Bool, true, false}
 use Rattle.std.proofs.Common.{◌∙◌, List, sym, subst}
 use Rattle.disk_trait.specs.Told.{Told}
 use Rattle.page_layout.specs.declared.format.TheConstants.{STATUS_ENTRIES}
@@ -9,7 +9,7 @@ use Rattle.page_store.specs.PageMap.{PageMap, View, block_at}
 use Rattle.snapshot_core.specs.declared.statuses.Status.{Status}
 use Rattle.snapshot_core.specs.declared.statuses.Status.TheVariants.{Unused, Begun, Committed, RolledBack}
 use Rattle.store_layout.specs.DiskLayout.{DiskLayout}
-use Rattle.tx_table.specs.LeavesRest.{AreStarted, LeavesRest}
+use Rattle.tx_table.specs.LeavesRest.{AreStarted}
 use Rattle.tx_table.specs.Statuses.{HasEntry, HasStatuses, OfStatuses, after_stop, number_limit, status_of, status_relation}
 use Rattle.tx_table.specs.TxState.{IsOver, TxState}
 
@@ -42,12 +42,6 @@ over_kept told table old new over leaves same = record {
         found.2,
       );
 }
-
--- the pages of statuses stay started
-pub started_after : {D : Type 0} (told : D → Told) (old new : View D) → LeavesRest told old new → (Tells told old → AreStarted old.layout old.pages) → Tells told new → AreStarted new.layout new.pages
-started_after told old new rest started tells =
-    let told_old : Tells told old = sym rest.leaves.tells ∙ tells in
-    λ block below. rest.started told_old block (started told_old block (subst (λ (layout : DiskLayout). block < layout.sizes.status_blocks) rest.leaves.layout below))
 
 -- a fact of the statuses holds after a call that changes no page
 pub of_statuses_kept : {D : Type 0} (told : D → Told) (old new : View D) (P : List Status → Type 0) → Keeps told old new → OfStatuses told old P → OfStatuses told new P
