@@ -1,5 +1,5 @@
 -- The pages of a relation, by what is kept of each.
-use Rattle.std.proofs.Common.{◌≡◌, ℕ, ◌<◌, ◌≤◌, inl, inr, true, false, not, eqb, List, length, sym, ap, ◌∙◌, arith}
+use Rattle.std.proofs.Common.{◌≡◌, ℕ, ◌<◌, ◌≤◌, inl, inr, true, false, not, eqb, List, length, get_or, sym, ap, ◌∙◌, arith}
 use Rattle.std.specs.Prelude.{Option, None, Some, count_by}
 use Rattle.index_layout.specs.IndexReading.{map_pages_of}
 use Rattle.index_layout.specs.IndexWrites.{room_on}
