@@ -23,7 +23,8 @@ use Rattle.brin_desummarise.specs.declared.stage.Stage.TheVariants as stages
 use Rattle.brin_desummarise.specs.Desummarises.{IsAtWork, IsDone, StepMakes, StoreStep, desummarise_at, phase_at, statement_at, table_of}
 use Rattle.brin_desummarise.specs.TableSteps.{LeavesTheRest, lock_turned, shown_after, shown_before}
 use Rattle.brin_desummarise.proofs.Settling.{pick_other}
-use Rattle.brin_desummarise.proofs.Shown.{apart_numbers, same_one, shown_one, shows_here}
+use Rattle.index_steps.proofs.TableIndexes.{apart_numbers, same_one, shown_one}
+use Rattle.brin_desummarise.proofs.Shown.{shows_here}
 
 -- the laws of the table that are taken up
 abbrev pub MaintainGoes : Type 0

@@ -25,7 +25,7 @@ use Rattle.brin_insert.specs.InsertSteps.{on_index}
 use Rattle.index_steps.specs.ShownRows.{ShowsKept, rows_in, shown_by}
 use Rattle.index_steps.specs.ShownTable.{indexes_of}
 use Rattle.brin_insert.specs.StepAnswers.{DamageAt}
-use Rattle.brin_insert.proofs.ShownHere.{ranged, shows_here}
+use Rattle.index_steps.proofs.TableIndexes.{ranged, shows_here}
 
 -- an insert that is at an index is at work there
 on_here : (i : ℕ) (on : OnIndex) → on_index_by i i on ≡ Some on

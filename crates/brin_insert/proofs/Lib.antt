@@ -1,7 +1,6 @@
 pub mod Stepping
 pub mod Swaps
 pub mod Copies
-pub mod ShownHere
 pub mod Tables
 pub mod Waiting
 pub mod Turning

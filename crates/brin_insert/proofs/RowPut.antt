@@ -24,7 +24,7 @@ use Rattle.brin_insert.specs.RowSteps.{PutsRowOf, blocks_with, row_of}
 use Rattle.index_steps.specs.ShownRows.{row_in, rows_in, shown_by}
 use Rattle.index_steps.specs.ShownTable.{indexes_of}
 use Rattle.brin_insert.proofs.FirstPlaces.{blocks_then, is_first}
-use Rattle.brin_insert.proofs.Tables.{same_one, shown_one}
+use Rattle.index_steps.proofs.TableIndexes.{same_one, shown_one}
 
 -- what the law of a row that begins its insert says
 abbrev pub RowBeginsItsInsert : Type 0

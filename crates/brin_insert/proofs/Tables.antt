@@ -1,16 +1,12 @@
 -- a step in an index, as one of the table
-use Rattle.std.proofs.Common.{◌≡◌, ◌≢◌, inl, inr, ℕ, zero, suc, ◌+◌, ◌<◌, ◌≤◌, ◌==◌, Bool, true, false, cond, List, [], ◌∷◌, length, Option, None, Some, refl, sym, ap, subst, ◌∙◌, arith}
+use Rattle.std.proofs.Common.{◌≡◌, ◌≢◌, inl, inr, ℕ, zero, suc, ◌<◌, List, length, Option, None, Some, refl, sym, ap, subst, ◌∙◌, arith}
 use Rattle.std.specs.Prelude.{slice_get}
 use Rattle.std.proofs.lemmas.Bool.{cases_eq}
-use Rattle.std.proofs.lemmas.Option.{none-some, same_Some, slice_get_within}
-use Rattle.block_model.specs.declared.place.Spot.{Spot}
+use Rattle.std.proofs.lemmas.Option.{slice_get_within}
 use Rattle.block_model.specs.declared.reply.Point.{Point}
 use Rattle.block_model.specs.declared.row.Row.{Row}
-use Rattle.block_model.specs.declared.schema.Index.{Index as AnIndex}
-use Rattle.store_layout.specs.DiskLayout.{DiskLayout}
-use Rattle.page_store.specs.PageMap.{PageMap}
 use Rattle.page_locks.specs.LockChanges.{page_of}
-use Rattle.page_locks.specs.LockHolders.{LockState, holder}
+use Rattle.page_locks.specs.LockHolders.{holder}
 use Rattle.coverage.specs.IndexPart.{IndexPart, InsertMakes}
 use Rattle.coverage.specs.IndexView.{IndexView}
 use Rattle.coverage.specs.Knowing.{Knows, LocksNone}
@@ -19,44 +15,18 @@ use Rattle.coverage.specs.Statements.{OnIndex, Empty, Idle, Inserting}
 use Rattle.range_tuple.specs.TupleBytes.{tuple_bytes}
 use Rattle.table_coverage.specs.InOneIndex.{DoesAt, index_with, with_index}
 use Rattle.table_coverage.specs.Machines.{ShownTable, Unseen, table_state, task_turned}
-use Rattle.table_coverage.specs.Table.{Index, Inserts, Reaches, Task, TableState, index_view_at, inserting_of, on_index_by, pick, seen_by}
+use Rattle.table_coverage.specs.Table.{Inserts, Reaches, Task, TableState, index_view_at, inserting_of, on_index_by, pick, seen_by}
 use Rattle.table_coverage.specs.TableCovered.{IsTableKept}
 use Rattle.range_tuple.specs.Tuples.{Tuple}
 use Rattle.index_contents.specs.IndexContents.{contents, relation_of}
-use Rattle.index_steps.specs.IndexTuples.{IndexShape, contents_of, index_at, shape_of}
-use Rattle.index_steps.specs.ShownIndex.{lock_in, shown_part, tuple_in_place}
+use Rattle.index_steps.specs.IndexTuples.{IndexShape, shape_of}
+use Rattle.index_steps.specs.ShownIndex.{lock_in, shown_part}
 use Rattle.brin_insert.specs.declared.stage.Stage.{Stage}
 use Rattle.brin_insert.specs.declared.stage.Stage.TheVariants as stages
 use Rattle.brin_insert.specs.InsertSteps.{on_index, statement_in}
-use Rattle.index_steps.specs.ShownTable.{indexes_of, numbers_from, shown_at, shown_table}
+use Rattle.index_steps.specs.ShownTable.{indexes_of, shown_at, shown_table}
 use Rattle.brin_insert.specs.TableSteps.{StepsInIndex, Stores, task_after}
-use Rattle.brin_insert.proofs.ShownHere.{ranged, shows_here}
-
--- the numbers of a table's indexes ascend, so no two are one
-at_least : (table n : ℕ) (l : List AnIndex) (i m : ℕ) → slice_get (numbers_from table n l) i ≡ Some m → n ≤ m
-at_least table n [] i m is = absurd (none-some m is)
-at_least table n (index ∷ more) i m is = by_test (λ j later. at_least table (n + 1) more j m later) (index.table == table) i is
-  where
-    by_test : ((j : ℕ) → slice_get (numbers_from table (n + 1) more) j ≡ Some m → n + 1 ≤ m) → (b : Bool) (i : ℕ) → slice_get (cond b (n ∷ numbers_from table (n + 1) more) (numbers_from table (n + 1) more)) i ≡ Some m → n ≤ m
-    by_test later true zero is = omega (arith, same_Some n m is)
-    by_test later true (suc i) is = omega (arith, later i is)
-    by_test later false i is = omega (arith, later i is)
-
-one_place : (table n : ℕ) (l : List AnIndex) (i j m : ℕ) → slice_get (numbers_from table n l) i ≡ Some m → slice_get (numbers_from table n l) j ≡ Some m → i ≡ j
-one_place table n [] i j m is is_too = absurd (none-some m is)
-one_place table n (index ∷ more) i j m is is_too = by_test (λ x y one two. one_place table (n + 1) more x y m one two) (index.table == table) i j is is_too
-  where
-    by_test : ((x y : ℕ) → slice_get (numbers_from table (n + 1) more) x ≡ Some m → slice_get (numbers_from table (n + 1) more) y ≡ Some m → x ≡ y) → (b : Bool) (i j : ℕ) → slice_get (cond b (n ∷ numbers_from table (n + 1) more) (numbers_from table (n + 1) more)) i ≡ Some m
-        → slice_get (cond b (n ∷ numbers_from table (n + 1) more) (numbers_from table (n + 1) more)) j ≡ Some m → i ≡ j
-    by_test later true zero zero one two = refl
-    by_test later true zero (suc j) one two = absurd (omega (arith, same_Some n m one, at_least table (n + 1) more j m two))
-    by_test later true (suc i) zero one two = absurd (omega (arith, same_Some n m two, at_least table (n + 1) more i m one))
-    by_test later true (suc i) (suc j) one two = ap suc (later i j one two)
-    by_test later false i j one two = later i j one two
-
-apart_numbers : (layout : DiskLayout) (table i at n m : ℕ) → i ≢ at → slice_get (indexes_of layout table) i ≡ Some m → slice_get (indexes_of layout table) at ≡ Some n → m ≢ n
-unfolding indexes_of
-apart_numbers layout table i at n m apart is there same = apart (one_place table 0 layout.schema.indexes i at m is (there ∙ ap Some (sym same)))
+use Rattle.index_steps.proofs.TableIndexes.{apart_numbers, ranged, same_one, shown_one, shows_here}
 
 -- an insert that is at one index locks no page of another
 locks_none : (v : IndexView) (s b k : ℕ) (r : Row) (i at : ℕ) (on : OnIndex) → i ≢ at → Knows v s (inserting_of b k r (on_index_by i at on)) → LocksNone v.lock s
@@ -64,33 +34,6 @@ locks_none v s b k r zero zero on apart knows = absurd (apart refl)
 locks_none v s b k r zero (suc at) on apart knows = knows.0
 locks_none v s b k r (suc i) zero on apart knows = knows.2
 locks_none v s b k r (suc i) (suc at) on apart knows = locks_none v s b k r i at on (λ same. apart (ap suc same)) knows
-
--- an index of the table, as the pages and locks show it, by its number if it is there
-abbrev pub shown_one : DiskLayout → PageMap → LockState → (Spot → Bool) → Option ℕ → Index
-shown_one layout pages locks unnamed o = record {
-  contents = (shown_at layout pages locks o).contents;
-  pages_per_range = (shown_at layout pages locks o).pages_per_range;
-  autosummarize = (shown_at layout pages locks o).autosummarize;
-  entry = (shown_at layout pages locks o).entry;
-  tuple = (shown_at layout pages locks o).tuple;
-  pages = (shown_at layout pages locks o).pages;
-  lock = (shown_at layout pages locks o).lock;
-  unnamed = unnamed;
-}
-
--- it is the same where its pages and locks are
-pub same_one : (layout : DiskLayout) (pages paged : PageMap) (locks locked : LockState) (unnamed : Spot → Bool) (m : ℕ) → contents layout paged m ≡ contents layout pages m → ((page : ℕ) → lock_in layout locked m page ≡ lock_in layout locks m page)
-    → shown_one layout pages locks unnamed (Some m) ≡ shown_one layout paged locked unnamed (Some m)
-same_one layout pages paged locks locked unnamed m same held = λ j. record {
-  contents = contents_of (shape_of layout m);
-  pages_per_range = (index_at layout m).pages_per_range;
-  autosummarize = (index_at layout m).auto;
-  entry = (sym same j).entry;
-  tuple = tuple_in_place (shape_of layout m) (sym same j);
-  pages = (sym same j).pages;
-  lock = λ page. sym (held page) j;
-  unnamed = unnamed;
-}
 
 -- what the laws of tables say of a step in one index
 abbrev pub InsertGoes : Type 0

@@ -22,7 +22,7 @@ use Rattle.brin_insert.specs.InsertAnswers.{InsertWaitsFor, IsInsertFull}
 use Rattle.brin_insert.specs.InsertSteps.{IsWaiting, StepWaits, insert_at, on_index}
 use Rattle.index_steps.specs.ShownTable.{indexes_of, shown_table}
 use Rattle.brin_insert.specs.StepAnswers.{IsFullFor, StepFull}
-use Rattle.brin_insert.proofs.ShownHere.{ranged, shows_here}
+use Rattle.index_steps.proofs.TableIndexes.{ranged, shows_here}
 use Rattle.brin_insert.proofs.Tables.{InsertKnows}
 
 module _ (layout : DiskLayout) (pages : PageMap) (locks : LockState) (table rows_per_page blocks at n s b k : ℕ) (row : ℕ → ℕ → Option Row) (r : Row) (copied : List ℕ) (t : Tuple) (there : slice_get (indexes_of layout table) at ≡ Some n) where

@@ -33,7 +33,8 @@ use Rattle.range_summarise.specs.SummariseSteps.{IsAtWork, IsDone, StepMakes, St
 use Rattle.brin_summarise.specs.Summarises.{StoreStep, SummariseState, in_range_of}
 use Rattle.brin_summarise.specs.TableSteps.{LeavesTheRest, job_of, lock_turned, shown_after, shown_before, unnamed_turned}
 use Rattle.brin_summarise.proofs.Settling.{pick_other, pick_same}
-use Rattle.brin_summarise.proofs.Shown.{apart_numbers, heap_here, same_one, shown_one, shows_here}
+use Rattle.index_steps.proofs.TableIndexes.{apart_numbers, same_one, shown_one}
+use Rattle.brin_summarise.proofs.Shown.{heap_here, shows_here}
 
 -- the laws of the table that are taken up
 abbrev pub MaintainGoes : Type 0

@@ -10,3 +10,4 @@ pub mod Sizes
 pub mod Lawful
 pub mod Listed
 pub mod Seen
+pub mod TableIndexes
