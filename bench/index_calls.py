@@ -1,10 +1,11 @@
 #!/usr/bin/env python3
-"""Times calls on the pages of an index in memory: index_calls.py. No part of the gate.
+"""Times calls on the pages of an index, on a store over a disk in memory: index_calls.py. No part of the gate.
 
 Builds a small program over revmap and range_store in a copy of the crates by LLVM at -O2, and runs it five times. The program isn't
-proved, so it has the checks of `rt try` in it, and a proved one is somewhat faster, most where bytes move. The index has 16384 blocks:
-a metapage, 16 pages of the map, 4096 full pages with 226 tuples of 32 bytes each, and a large tuple on all others. Tells the best time
-of each call; the search for room where the first page has it, where the last one alone has it, and where none has.
+proved, so it has the checks of `rt try` in it, and a proved one is somewhat faster, most where bytes move. All pages have frames, and
+the log takes all changes that are timed without a checkpoint. The index has 16384 blocks: a metapage, 16 pages of the map, 1024 full
+pages with 226 tuples of 32 bytes each, and a large tuple on all others. Tells the best time of each call; the search for room where the
+first page has it, where the last one alone has it, and where none has.
 """
 import os
 import pathlib
@@ -17,19 +18,19 @@ from range_tuples import KIT, TRY, toolchain
 
 TOP = os.path.dirname(os.path.dirname(os.path.abspath(__file__)))
 CALLS = {
-    "an entry that is set": 1_044_480,
-    "an entry that is read": 1_044_480,
-    "a tuple that is put where there is room": 925_696,
-    "a tuple that is read": 925_696,
-    "a tuple that is read, of another page each time": 925_696,
-    "a tuple that gives way to one as long": 925_696,
-    "a tuple that is dropped amid a full page": 40_960,
-    "a tuple that gives way to a longer one there": 40_960,
+    "an entry that is set": 261_120,
+    "an entry that is read": 261_120,
+    "a tuple that is put where there is room": 231_424,
+    "a tuple that is read": 231_424,
+    "a tuple that is read, of another page each time": 231_424,
+    "a tuple that gives way to one as long": 231_424,
+    "a tuple that is dropped amid a full page": 10_240,
+    "a tuple that gives way to a longer one there": 10_240,
     "room on the first page": 100_000,
     "room on the last page alone": 100_000,
     "room on no page": 100_000,
 }
-NEEDED = "index_bench: block_model store_layout disk_trait wal_record page_layout page_store engine_pages revmap range_store\n"
+NEEDED = "index_bench: block_model store_layout disk_trait wal_record page_layout store_format logged_pages revmap range_store\n"
 
 MAIN = """//! Times calls on the pages of an index.
 #![tactic(auto)]
@@ -38,13 +39,14 @@ use block_model::{
     Class, Column, Index, Kind, Name, PAGE_SIZE, Part, Place, Schema, Sequence, Sizes, Spot, Table,
 };
 use disk_trait::SteadyDisk;
-use engine_pages::PageStore;
+use logged_pages::PageStore;
 use page_layout::{MAP, META, REGULAR};
 use range_store::{Scratch, drop_at, put, replace, room_for, tuple_at};
 use revmap::{entry, set};
 use std::alloc::Global;
 use std::io;
 use std::time::Instant;
+use store_format::format;
 use store_layout::Layout;
 use wal_record::Change;
 
@@ -57,11 +59,11 @@ const TUPLES: u32 = 17;
 
 /// How many ranges 16 pages of the map have, and how often each entry is set and read.
 const RANGES: u32 = 16320;
-const ROUNDS: u32 = 64;
+const ROUNDS: u32 = 16;
 
 /// How many tuples fill a page, and how many pages they fill.
 const ON_A_PAGE: u32 = 226;
-const FULL: u32 = 4096;
+const FULL: u32 = 1024;
 
 /// The layout of the table `t(a int8)` with an index.
 fn layout(alloc: Global) -> Option<Layout> {
@@ -101,16 +103,18 @@ fn layout(alloc: Global) -> Option<Layout> {
         heap_blocks: 1,
         index_blocks: BLOCKS,
         status_blocks: 1,
-        log_pages: 16,
-        frames: 16,
+        log_pages: 4096,
+        frames: 16400,
     };
     Layout::new(Schema { tables, indexes }, sizes).ok()
 }
 
 /// A store whose index has a map of 16 pages.
 fn store(alloc: Global) -> Option<Store> {
-    let disk = SteadyDisk::new(alloc, 0).ok()?;
-    let mut pages = PageStore::plain(alloc, disk, layout(alloc)?).ok()?;
+    let layout = layout(alloc)?;
+    let mut disk = SteadyDisk::new(alloc, layout.disk_size()).ok()?;
+    format(&mut disk, &layout).ok()?;
+    let mut pages = PageStore::start(alloc, disk).ok()?;
     let mut bytes = [0; PAGE_SIZE];
     bytes[0] = META;
     bytes[35] = 16;

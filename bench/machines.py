@@ -21,7 +21,7 @@ BLOCKS = 4000
 ROWS_A_PAGE = 100
 ROWS = BLOCKS * ROWS_A_PAGE
 NEEDED = (
-    "machine_bench: block_model store_layout disk_trait page_locks store_format engine_pages"
+    "machine_bench: block_model store_layout disk_trait page_locks store_format logged_pages"
     " summary_queue brin_insert brin_summarise brin_scan\n"
 )
 PARTS = {
@@ -43,7 +43,7 @@ use brin_insert::Insert;
 use brin_scan::Explain;
 use brin_summarise::{Summarise, Wish};
 use disk_trait::SteadyDisk;
-use engine_pages::PageStore;
+use logged_pages::PageStore;
 use page_locks::{Did, Locks, Rights};
 use std::alloc::Global;
 use std::io;

@@ -3,9 +3,9 @@
 
 Builds a small program over logged_pages in a copy of the crates by LLVM at -O2, and runs it five times. The program isn't proved, so
 it has the checks of `rt try` in it, and a proved one is somewhat faster. Tells the best time of a change of one of 64 pages of
-statuses in the store of pages in memory, and in the store over a disk in memory, with its flushes and checkpoints; of one change and
-its flush over a file in the folder (a folder for temporary files, if none is named), beside the same four calls on the file alone: two
-writes and two syncs; of a checkpoint of 64 dirty pages over the file; and of an opening of the store on the file.
+statuses over a disk in memory, with its flushes and checkpoints; of one change and its flush over a file in the folder (a folder for
+temporary files, if none is named), beside the same four calls on the file alone: two writes and two syncs; of a checkpoint of 64 dirty
+pages over the file; and of an opening of the store on the file.
 """
 import os
 import pathlib
@@ -19,11 +19,8 @@ from range_tuples import KIT, TRY, toolchain
 TOP = os.path.dirname(os.path.dirname(os.path.abspath(__file__)))
 CHANGES = 2_088_960
 FLUSHES = 1_000
-NEEDED = (
-    "store_bench: block_model store_layout disk_trait wal_record page_layout page_store store_format store_opening logged_pages\n"
-)
+NEEDED = "store_bench: block_model store_layout disk_trait wal_record store_format logged_pages\n"
 CALLS = {
-    "a change in memory": CHANGES,
     "a change over log and pool": CHANGES,
     "two writes and two syncs of a file": FLUSHES,
     "a change and its flush over a file": FLUSHES,
@@ -34,13 +31,11 @@ CALLS = {
 MAIN = """//! Times changes, flushes, a checkpoint and an opening.
 #![tactic(auto)]
 
-use block_model::{Column, Kind, Name, PAGE_SIZE, Place, Schema, Sequence, Sizes, Table};
+use block_model::{Column, Kind, Name, Place, Schema, Sequence, Sizes, Table};
 use disk_trait::{Disk, FileDisk, SteadyDisk};
 use logged_pages::PageStore;
-use page_layout::STATUS;
-use page_store::PageStore as PlainStore;
 use std::alloc::Global;
-use std::fs::{File, OpenOptions};
+use std::fs::OpenOptions;
 use std::io;
 use std::time::Instant;
 use store_format::format;
@@ -96,28 +91,6 @@ fn change(i: u64) -> (Place, u16) {
     (place, (i / 64 % 32640) as u16)
 }
 
-fn change_plain(store: &mut PlainStore<SteadyDisk>) -> bool {
-    'blocks: for block in 0..64 {
-        let place = Place { relation: 0, block };
-        let mut page = [0; PAGE_SIZE];
-        page[0] = STATUS;
-        if store.change(place, &Change::FullPage { place, bytes: &page }).is_err() {
-            return false;
-        }
-    }
-    true
-}
-
-fn all_plain(store: &mut PlainStore<SteadyDisk>) -> bool {
-    'changes: for i in 0..CHANGES {
-        let (place, entry) = change(i);
-        if store.change(place, &Change::StatusSet { place, entry, status: 1 }).is_err() {
-            return false;
-        }
-    }
-    true
-}
-
 fn all_logged(store: &mut PageStore<SteadyDisk>) -> bool {
     'changes: for i in 0..CHANGES {
         let (place, entry) = change(i);
@@ -154,22 +127,8 @@ fn calls(disk: &mut FileDisk) -> Option<()> {
     Some(())
 }
 
-
 fn main(rt: HostRuntime) -> io::Result<()> {
     let alloc = rt.alloc();
-    let Some(plain_layout) = layout(alloc) else {
-        return Ok(());
-    };
-    let Ok(disk) = SteadyDisk::new(alloc, 0) else {
-        return Ok(());
-    };
-    let Ok(mut plain) = PlainStore::plain(alloc, disk, plain_layout) else {
-        return Ok(());
-    };
-    let started = change_plain(&mut plain);
-    let start = Instant::now(&rt)?;
-    let changed = all_plain(&mut plain);
-    println!(rt; "took {}", start.elapsed(&rt)?.as_nanos())?;
     let Some(layout) = layout(alloc) else {
         return Ok(());
     };
@@ -208,7 +167,7 @@ fn main(rt: HostRuntime) -> io::Result<()> {
     let start = Instant::now(&rt)?;
     let opened = PageStore::start(alloc, disk).is_ok();
     println!(rt; "took {}", start.elapsed(&rt)?.as_nanos())?;
-    println!(rt; "done {} {} {} {} {} {}", started, changed, kept, flushed, checked, opened)
+    println!(rt; "done {} {} {} {}", kept, flushed, checked, opened)
 }
 """
 
@@ -235,7 +194,7 @@ def run(crate, tools):
     lines = [line.split() for line in ran.stdout.splitlines()]
     took = [int(line[1]) for line in lines if line[:1] == ["took"]]
     done = [line[1:] for line in lines if line[:1] == ["done"]]
-    if len(took) != len(CALLS) or done[0] != ["true"] * 6:
+    if len(took) != len(CALLS) or done != [["true"] * 4]:
         sys.exit(ran.stdout + ran.stderr)
     return took
 

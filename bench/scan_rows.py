@@ -17,7 +17,7 @@ from range_tuples import KIT, TRY, toolchain
 
 TOP = os.path.dirname(os.path.dirname(os.path.abspath(__file__)))
 ROWS = 5_440
-NEEDED = "scan_bench: block_model store_layout snapshot_core disk_trait page_locks store_format engine_pages heap_rows tx_table brin_scan\n"
+NEEDED = "scan_bench: block_model store_layout snapshot_core disk_trait page_locks store_format logged_pages heap_rows tx_table brin_scan\n"
 CALLS = ["a row of one transaction", "a row of two by turns", "a row that isn't found"]
 
 MAIN = """//! Times selects.
@@ -28,8 +28,8 @@ use block_model::{
 };
 use brin_scan::Scan;
 use disk_trait::SteadyDisk;
-use engine_pages::PageStore;
 use heap_rows::put;
+use logged_pages::PageStore;
 use page_locks::Did;
 use snapshot_core::Snapshot;
 use std::alloc::Global;
