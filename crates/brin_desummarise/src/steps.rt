@@ -18,11 +18,11 @@ use crate::indexes::table_of;
 use crate::stage::Stage;
 use block_model::{Point, Spot};
 use disk_trait::Disk;
-use logged_pages::PageStore;
 use index_contents::relation_of;
 use index_steps::{
     Within, an_index_that_stays_is_read, drop_moved, map_page_of, page_at, read_map,
 };
+use logged_pages::PageStore;
 use page_locks::{Did, Locks, Rights};
 use page_store::MachineFault;
 use range_store::Scratch;

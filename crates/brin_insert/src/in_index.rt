@@ -23,12 +23,12 @@ ghost use Rattle.brin_insert.specs.StepAnswers.{DamageAt, StandsAfter, StepFull}
 use crate::stage::Stage;
 use block_model::{Place, Point, Spot, Value};
 use disk_trait::Disk;
-use logged_pages::PageStore;
 use index_contents::relation_of;
 use index_steps::{
     Swapped, Within, a_row_is_added_to_what_is_seen, an_index_that_stays_is_read, copy_tuple,
     drop_moved, lock_of_another, name_moved, read_map, spell, swap, values_are_known,
 };
+use logged_pages::PageStore;
 use page_locks::{Did, Locks};
 use page_store::MachineFault;
 use range_store::Scratch;

@@ -11,8 +11,8 @@ ghost use Rattle.brin_scan.specs.Finds.{OfSight, Sight, none_read, sees_stored};
 ghost use Rattle.brin_scan.specs.LastStatuses.{Remembers, RemembersOne, StandsSo};
 
 use disk_trait::Disk;
-use logged_pages::PageStore;
 use heap_rows::Stored;
+use logged_pages::PageStore;
 use page_store::StoreError;
 use snapshot_core::{Snapshot, Status};
 use tx_table::TxTable;

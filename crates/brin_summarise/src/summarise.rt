@@ -21,9 +21,9 @@ use crate::course::{
 use crate::wish::Wish;
 use block_model::{NoMemory, Point};
 use disk_trait::Disk;
-use logged_pages::PageStore;
 use heap_rows::blocks;
 use index_steps::Within;
+use logged_pages::PageStore;
 use page_locks::{Did, Locks, Rights};
 use page_store::MachineFault;
 use range_summarise::{RangeSummarise, blocks_a_range, table_of};

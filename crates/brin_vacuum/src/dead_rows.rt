@@ -11,8 +11,8 @@ ghost use Rattle.snapshot_core.specs.declared.snapshots.Snapshot.{Snapshot as An
 ghost use Rattle.brin_vacuum.specs.DeadRows.{AddsAtMost, IsPicked, dead_slots, is_dead, living};
 
 use disk_trait::Disk;
-use logged_pages::PageStore;
 use heap_rows::Stored;
+use logged_pages::PageStore;
 use page_store::StoreError;
 use snapshot_core::{Snapshot, Status, dead_to_all};
 use tx_table::TxTable;

@@ -16,8 +16,8 @@ ghost use Rattle.brin_vacuum.specs.SweptPages.{IsListed, IsUnnamedOn, Judges};
 
 use block_model::Spot;
 use disk_trait::Disk;
-use logged_pages::PageStore;
 use index_layout::{an_index_page_has_one_list, slots, tuple_at, tuple_range};
+use logged_pages::PageStore;
 use page_store::StoreError;
 use revmap::entry;
 

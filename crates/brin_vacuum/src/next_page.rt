@@ -11,9 +11,9 @@ ghost use Rattle.brin_vacuum.specs.NextPages.{IsKindOf, IsNextIn, IsNextOf, IsWi
 
 use block_model::Place;
 use disk_trait::Disk;
-use logged_pages::PageStore;
 use index_contents::{index_pages_are_known, relation_of};
 use index_layout::{MAP, META, REGULAR, UNSTARTED, kind_of};
+use logged_pages::PageStore;
 use page_layout::Page;
 use page_store::StoreError;
 

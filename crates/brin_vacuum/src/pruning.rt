@@ -14,8 +14,8 @@ ghost use Rattle.brin_vacuum.specs.Vacuums.{HasHeap, NamesPageRead};
 
 use crate::dead_rows::list_dead;
 use disk_trait::Disk;
-use logged_pages::PageStore;
 use heap_rows::{PageRows, drop_dead, rows_of};
+use logged_pages::PageStore;
 use page_store::{StoreError, tables_have_forms};
 use snapshot_core::Snapshot;
 use tx_table::TxTable;

@@ -18,9 +18,9 @@ use crate::dropping::drop_tuples;
 use crate::judging::list_unnamed;
 use block_model::Place;
 use disk_trait::Disk;
-use logged_pages::PageStore;
 use index_contents::{index_pages_are_known, relation_of};
 use index_layout::{a_put_changes_one_slot, an_index_page_has_one_list};
+use logged_pages::PageStore;
 use page_layout::Page;
 use page_store::StoreError;
 

@@ -12,8 +12,8 @@ ghost use Rattle.index_steps.specs.Readings.{HasRangeAt, IsMisnamed, IsMisread, 
 
 use block_model::{Place, Spot};
 use disk_trait::Disk;
-use logged_pages::PageStore;
 use index_contents::relation_of;
+use logged_pages::PageStore;
 use page_store::StoreError;
 use range_store::{Scratch, tuple_at};
 use range_tuple::RangeTuple;

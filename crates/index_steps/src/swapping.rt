@@ -16,9 +16,9 @@ ghost use Rattle.index_steps.specs.SwapAnswers.{FaultNamesPageOf, IsSwapFull, Le
 
 use block_model::{Place, Spot};
 use disk_trait::Disk;
-use logged_pages::PageStore;
 use index_contents::relation_of;
 use index_layout::MAP_ENTRIES;
+use logged_pages::PageStore;
 use page_locks::{Held, Locks};
 use page_store::MachineFault;
 use range_store::{SwapFault, a_target_takes_its_tuple, put, replace, room_for};

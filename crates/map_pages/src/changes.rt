@@ -16,9 +16,9 @@ ghost use Rattle.map_pages.specs.NextPages.{StandsNext, place_in};
 use crate::next::METAPAGE;
 use block_model::Place;
 use disk_trait::Disk;
-use logged_pages::PageStore;
 use index_contents::{index_pages_are_known, relation_of};
 use index_layout::{MAP, an_index_page_has_one_list};
+use logged_pages::PageStore;
 use page_store::StoreError;
 use wal_record::Change;
 

@@ -16,11 +16,11 @@ ghost use Rattle.map_pages.specs.NextPages.{HasEntry, IsEmptyMap, IsNext, IsNext
 
 use block_model::Place;
 use disk_trait::Disk;
-use logged_pages::PageStore;
 use index_contents::{index_pages_are_known, relation_of};
 use index_layout::{
     EVACUATED, MAP, MAP_ENTRIES, REGULAR, UNSTARTED, an_index_page_has_one_list, entry_at, kind_of,
 };
+use logged_pages::PageStore;
 use page_layout::Page;
 use page_store::StoreError;
 

@@ -13,9 +13,9 @@ ghost use Rattle.map_pages.specs.NextPages.{place_in};
 
 use block_model::{PAGE_SIZE, Place};
 use disk_trait::Disk;
-use logged_pages::PageStore;
 use index_contents::{index_pages_are_known, relation_of};
 use index_layout::{an_index_page_has_one_list, slots, tuple_at, tuple_range};
+use logged_pages::PageStore;
 use page_layout::Page;
 use page_store::StoreError;
 

@@ -8,8 +8,8 @@ ghost use Rattle.heap_rows.specs.HeapBlocks.{HasBlocks};
 use crate::int8_rows::layout_of;
 use block_model::{RowId, Spot, Value, Values};
 use disk_trait::SteadyDisk;
-use logged_pages::PageStore;
 use heap_rows::{PageRows, Stored, blocks, mark, put, rows_of, unstarted_tables_have_no_blocks};
+use logged_pages::PageStore;
 use page_store::MachineFault;
 use std::test::Fail;
 

@@ -17,8 +17,8 @@ ghost use Rattle.range_store.specs.Tuples.{IsTupleSize};
 
 use block_model::Place;
 use disk_trait::Disk;
-use logged_pages::PageStore;
 use index_layout::{REGULAR, an_index_page_has_one_list};
+use logged_pages::PageStore;
 use page_store::StoreError;
 use wal_record::Change;
 

@@ -18,9 +18,9 @@ ghost use Rattle.range_store.specs.PageTuples.{DropsOn, StaysWithoutTuples};
 use crate::changes::drop_tuple;
 use block_model::{Place, Spot};
 use disk_trait::Disk;
-use logged_pages::PageStore;
 use index_contents::{index_pages_are_known, relation_of};
 use index_layout::{a_put_changes_one_slot, an_index_page_has_one_list, tuple_at};
+use logged_pages::PageStore;
 use page_layout::Page;
 use page_store::StoreError;
 

@@ -18,12 +18,12 @@ ghost use Rattle.range_store.specs.Tuples.{IsFirstUnstarted, IsTupleSize, TakesB
 use crate::changes::{put_tuple, start_with};
 use block_model::{Place, Spot};
 use disk_trait::Disk;
-use logged_pages::PageStore;
 use index_contents::{index_pages_are_known, relation_of};
 use index_layout::{
     REGULAR, UNSTARTED, a_put_changes_one_slot, an_index_page_has_one_list, free_slot, kind_of,
     the_lowest_free_slot_has_room,
 };
+use logged_pages::PageStore;
 use page_layout::Page;
 use page_store::StoreError;
 

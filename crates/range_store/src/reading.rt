@@ -15,9 +15,9 @@ ghost use Rattle.range_store.specs.Tuples.{IsOfRange};
 use crate::scratch::Scratch;
 use block_model::{PAGE_SIZE, Place, Spot};
 use disk_trait::Disk;
-use logged_pages::PageStore;
 use index_contents::{index_pages_are_known, relation_of};
 use index_layout::{an_index_page_has_one_list, tuple_range};
+use logged_pages::PageStore;
 use page_layout::Page;
 use page_store::StoreError;
 

@@ -21,9 +21,9 @@ use crate::faults::SwapFault;
 use block_model::{Place, Spot};
 use byte_fields::get_u16;
 use disk_trait::Disk;
-use logged_pages::PageStore;
 use index_contents::{index_pages_are_known, relation_of};
 use index_layout::{REGULAR, an_index_page_has_one_list, free_bytes, kind_of, slots};
+use logged_pages::PageStore;
 use page_layout::Page;
 use page_store::StoreError;
 

@@ -13,8 +13,8 @@ ghost use Rattle.range_store.specs.FirstTarget.{IsFirstTarget};
 ghost use Rattle.range_store.specs.Tuples.{IsFirstUnstarted, TakesBytes};
 
 use disk_trait::Disk;
-use logged_pages::PageStore;
 use index_contents::relation_of;
+use logged_pages::PageStore;
 
 /// The page for a tuple of so many bytes: the lowest one behind the map pages that takes tuples and has room, else the next one that
 /// isn't started, if the index may have it; else none. A page on which no further tuple fits is one

@@ -25,9 +25,9 @@ ghost use Rattle.range_summarise.specs.SummariseSteps.{RestsBlocked, StandsAfter
 
 use crate::stage::Stage;
 use disk_trait::Disk;
-use logged_pages::PageStore;
 use index_contents::relation_of;
 use index_steps::{Within, map_page_of};
+use logged_pages::PageStore;
 use map_growth::{Extend, Stage as GrowthStage};
 use page_locks::{Did, Locks};
 use page_store::MachineFault;

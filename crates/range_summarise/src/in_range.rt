@@ -34,13 +34,13 @@ use crate::rows::{add_rows, blocks_a_range, first_block, lesser, rows_are_taken,
 use crate::stage::Stage;
 use block_model::{Point, Spot};
 use disk_trait::Disk;
-use logged_pages::PageStore;
 use heap_rows::{PageRows, blocks, rows_of};
 use index_steps::{
     Placed, Swapped, Within, a_row_is_added_to_what_is_seen, an_index_that_stays_is_read,
     copy_tuple, drop_moved, map_page_of, name_moved, name_new, page_at, put_new, read_map, spell,
     swap, tuples_of_an_index_need_one_room,
 };
+use logged_pages::PageStore;
 use page_locks::{Did, Locks};
 use page_store::{MachineFault, StoreError};
 use range_store::Scratch;

@@ -29,9 +29,9 @@ use crate::in_range::{
 use crate::stage::Stage;
 use block_model::{Point, Spot};
 use disk_trait::Disk;
-use logged_pages::PageStore;
 use heap_rows::PageRows;
 use index_steps::Within;
+use logged_pages::PageStore;
 use map_growth::Extend;
 use page_locks::{Did, Locks};
 use page_store::MachineFault;

@@ -19,9 +19,9 @@ use crate::faults::SetFault;
 use crate::map_pages::{entry_at, set_entry};
 use block_model::{Place, Spot};
 use disk_trait::Disk;
-use logged_pages::PageStore;
 use index_contents::relation_of;
 use index_layout::{MAP_ENTRIES, an_index_page_has_one_list};
+use logged_pages::PageStore;
 use page_store::StoreError;
 
 /// The block of the page that counts the pages of the map.

@@ -17,8 +17,8 @@ ghost use Rattle.transactions.specs.TransactionsState.{OfOpen};
 ghost use Rattle.store_marks.specs.HitConflicts.{HitConflicts};
 
 use disk_trait::Disk;
-use logged_pages::PageStore;
 use heap_rows::deleter_of;
+use logged_pages::PageStore;
 use page_store::StoreError;
 use snapshot_core::Status;
 use store_parts::Hit;
