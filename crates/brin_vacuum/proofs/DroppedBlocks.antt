@@ -1,6 +1,6 @@
 -- rows that are dropped from a block
 use Rattle.std.proofs.Common.{◌≡◌, ◌⊎◌, inl, inr, ℕ, zero, suc, ◌+◌, ◌<◌, List, [], ◌∷◌, length, get_or, sym, ap, subst, ◌∙◌, arith}
-use Rattle.std.specs.Prelude.{All, None, Some}
+use Rattle.std.specs.Prelude.{All, Contains, None, Some}
 use Rattle.std.proofs.lemmas.Bool.{cases_eq}
 use Rattle.std.proofs.lemmas.List.{length-set}
 use Rattle.std.proofs.lemmas.List.Elements.{All-head, All-tail}
@@ -16,6 +16,13 @@ use Rattle.heap_rows.specs.StoredRows.{stored_from, stored_rows}
 use Rattle.brin_vacuum.specs.DeadRows.{DropsFrom, DropsTheDead, Living, dead_slots, is_dead}
 use Rattle.brin_vacuum.proofs.Counting.{counts_ascending}
 use Rattle.brin_vacuum.proofs.Picking.{IsAmong, dead_listed, listed_dead}
+
+among_contained : (slots : List ℕ) (n : ℕ) → IsAmong slots n → Contains slots n
+among_contained [] n among = absurd among
+among_contained (first ∷ slots) n among = elim among [
+  | inl is ↦ (0, omega arith, sym is)
+  | inr later ↦ let at = among_contained slots n later in (suc at.0, omega (arith, at.1), at.2)
+]
 
 contained_among : (slots : List ℕ) (n k : ℕ) → k < length slots → get_or slots k n ≡ n → IsAmong slots n
 contained_among [] n k below is = absurd (omega (arith, below))

@@ -46,6 +46,10 @@ use Rattle.brin_vacuum.proofs.Settling.{ShowsIndexes, pick_other, pick_same}
 use Rattle.brin_vacuum.proofs.SweptIndex.{fewer_unnamed, sweep_makes, tuples_gone, unnamed_after}
 use Rattle.brin_vacuum.proofs.Tables.{Ascending, IndexHere, OtherIndexes, SweepsLaw, held_behind, locked_by, same_shown, settles_blocks, settles_pages, shown_one, shows_indexes, task_behind}
 
+-- what it is of the vacuum where this is where it stands
+standing_as : (Q : VacuumState → Type 0) (a : VacuumState) (standing : Standing) → a.standing ≡ standing → Q (record a { standing = standing }) → Q a
+standing_as Q a standing is proof = subst Q (λ j. record a { standing = sym is j }) proof
+
 -- rows that have gone from their slots
 row_gone : (table : ℕ) (before after : Slot) → HasGone before after ↔ HasGone (row_in table before) (row_in table after)
 row_gone table before after = (to before after, from before after)

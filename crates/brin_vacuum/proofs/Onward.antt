@@ -1,5 +1,7 @@
 -- one call of the page store after another
-use Rattle.std.proofs.Common.{◌≡◌, inl, inr, ℕ, suc, ◌+◌, ◌≤◌, ◌==◌, Bool, true, false, cond, List, [], ◌∷◌, length, refl, sym, subst, ◌∙◌, arith}
+use Rattle.std.proofs.Common.{◌≡◌, ◌++◌, inl, inr, ℕ, suc, ◌+◌, ◌≤◌, ◌==◌, Bool, true, false, cond, List, [], ◌∷◌, length, refl, sym, ap, subst, ◌∙◌, arith}
+use Rattle.std.proofs.lemmas.Bool.{eq-eqb, ne_eqb}
+use Rattle.std.proofs.lemmas.List.{append_assoc}
 use Rattle.block_model.specs.declared.schema.Index.{Index}
 use Rattle.disk_trait.specs.Told.{Told}
 use Rattle.page_store.specs.Keeps.{Keeps, Tells}
@@ -40,6 +42,16 @@ module _ {D : Type 0} (told : D → Told) (old new : View D) (kept : Keeps told 
 
   pub of_contents : (index : ℕ) (P : IndexContents → Type 0) → (Tells told new → P (contents new.layout new.pages index)) → Tells told old → P (contents old.layout old.pages index)
   of_contents index P of tells = subst P (contents_same index tells) (of (tells_after tells))
+
+-- one index more of those of a table
+pub lists_this : (table number : ℕ) (index : Index) (rest : List Index) (before all : List ℕ) → index.table ≡ table → before ++ numbers_from table number (index ∷ rest) ≡ all → (before ++ number ∷ []) ++ numbers_from table (number + 1) rest ≡ all
+lists_this table number index rest before all is so_far =
+    append_assoc before (number ∷ []) (numbers_from table (number + 1) rest)
+    ∙ sym (ap (λ (b : Bool). before ++ cond b (number ∷ numbers_from table (number + 1) rest) (numbers_from table (number + 1) rest)) (eq-eqb index.table table is)) ∙ so_far
+
+pub lists_not : (table number : ℕ) (index : Index) (rest : List Index) (before all : List ℕ) → (index.table ≡ table → ⊥) → before ++ numbers_from table number (index ∷ rest) ≡ all → before ++ numbers_from table (number + 1) rest ≡ all
+lists_not table number index rest before all not so_far =
+    sym (ap (λ (b : Bool). before ++ cond b (number ∷ numbers_from table (number + 1) rest) (numbers_from table (number + 1) rest)) (ne_eqb index.table table not)) ∙ so_far
 
 few_by_test : (table n : ℕ) (rest : List Index) → length (numbers_from table (n + 1) rest) ≤ length rest → (b : Bool) → length (cond b (n ∷ numbers_from table (n + 1) rest) (numbers_from table (n + 1) rest)) ≤ suc (length rest)
 few_by_test table n rest few true = omega (arith, few)

@@ -1,14 +1,28 @@
 -- which pages have tuples
-use Rattle.std.proofs.Common.{◌≡◌, inl, inr, ℕ, ◌+◌, ◌≤◌, ◌<◌, List, [], ◌∷◌, drop, refl, sym, ap, subst, ◌∙◌, arith}
+use Rattle.std.proofs.Common.{◌≡◌, ◌≢◌, inl, inr, ℕ, ◌+◌, ◌≤◌, ◌<◌, ◌==◌, Bool, true, false, List, [], ◌∷◌, drop, refl, sym, ap, subst, ◌∙◌, arith}
 use Rattle.std.specs.Prelude.{Option, None, Some, slice_index}
-use Rattle.std.proofs.lemmas.Bool.{cases_eq}
+use Rattle.std.proofs.lemmas.Bool.{cases_eq, eq-eqb, ne_eqb}
+use Rattle.index_layout.specs.declared.format.TheConstants.{REGULAR, UNSTARTED}
 use Rattle.coverage.specs.IndexView.{Emptying, Mapping, PageKind, Pages, Regular, Unstarted}
 use Rattle.coverage.specs.PageOrder.{IsForTuples}
 use Rattle.store_layout.specs.DiskLayout.{DiskLayout}
 use Rattle.page_store.specs.PageMap.{PageMap, block_at, page_at}
-use Rattle.index_contents.specs.IndexContents.{contents, kind_at, relation_of}
+use Rattle.index_contents.specs.IndexContents.{contents, kind_at, map_kind, relation_of}
 use Rattle.brin_vacuum.specs.declared.next_page.PageKind.{PageKind as Found}
+use Rattle.index_contents.specs.Kinds.{kind_by}
 use Rattle.brin_vacuum.specs.NextPages.{InALaterOne, InThisIndex, IsKindOf, IsNextIn, IsNextOf, NoIndexLeft}
+
+by_tests : (block kind : ℕ) (a b c : Bool) → (kind == REGULAR) ≡ a → (kind == UNSTARTED) ≡ b → (kind == map_kind block) ≡ c → kind_at block kind ≡ kind_by a b c
+by_tests block kind a b c regular unstarted map =
+    ap (λ (x : Bool). kind_by x (kind == UNSTARTED) (kind == map_kind block)) regular ∙ ap (λ (y : Bool). kind_by a y (kind == map_kind block)) unstarted ∙ ap (λ (z : Bool). kind_by a b z) map
+
+pub is_map_kind : (block kind : ℕ) → kind ≢ REGULAR → kind ≢ UNSTARTED → kind ≡ map_kind block → kind_at block kind ≡ Mapping
+is_map_kind block kind regular unstarted is =
+    by_tests block kind false false true (ne_eqb kind REGULAR regular) (ne_eqb kind UNSTARTED unstarted) (eq-eqb kind (map_kind block) is)
+
+pub is_other_kind : (block kind : ℕ) → kind ≢ REGULAR → kind ≢ UNSTARTED → kind ≢ map_kind block → kind_at block kind ≡ Emptying
+is_other_kind block kind regular unstarted map =
+    by_tests block kind false false false (ne_eqb kind REGULAR regular) (ne_eqb kind UNSTARTED unstarted) (ne_eqb kind (map_kind block) map)
 
 abbrev Takes : PageKind → Type 0
 Takes Regular = Unit {0}

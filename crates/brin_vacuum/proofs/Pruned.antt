@@ -10,7 +10,7 @@ use Rattle.page_layout.specs.PageContents.{IsForm, Slot}
 use Rattle.page_layout.specs.RowBytes.{StoredRow}
 use Rattle.page_store.specs.Keeps.{Keeps, Tells, keeps_then}
 use Rattle.page_store.specs.PageMap.{PageMap, View, page_at}
-use Rattle.heap_rows.specs.DroppedRows.{AreAscending, AreInUse, FreesSlots, with_slots_free}
+use Rattle.heap_rows.specs.DroppedRows.{AreAscending, AreInUse, DropsRows, FreesSlots, with_slots_free}
 use Rattle.heap_rows.specs.HeapBlocks.{HasBlocks, OfBlocks, slots_of}
 use Rattle.heap_rows.specs.Heaps.{form_at, kinds_at, slots_a_page}
 use Rattle.heap_rows.specs.LeavesOthers.{LeavesOthers}
@@ -58,6 +58,11 @@ pub prunes_the_dead : {D : Type 0} (told : D → Told) (old mid : View D) (table
 prunes_the_dead told old mid table block by rows dead kept read is frees tells blocks has =
     drops_the_dead blocks block dead (frees (kept.leaves.tells ∙ tells) blocks (has_after told old mid table blocks kept tells has)) by (is ∙ ap (dead_slots by) (read tells blocks has))
 
+pub prune_blocks : {D : Type 0} (told : D → Told) (old mid new : View D) (table block : ℕ) (dead : List ℕ) → Keeps told old mid → OfBlocks told mid table (DropsRows mid.layout new.pages table block dead)
+    → OfBlocks told old table (λ blocks. HasBlocks old.layout new.pages table (with_slots_free blocks block dead))
+prune_blocks told old mid new table block dead kept drops tells blocks has =
+    subst (λ (l : DiskLayout). HasBlocks l new.pages table (with_slots_free blocks block dead)) kept.leaves.layout (drops (kept.leaves.tells ∙ tells) blocks (has_after told old mid table blocks kept tells has))
+
 -- a call that changes no page, and then one that changes those of a table
 pub tables_then : {D : Type 0} (told : D → Told) (table : ℕ) (old mid new : View D) → Keeps told old mid → LeavesOthers told table mid new → LeavesOthers told table old new
 tables_then told table old mid new kept leaves = record {
@@ -65,6 +70,13 @@ tables_then told table old mid new kept leaves = record {
   pages = λ tells place other. leaves.pages (kept.leaves.tells ∙ tells) place other ∙ ap (λ (p : PageMap). page_at p place) (kept.pages tells);
   tables = λ tells other blocks apart has.
       subst (λ (l : DiskLayout). HasBlocks l new.pages other blocks) kept.leaves.layout (leaves.tables (kept.leaves.tells ∙ tells) other blocks apart (has_after told old mid other blocks kept tells has));
+}
+
+pub tables_kept : {D : Type 0} (told : D → Told) (table : ℕ) (old new : View D) → Keeps told old new → LeavesOthers told table old new
+tables_kept told table old new kept = record {
+  leaves = kept.leaves;
+  pages = λ tells place other. ap (λ (p : PageMap). page_at p place) (kept.pages tells);
+  tables = λ tells other blocks apart has. subst (λ (p : PageMap). HasBlocks old.layout p other blocks) (sym (kept.pages tells)) has;
 }
 
 few_fit : (count row : ℕ) → 22 ≤ row → count * row ≤ 8160 → count ≤ 370

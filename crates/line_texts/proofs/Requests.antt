@@ -55,6 +55,9 @@ ends Illegal = Without (λ _. refl) (λ _ _ _. refl)
 abbrev AreLeft : List Row → List Answer → List Row → Type 0
 AreLeft rows marks left = (more : List Answer) → row_to_mark rows (marks ++ more) ≡ row_to_mark left more
 
+nothing_left : (more : List Answer) → row_to_mark [] more ≡ None
+nothing_left more = refl
+
 module _ (opening : DatabaseState) (n : ℕ) (q : Query) (rows : List Row) where
   next_is : (c : Course) (marks : List Answer) (left : List Row) → c.answers ≡ Found rows ∷ marks → AreLeft rows marks left
       → next_request n (statements.Delete q) c.answers ≡ option_map (mark_entry n q.table) (row_to_mark left [])

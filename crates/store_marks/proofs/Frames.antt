@@ -1,5 +1,5 @@
 -- What a mark leaves of the parts of a store, on any disk.
-use Rattle.std.proofs.Common.{◌≡◌, ◌≢◌, ℕ, ◌+◌, ◌<◌, ◌≤◌, Bool, false, drop, length, length-drop, Option, None, Some, refl, sym, ap, subst, arith}
+use Rattle.std.proofs.Common.{◌≡◌, ◌≢◌, ℕ, ◌+◌, ◌<◌, ◌≤◌, Bool, false, List, drop, length, length-drop, Option, None, Some, refl, sym, ap, ◌∙◌, subst, arith}
 use Rattle.std.specs.Prelude.{if◌then◌else◌}
 use Rattle.std.proofs.lemmas.Option.{none-some}
 use Rattle.block_model.specs.declared.reply.Point.TheVariants as points
@@ -7,6 +7,9 @@ use Rattle.block_model.specs.declared.reply.Reply.{Reply}
 use Rattle.block_model.specs.declared.row.Query.{Query}
 use Rattle.disk_trait.specs.Told.{Told}
 use Rattle.heap_rows.specs.LeavesOthers.{LeavesOthers}
+use Rattle.page_locks.specs.LockCounts.{locks_of}
+use Rattle.page_locks.specs.LockHolders.{LockState}
+use Rattle.page_locks.specs.RightHolders.{right_of}
 use Rattle.page_store.specs.Keeps.{Leaves}
 use Rattle.page_store.specs.PageMap.{View}
 use Rattle.row_versions.specs.declared.sessions.Open.{Open}
@@ -17,15 +20,21 @@ use Rattle.store_layout.specs.DiskLayout.{DiskLayout}
 use Rattle.tx_table.specs.Kept.{over_kept}
 use Rattle.tx_table.specs.Statuses.{status_relation}
 use Rattle.tx_table.specs.TxState.{IsOver, TxState}
+use Rattle.reply_texts.specs.declared.dropped.Dropped.{Dropped}
 use Rattle.store_parts.specs.declared.hand.Hand.{Hand}
 use Rattle.store_parts.specs.declared.hand.Hand.TheVariants as hands
 use Rattle.store_parts.specs.declared.hand.Marking.{Marking}
+use Rattle.store_parts.specs.declared.hand.Stepped.{Stepped}
 use Rattle.store_parts.specs.declared.hand.Stepped.TheVariants as stepped
 use Rattle.store_parts.specs.declared.parts.Parts.{Parts}
 use Rattle.store_parts.specs.HandFits.{FitsHand, IsHandFor, locks_held}
 use Rattle.store_parts.specs.Shares.{look_share, open_share, share_of}
-use Rattle.store_parts.specs.Stepping.{IsFit, MakesItsStep}
-use Rattle.store_parts.specs.UndoneLaws.{StepsSo}
+use Rattle.store_parts.specs.StepIs.{hand_after}
+use Rattle.store_parts.specs.Stepping.{IsFit, LeavesTheOthers, MakesItsStep, StaysFit}
+use Rattle.store_parts.specs.StoreStates.{dropped_in, with_hand}
+use Rattle.store_parts.specs.UndoneLaws.{FitsParts, StepsSo}
+use Rattle.store_parts.proofs.Stores.{hand_changes}
+use Rattle.store_parts.proofs.Undone.{fit_of_parts, fit_of_stores}
 
 -- what a step leaves, behind which the session has that in hand
 pub record LeavesParts {D : Type 0} (told : D → Told) (old new : Parts D) (n : ℕ) (marking : Marking) (now : Option Hand) : Type 0 where
@@ -42,6 +51,41 @@ pub record LeavesParts {D : Type 0} (told : D → Told) (old new : Parts D) (n :
   pub entries : length new.journal.entries ≤ MAX_ENTRIES
   pub promised : new.journal.promised + share_of (Some (hands.Marks marking)) (transaction_of old.transactions.opens n) ≡ old.journal.promised + share_of now (transaction_of new.transactions.opens n)
   pub opens : (m : ℕ) → m ≢ n → transaction_of new.transactions.opens m ≡ transaction_of old.transactions.opens m
+
+less_share : (new old was now : ℕ) → new + was ≡ old + now → was ≤ old → now ≤ new
+less_share new old was now is within = omega arith
+
+module _ {D : Type 0} (told : D → Told) (old new : Parts D) (n : ℕ) (marking : Marking) (now : Option Hand) (left : LeavesParts told old new n marking now) where
+  was : FitsParts told old n (Some (hands.Marks marking))
+  was = fit_of_parts told old n (hands.Marks marking) left.fits
+
+  fit_now : FitsParts told new n now
+  fit_now = record {
+    session = was.session;
+    over = left.over;
+    in_hand = left.in_hand;
+    limit = ap (λ (l : LockState). l.limit) left.locks ∙ was.limit;
+    own = subst (λ (l : LockState). locks_of l n ≤ locks_held now) (sym left.locks) (subst (λ (count : ℕ). locks_of old.locks n ≤ count) (sym left.held) was.own);
+    held = λ table holds. absurd (none-some table (was.held table (ap (λ (r : List (Option ℕ)). right_of r table) (sym left.rights) ∙ holds)));
+    rights = ap length left.rights ∙ was.rights ∙ ap (λ (layout : DiskLayout). length layout.schema.tables) (sym left.leaves.layout);
+    entries = left.entries;
+    share = less_share new.journal.promised old.journal.promised _ _ left.promised was.share;
+  }
+
+  module _ (answer : Stepped) (after : hand_after answer ≡ now) where
+    pub stays_fit : StaysFit told old new n (hands.Marks marking) answer
+    stays_fit names hands_ is = fit_of_stores told new n now names (with_hand hands_ n (hand_after answer)) fit_now ((hand_changes hands_ n (hands.Marks marking) (hand_after answer) is).own ∙ after)
+
+    pub leaves_others : LeavesTheOthers told old new n (hands.Marks marking) answer
+    leaves_others names hands_ is = record {
+      leaves = left.leaves;
+      transactions = left.opens;
+      locks = λ m apart. ap (λ (l : LockState). locks_of l m) left.locks;
+      dropped = λ m apart. ap (λ (l : List (List Dropped)). dropped_in l m) left.dropped;
+      rights = λ m table apart holds. ap (λ (r : List (Option ℕ)). right_of r table) (sym left.rights) ∙ holds;
+      promised = ap (λ (h : Option Hand). new.journal.promised + share_of h (transaction_of old.transactions.opens n)) is ∙ left.promised
+          ∙ ap (λ (h : Option Hand). old.journal.promised + share_of h (transaction_of new.transactions.opens n)) (sym ((hand_changes hands_ n (hands.Marks marking) (hand_after answer) is).own ∙ after));
+    }
 
 pub done_so : {D : Type 0} (told : D → Told) (old new : Parts D) (n : ℕ) (marking : Marking) (reply : Reply) → LeavesParts told old new n marking None
     → MakesItsStep told old new n (hands.Marks marking) (stepped.Done reply) → StepsSo told old new n (hands.Marks marking) (stepped.Done reply)

@@ -1,5 +1,5 @@
 -- Steps that aren't done.
-use Rattle.std.proofs.Common.{◌≡◌, ℕ, List, length, Option, None, Some, refl, sym, subst}
+use Rattle.std.proofs.Common.{◌≡◌, ℕ, List, length, Option, None, Some, refl, sym, subst, arith}
 use Rattle.disk_trait.specs.Told.{Told}
 use Rattle.page_store.specs.declared.faults.StoreError.{StoreError}
 use Rattle.page_store.specs.Keeps.{Leaves, Untold}
@@ -17,13 +17,20 @@ use Rattle.store_parts.specs.Stepping.{IsFit}
 use Rattle.store_parts.specs.StoreFaults.{fault_of}
 use Rattle.store_parts.specs.StoreStates.{hand_in, store_of}
 use Rattle.store_parts.specs.UndoneLaws.{SameBesidePages, StepsSo}
-use Rattle.store_parts.proofs.Undone.{refused_is_undone, spent_is_undone}
+use Rattle.store_parts.proofs.Undone.{fit_of_parts, refused_is_undone, spent_is_undone}
 
 -- the pages refuse the step
 pub refused_by : {D : Type 0} (told : D → Told) (old new : Parts D) (n : ℕ) (hand : Hand) (error : StoreError) (fault : StoreFault) → IsFit told old n hand → IsOver told new.transactions.tx new.pages
     → Leaves told old.pages new.pages → SameBesidePages old new → Refused told (Untold told old.pages) old.pages new.pages error → fault ≡ fault_of error → StepsSo told old new n hand (stepped.Undone fault hand)
 refused_by told old new n hand error fault fits over leaves same refused is =
     subst (λ (f : StoreFault). StepsSo told old new n hand (stepped.Undone f hand)) (sym is) (refused_is_undone told old new n hand error fits over leaves same refused)
+
+-- they refuse it before anything is done
+pub not_ready : {D : Type 0} (told : D → Told) (parts : Parts D) (n : ℕ) (hand : Hand) (error : StoreError) (fault : StoreFault) → IsFit told parts n hand
+    → Refused told (Untold told parts.pages) parts.pages parts.pages error → fault ≡ fault_of error → StepsSo told parts parts n hand (stepped.Undone fault hand)
+not_ready told parts n hand error fault fits refused is =
+    refused_by told parts parts n hand error fault fits (fit_of_parts told parts n hand fits).over (record { layout = refl; tells = refl; faults = omega arith })
+    (record { transactions = refl; locks = refl; rights = refl; journal = refl; queue = refl; dropped = refl }) refused is
 
 -- the journal has no room
 pub no_room_for : {D : Type 0} (told : D → Told) (parts : Parts D) (n : ℕ) (hand : Hand) (fault : StoreFault) → IsFit told parts n hand → parts.pages.failed ≡ None
