@@ -46,6 +46,11 @@ other_number a b e same = true≢false (sym ((eq_by_cmp_equiv nat_cmp_total).ref
 pub other_number_eqb : (a b : ℕ) → eqb a b ≡ false → a ≢ b
 other_number_eqb a b e same = true≢false (sym (eq-eqb a b same) ∙ e)
 
+-- two facts at once
+pub both : (a b : Bool) → T a → T b → T (a && b)
+both true b p q = q
+both false b p q = p
+
 pub first_of_both : (a b : Bool) → T (a && b) → T a
 first_of_both true b p = tt
 first_of_both false b p = p

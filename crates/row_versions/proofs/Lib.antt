@@ -7,5 +7,6 @@ pub mod Ends
 pub mod Puttings
 pub mod Among
 pub mod Fresh
+pub mod Listed
 pub mod Conflicts
 pub mod Markings
