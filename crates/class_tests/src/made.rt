@@ -10,12 +10,12 @@ ghost use Rattle.range_tuple.specs.TupleIncludes.{TakesValue};
 ghost use Rattle.range_tuple.specs.Tuples.{empty_placeholder, parts_of};
 
 use block_model::{
-    Class, Column, Columns, Index, Indexes, Kind, Name, Part, Parts, Schema, Table, Tables, Value,
+    Class, Column, Columns, Index, Indexes, Kind, Name, NoMemory, Part, Parts, Schema, Table,
+    Tables, Value,
 };
 use range_tuple::RangeTuple;
 use std::alloc::Global;
 use std::process::Abort;
-use std::test::Fail;
 
 pub(crate) fn name(rt: &impl Abort, bytes: &[u8]) -> Name {
     Name::new(bytes).expect(rt, "a name")
@@ -27,7 +27,7 @@ pub(crate) fn placeholder(
     alloc: Global,
     columns: Columns,
     parts: Parts,
-) -> Result<RangeTuple, Fail>
+) -> Result<RangeTuple, NoMemory>
     requires some { 0 < length parts }
     requires classes { list_all (class_is_lawful columns) parts ≡ true }
     requires size { tuple_size columns parts ≤ MAX_TUPLE }
@@ -50,8 +50,7 @@ pub(crate) fn placeholder(
         tables,
         indexes: Indexes::new(alloc),
     };
-    let tuple = RangeTuple::new(alloc, &index, &schema, 0)?;
-    Ok(tuple)
+    RangeTuple::new(alloc, &index, &schema, 0)
 }
 
 /// Of an index on one column.
@@ -60,7 +59,7 @@ pub(crate) fn one(
     alloc: Global,
     kind: Kind,
     class: Class,
-) -> Result<RangeTuple, Fail>
+) -> Result<RangeTuple, NoMemory>
     requires kind { takes_kind class kind ≡ true }
     requires parameters { has_lawful_parameters class ≡ true }
     requires size { summary_size class kind ≤ 8000 }

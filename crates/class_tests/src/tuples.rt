@@ -6,14 +6,14 @@ ghost use Rattle.range_tuple.specs.TupleIncludes.{TakesValue};
 ghost use Rattle.range_tuple.specs.Tuples.{parts_of};
 
 use crate::made::{add_number, name, number, one, placeholder};
-use block_model::{Class, Column, Columns, Cond, Kind, Net, Op, Part, Parts, Value};
+use block_model::{Class, Column, Columns, Cond, Kind, Net, NoMemory, Op, Part, Parts, Value};
 use range_tuple::{RangeTuple, ScanKeys};
 use std::alloc::Global;
 use std::process::Abort;
 use std::test::Fail;
 
 /// Of an index on an int8 by minmax and an inet by inclusion.
-fn two(rt: &impl Abort, alloc: Global) -> Result<RangeTuple, Fail>
+fn two(rt: &impl Abort, alloc: Global) -> Result<RangeTuple, NoMemory>
     ensures parts { IfOk result (λ t. parts_of t.columns ≡ (0, class_of Class.MinMax Kind.Int) ∷ (1, class_of Class.Inclusion Kind.Net) ∷ []) }
 {
     let mut columns = Columns::new(alloc);
@@ -166,71 +166,51 @@ fn united_tuples_have_what_either_had(rt: HostRuntime) -> Result<(), Fail> {
     Ok(())
 }
 
-#[test]
-fn two_column_index_with_nulls(rt: HostRuntime) -> Result<(), Fail> {
-    let net = Net::v4(10 << 24 | 1, 32).expect(&rt, "an address");
-    let mut first = two(&rt, rt.alloc())?;
-    let mut second = two(&rt, rt.alloc())?;
-    let changes = add_both(&mut first, Some(1), None);
-    assert!(rt; changes && add_both(&mut second, None, Some(net)));
-    first.settle();
-    second.settle();
-    let a_is_1 = cond(0, Op::Eq, Value::Int(1));
-    let a_is_null = cond(0, Op::IsNull, Value::Null);
-    let b_is_null = cond(1, Op::IsNull, Value::Null);
-    let b_is_net = cond(1, Op::Eq, Value::Net(net));
-    let found = [
-        (first.keeps(&[a_is_1]), second.keeps(&[a_is_1])),
-        (first.keeps(&[b_is_null]), second.keeps(&[b_is_null])),
-        (
-            first.keeps(&[a_is_null, b_is_net]),
-            second.keeps(&[a_is_null, b_is_net]),
-        ),
-        (
-            first.keeps(&[a_is_1, b_is_net]),
-            second.keeps(&[a_is_1, b_is_net]),
-        ),
-    ];
-    let wanted = [(true, false), (true, false), (false, true), (false, false)];
-    assert_eq!(rt; found, wanted);
-    assert!(rt; second.keeps(&[a_is_null, cond(7, Op::Eq, Value::Int(1))]));
-    Ok(())
-}
+/// Bytes, and the place of the fault that a tuple of one int8 by minmax finds in them, if there is one.
+const FIELDS: [(&[u8], Option<usize>); 9] = [
+    (&[0, 0, 0, 0], Some(4)),
+    (&[0, 0, 0, 0, 0, 1, 0, 1, 0], Some(6)),
+    (&[0, 0, 0, 0, 0, 1, 0, 0, 9], Some(8)),
+    (&[0, 0, 0, 0, 3, 0, 0, 0], None),
+    (&[0, 0, 0, 0, 4, 0, 0, 0], Some(4)),
+    (&[0, 0, 0, 0, 0, 0, 0, 0], Some(5)),
+    (&[0, 0, 0, 0, 2, 2, 0, 16], Some(5)),
+    (&[0, 0, 0, 0, 0, 4, 0, 0], Some(5)),
+    (&[0, 0, 0, 0, 0, 2, 0, 0], Some(6)),
+];
 
-/// The place of the fault that a tuple of one column finds in bytes.
-fn fault(tuple: &mut RangeTuple, bytes: &[u8]) -> Option<usize> {
-    match tuple.decode(bytes) {
-        Ok(()) => None,
-        Err(fault) => Some(fault.at),
+/// The same of an int8 by multi, whose own fault stands behind the fields.
+const OF_CLASS: [(&[u8], Option<usize>); 2] = [
+    (&[0, 0, 0, 0, 0, 2, 0, 2, 0, 0], None),
+    (&[0, 0, 0, 0, 0, 2, 0, 3, 0, 0, 0], Some(10)),
+];
+
+/// The first of the bytes in which the tuple finds another fault.
+fn first_wrong(
+    tuple: &mut RangeTuple,
+    cases: &[(&'static [u8], Option<usize>)],
+) -> Option<&'static [u8]> {
+    for (bytes, wanted) in cases {
+        let found = match tuple.decode(bytes) {
+            Ok(()) => None,
+            Err(fault) => Some(fault.at),
+        };
+        if found != *wanted {
+            return Some(bytes);
+        }
     }
+    None
 }
 
 #[test]
 fn malformed_fields_are_named(rt: HostRuntime) -> Result<(), Fail> {
-    let mut tuple = one(&rt, rt.alloc(), Kind::Int, Class::MinMax)?;
-    let cases: [(&[u8], Option<usize>); 9] = [
-        (&[0, 0, 0, 0], Some(4)),
-        (&[0, 0, 0, 0, 0, 1, 0, 1, 0], Some(6)),
-        (&[0, 0, 0, 0, 0, 1, 0, 0, 9], Some(8)),
-        (&[0, 0, 0, 0, 3, 0, 0, 0], None),
-        (&[0, 0, 0, 0, 4, 0, 0, 0], Some(4)),
-        (&[0, 0, 0, 0, 0, 0, 0, 0], Some(5)),
-        (&[0, 0, 0, 0, 2, 2, 0, 16], Some(5)),
-        (&[0, 0, 0, 0, 0, 4, 0, 0], Some(5)),
-        (&[0, 0, 0, 0, 0, 2, 0, 0], Some(6)),
+    let mut of_minmax = one(&rt, rt.alloc(), Kind::Int, Class::MinMax)?;
+    let mut of_multi = one(&rt, rt.alloc(), Kind::Int, Class::Multi { limit: 8 })?;
+    let wrong = [
+        first_wrong(&mut of_minmax, FIELDS.as_slice()),
+        first_wrong(&mut of_multi, OF_CLASS.as_slice()),
     ];
-    for (bytes, wanted) in cases {
-        assert_eq!(rt; fault(&mut tuple, bytes), wanted);
-    }
-    Ok(())
-}
-
-#[test]
-fn a_fault_of_a_class_is_told_at_its_place(rt: HostRuntime) -> Result<(), Fail> {
-    let mut tuple = one(&rt, rt.alloc(), Kind::Int, Class::Multi { limit: 8 })?;
-    let empty = fault(&mut tuple, &[0, 0, 0, 0, 0, 2, 0, 2, 0, 0]);
-    let longer = fault(&mut tuple, &[0, 0, 0, 0, 0, 2, 0, 3, 0, 0, 0]);
-    assert_eq!(rt; (empty, longer), (None, Some(10)));
+    assert_eq!(rt; wrong, [None; 2]);
     Ok(())
 }
 
