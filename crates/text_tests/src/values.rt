@@ -1,7 +1,6 @@
 //! Values and operators.
 
 use block_model::{Kind, Net, Op, Span8, Value, matches};
-use std::test::Fail;
 use value_text::read_value;
 
 const OPS: [Op; 17] = [
@@ -43,27 +42,115 @@ const MET: [(&str, &str, &[Op]); 34] = [
     ("0.0.0.1", "1", &[Op::NotNull]),
     // Ranges, by their bounds.
     ("[0,3)", "[2,7)", &[Op::Overlaps, Op::NotAfter, Op::NotNull]),
-    ("[2,7)", "[0,3)", &[Op::Overlaps, Op::NotBefore, Op::NotNull]),
+    (
+        "[2,7)",
+        "[0,3)",
+        &[Op::Overlaps, Op::NotBefore, Op::NotNull],
+    ),
     ("[0,9)", "[2,7)", &[Op::Overlaps, Op::Contains, Op::NotNull]),
-    ("[2,7)", "[0,9)", &[Op::Overlaps, Op::Within, Op::NotAfter, Op::NotBefore, Op::NotNull]),
+    (
+        "[2,7)",
+        "[0,9)",
+        &[
+            Op::Overlaps,
+            Op::Within,
+            Op::NotAfter,
+            Op::NotBefore,
+            Op::NotNull,
+        ],
+    ),
     ("[0,3)", "[5,9)", &[Op::Before, Op::NotAfter, Op::NotNull]),
     ("[5,9)", "[0,3)", &[Op::After, Op::NotBefore, Op::NotNull]),
-    ("empty", "empty", &[Op::Eq, Op::Contains, Op::Within, Op::NotNull]),
+    (
+        "empty",
+        "empty",
+        &[Op::Eq, Op::Contains, Op::Within, Op::NotNull],
+    ),
     ("empty", "[0,3)", &[Op::Within, Op::NotNull]),
     ("[0,3)", "empty", &[Op::Contains, Op::NotNull]),
-    ("(,)", "(,)", &[Op::Eq, Op::Overlaps, Op::Contains, Op::Within, Op::NotAfter, Op::NotBefore, Op::NotNull]),
-    ("(,5)", "[5,)", &[Op::Before, Op::NotAfter, Op::Adjacent, Op::NotNull]),
-    ("[5,)", "(,5)", &[Op::After, Op::NotBefore, Op::Adjacent, Op::NotNull]),
-    ("[5,)", "(,)", &[Op::Overlaps, Op::Within, Op::NotAfter, Op::NotBefore, Op::NotNull]),
+    (
+        "(,)",
+        "(,)",
+        &[
+            Op::Eq,
+            Op::Overlaps,
+            Op::Contains,
+            Op::Within,
+            Op::NotAfter,
+            Op::NotBefore,
+            Op::NotNull,
+        ],
+    ),
+    (
+        "(,5)",
+        "[5,)",
+        &[Op::Before, Op::NotAfter, Op::Adjacent, Op::NotNull],
+    ),
+    (
+        "[5,)",
+        "(,5)",
+        &[Op::After, Op::NotBefore, Op::Adjacent, Op::NotNull],
+    ),
+    (
+        "[5,)",
+        "(,)",
+        &[
+            Op::Overlaps,
+            Op::Within,
+            Op::NotAfter,
+            Op::NotBefore,
+            Op::NotNull,
+        ],
+    ),
     // Addresses, by their prefixes.
-    ("10.0.0.1/24", "10.0.0.1/24", &[Op::Eq, Op::Overlaps, Op::WithinEq, Op::ContainsEq, Op::NotNull]),
-    ("10.0.0.1/24", "10.0.0.0/24", &[Op::Overlaps, Op::WithinEq, Op::ContainsEq, Op::NotNull]),
+    (
+        "10.0.0.1/24",
+        "10.0.0.1/24",
+        &[
+            Op::Eq,
+            Op::Overlaps,
+            Op::WithinEq,
+            Op::ContainsEq,
+            Op::NotNull,
+        ],
+    ),
+    (
+        "10.0.0.1/24",
+        "10.0.0.0/24",
+        &[Op::Overlaps, Op::WithinEq, Op::ContainsEq, Op::NotNull],
+    ),
     ("10.0.1.0/24", "10.0.0.0/24", &[Op::NotNull]),
-    ("10.0.1.0/24", "10.0.0.0/23", &[Op::Overlaps, Op::Before, Op::WithinEq, Op::NotNull]),
-    ("10.0.0.0/23", "10.0.1.0/24", &[Op::Overlaps, Op::After, Op::ContainsEq, Op::NotNull]),
-    ("10.0.0.1/24", "0.0.0.0/0", &[Op::Overlaps, Op::Before, Op::WithinEq, Op::NotNull]),
-    ("0.0.0.0/0", "10.0.0.1/24", &[Op::Overlaps, Op::After, Op::ContainsEq, Op::NotNull]),
-    ("10.0.0.1", "10.0.0.1/32", &[Op::Eq, Op::Overlaps, Op::WithinEq, Op::ContainsEq, Op::NotNull]),
+    (
+        "10.0.1.0/24",
+        "10.0.0.0/23",
+        &[Op::Overlaps, Op::Before, Op::WithinEq, Op::NotNull],
+    ),
+    (
+        "10.0.0.0/23",
+        "10.0.1.0/24",
+        &[Op::Overlaps, Op::After, Op::ContainsEq, Op::NotNull],
+    ),
+    (
+        "10.0.0.1/24",
+        "0.0.0.0/0",
+        &[Op::Overlaps, Op::Before, Op::WithinEq, Op::NotNull],
+    ),
+    (
+        "0.0.0.0/0",
+        "10.0.0.1/24",
+        &[Op::Overlaps, Op::After, Op::ContainsEq, Op::NotNull],
+    ),
+    (
+        "10.0.0.1",
+        "10.0.0.1/32",
+        &[
+            Op::Eq,
+            Op::Overlaps,
+            Op::WithinEq,
+            Op::ContainsEq,
+            Op::NotNull,
+        ],
+    ),
 ];
 
 /// The value of a text of any kind.
@@ -86,21 +173,31 @@ fn meets_alone(value: &Value, key: &Value, met: &[Op]) -> bool {
     true
 }
 
-#[test]
-fn values_meet_their_operators_alone(rt: HostRuntime) -> Result<(), Fail> {
+fn first_wrong() -> Option<(&'static str, &'static str)> {
     for (value, key, met) in &MET {
-        let read = (value_of(value).ok_or("a value")?, value_of(key).ok_or("a key")?);
-        assert!(rt; meets_alone(&read.0, &read.1, met), "at {value} {key}");
+        let (Some(v), Some(k)) = (value_of(value), value_of(key)) else {
+            return Some((value, key));
+        };
+        if !meets_alone(&v, &k, met) {
+            return Some((value, key));
+        }
     }
-    Ok(())
+    None
+}
+
+#[test]
+fn values_meet_their_operators_alone(rt: HostRuntime) {
+    assert_eq!(rt; first_wrong(), None);
 }
 
 #[test]
 fn values_tell_their_parts(rt: HostRuntime) {
-    let span = Span8::from_bounds(Some((5, true)), None);
-    let net = Net::v4(0x0A00_0001, 24);
-    let bounds = span.map(|span| (span.is_empty(), span.lower(), span.upper()));
-    let parts = net.map(|net| (net.family(), net.prefix(), net.address()));
-    assert_eq!(rt; bounds, Ok((false, Some(5), None)));
-    assert_eq!(rt; (parts, Net::v4(0, 33)), (Some((4, 24, 0x0A00_0001)), None));
+    let span = Span8::from_bounds(Some((5, true)), None).expect(&rt, "bounds");
+    let net = Net::v4(0x0A00_0001, 24).expect(&rt, "a prefix");
+    let parts = (net.family(), net.prefix(), net.address());
+    assert_eq!(rt;
+        (span.is_empty(), span.lower(), span.upper()),
+        (false, Some(5), None)
+    );
+    assert_eq!(rt; (parts, Net::v4(0, 33)), ((4, 24, 0x0A00_0001), None));
 }
