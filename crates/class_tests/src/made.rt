@@ -10,24 +10,24 @@ ghost use Rattle.range_tuple.specs.TupleIncludes.{TakesValue};
 ghost use Rattle.range_tuple.specs.Tuples.{empty_placeholder, parts_of};
 
 use block_model::{
-    Class, Column, Columns, Index, Indexes, Kind, Name, Part, Parts, Schema, Table, Tables, Value,
+    Class, Column, Columns, Index, Indexes, Kind, Name, NoMemory, Part, Parts, Schema, Table,
+    Tables, Value,
 };
 use range_tuple::RangeTuple;
 use std::alloc::Global;
 use std::process::Abort;
-use std::test::Fail;
 
-pub(crate) fn name(rt: &impl Abort, bytes: &[u8]) -> Name {
+fn name(rt: &impl Abort, bytes: &[u8]) -> Name {
     Name::new(bytes).expect(rt, "a name")
 }
 
 /// The placeholder of range 0 of an index with these parts on a table with these columns.
-pub(crate) fn placeholder(
+fn placeholder(
     rt: &impl Abort,
     alloc: Global,
     columns: Columns,
     parts: Parts,
-) -> Result<RangeTuple, Fail>
+) -> Result<RangeTuple, NoMemory>
     requires some { 0 < length parts }
     requires classes { list_all (class_is_lawful columns) parts ≡ true }
     requires size { tuple_size columns parts ≤ MAX_TUPLE }
@@ -50,8 +50,7 @@ pub(crate) fn placeholder(
         tables,
         indexes: Indexes::new(alloc),
     };
-    let tuple = RangeTuple::new(alloc, &index, &schema, 0)?;
-    Ok(tuple)
+    RangeTuple::new(alloc, &index, &schema, 0)
 }
 
 /// Of an index on one column.
@@ -60,7 +59,7 @@ pub(crate) fn one(
     alloc: Global,
     kind: Kind,
     class: Class,
-) -> Result<RangeTuple, Fail>
+) -> Result<RangeTuple, NoMemory>
     requires kind { takes_kind class kind ≡ true }
     requires parameters { has_lawful_parameters class ≡ true }
     requires size { summary_size class kind ≤ 8000 }
@@ -76,6 +75,29 @@ pub(crate) fn one(
     placeholder(rt, alloc, columns, parts)
 }
 
+/// Of an index on an int8 by minmax and an inet by inclusion.
+pub(crate) fn two(rt: &impl Abort, alloc: Global) -> Result<RangeTuple, NoMemory> {
+    let mut columns = Columns::new(alloc);
+    columns.push(Column {
+        name: name(rt, b"a"),
+        kind: Kind::Int,
+    })?;
+    columns.push(Column {
+        name: name(rt, b"b"),
+        kind: Kind::Net,
+    })?;
+    let mut parts = Parts::new(alloc);
+    parts.push(Part {
+        column: 0,
+        class: Class::MinMax,
+    })?;
+    parts.push(Part {
+        column: 1,
+        class: Class::Inclusion,
+    })?;
+    placeholder(rt, alloc, columns, parts)
+}
+
 /// Adds a row of one int8.
 pub(crate) fn add_number(tuple: &mut RangeTuple, n: i64) -> bool
     requires { parts_of tuple.old.columns ≡ (0, class_of Class.MinMax Kind.Int) ∷ [] }
@@ -85,7 +107,7 @@ pub(crate) fn add_number(tuple: &mut RangeTuple, n: i64) -> bool
 }
 
 /// An int8, or null.
-pub(crate) fn number(n: Option<i64>) -> Value
+fn number(n: Option<i64>) -> Value
     ensures { TakesValue (class_of Class.MinMax Kind.Int) result }
 {
     match n {

@@ -1,58 +1,9 @@
 //! Range tuples.
 
-ghost use Rattle.std.specs.Prelude.{◌≡◌, [], ◌∷◌, IfOk};
-ghost use Rattle.opclass_any.specs.AnyClass.{class_of};
-ghost use Rattle.range_tuple.specs.TupleIncludes.{TakesValue};
-ghost use Rattle.range_tuple.specs.Tuples.{parts_of};
-
-use crate::made::{add_number, name, number, one, placeholder};
-use block_model::{Class, Column, Columns, Cond, Kind, Net, Op, Part, Parts, Value};
+use crate::made::{add_number, one, two};
+use block_model::{Class, Cond, Kind, Net, Op, Value};
 use range_tuple::{RangeTuple, ScanKeys};
-use std::alloc::Global;
-use std::process::Abort;
 use std::test::Fail;
-
-/// Of an index on an int8 by minmax and an inet by inclusion.
-fn two(rt: &impl Abort, alloc: Global) -> Result<RangeTuple, Fail>
-    ensures parts { IfOk result (λ t. parts_of t.columns ≡ (0, class_of Class.MinMax Kind.Int) ∷ (1, class_of Class.Inclusion Kind.Net) ∷ []) }
-{
-    let mut columns = Columns::new(alloc);
-    columns.push(Column {
-        name: name(rt, b"a"),
-        kind: Kind::Int,
-    })?;
-    columns.push(Column {
-        name: name(rt, b"b"),
-        kind: Kind::Net,
-    })?;
-    let mut parts = Parts::new(alloc);
-    parts.push(Part {
-        column: 0,
-        class: Class::MinMax,
-    })?;
-    parts.push(Part {
-        column: 1,
-        class: Class::Inclusion,
-    })?;
-    placeholder(rt, alloc, columns, parts)
-}
-
-/// An inet, or null.
-fn address(net: Option<Net>) -> Value
-    ensures { TakesValue (class_of Class.Inclusion Kind.Net) result }
-{
-    match net {
-        Some(net) => Value::Net(net),
-        None => Value::Null,
-    }
-}
-
-/// Adds the row of an int8 or null, and of an inet or null.
-fn add_both(tuple: &mut RangeTuple, a: Option<i64>, b: Option<Net>) -> bool
-    requires { parts_of tuple.old.columns ≡ (0, class_of Class.MinMax Kind.Int) ∷ (1, class_of Class.Inclusion Kind.Net) ∷ [] }
-{
-    tuple.add_row(&[number(a), address(b)])
-}
 
 fn cond(column: u8, op: Op, key: Value) -> Cond {
     Cond { column, op, key }
@@ -111,23 +62,30 @@ fn a_final_minmax_tuple_has_24_bytes(rt: HostRuntime) -> Result<(), Fail> {
     Ok(())
 }
 
+/// Of an index on an int8 by minmax and an inet by inclusion: range 1, a placeholder; the states, then the lengths, then the
+/// summaries of 5 alone and of 10.0.0.1 alone.
+const TWO: [u8; 34] = [
+    0, 0, 0, 1, 1, 2, 2, 0, 16, 0, 7, 0, 0, 0, 0, 0, 0, 0, 5, 0, 0, 0, 0, 0, 0, 0, 5, 2, 4, 32, 10,
+    0, 0, 1,
+];
+
 #[test]
-fn a_tuple_of_two_columns_has_states_then_lengths_then_summaries(
-    rt: HostRuntime,
-) -> Result<(), Fail> {
+fn a_tuple_of_two_columns_is_read(rt: HostRuntime) {
+    let mut tuple = two(&rt, rt.alloc()).expect(&rt, "room");
+    let read = tuple.decode(&TWO).is_ok();
+    let told = (tuple.range(), tuple.is_placeholder());
+    tuple.settle();
     let net = Net::v4(10 << 24 | 1, 32).expect(&rt, "an address");
-    let wanted = [
-        0, 0, 0, 1, 1, 2, 2, 0, 16, 0, 7, 0, 0, 0, 0, 0, 0, 0, 5, 0, 0, 0, 0, 0, 0, 0, 5, 2, 4, 32,
-        10, 0, 0, 1,
+    let kept = [
+        keeps_one(&tuple, 0, Op::Eq, Value::Int(5)),
+        keeps_one(&tuple, 0, Op::Eq, Value::Int(6)),
+        keeps_one(&tuple, 1, Op::Eq, Value::Net(net)),
+        keeps_one(&tuple, 1, Op::Eq, Value::Int(5)),
     ];
-    let mut tuple = two(&rt, rt.alloc())?;
-    tuple.restart(1);
-    let changes = add_both(&mut tuple, Some(5), Some(net));
-    let mut out = [7u8; 34];
-    let sizes = written(&tuple, &mut out);
-    let read = tuple.decode(&wanted).is_ok();
-    assert_eq!(rt; (changes, sizes, out, read), (true, (34, 34), wanted, true));
-    Ok(())
+    assert_eq!(rt;
+        (read, told, kept),
+        (true, (1, true), [true, false, true, false])
+    );
 }
 
 #[test]
@@ -166,81 +124,61 @@ fn united_tuples_have_what_either_had(rt: HostRuntime) -> Result<(), Fail> {
     Ok(())
 }
 
-#[test]
-fn two_column_index_with_nulls(rt: HostRuntime) -> Result<(), Fail> {
-    let net = Net::v4(10 << 24 | 1, 32).expect(&rt, "an address");
-    let mut first = two(&rt, rt.alloc())?;
-    let mut second = two(&rt, rt.alloc())?;
-    let changes = add_both(&mut first, Some(1), None);
-    assert!(rt; changes && add_both(&mut second, None, Some(net)));
-    first.settle();
-    second.settle();
-    let a_is_1 = cond(0, Op::Eq, Value::Int(1));
-    let a_is_null = cond(0, Op::IsNull, Value::Null);
-    let b_is_null = cond(1, Op::IsNull, Value::Null);
-    let b_is_net = cond(1, Op::Eq, Value::Net(net));
-    let found = [
-        (first.keeps(&[a_is_1]), second.keeps(&[a_is_1])),
-        (first.keeps(&[b_is_null]), second.keeps(&[b_is_null])),
-        (
-            first.keeps(&[a_is_null, b_is_net]),
-            second.keeps(&[a_is_null, b_is_net]),
-        ),
-        (
-            first.keeps(&[a_is_1, b_is_net]),
-            second.keeps(&[a_is_1, b_is_net]),
-        ),
-    ];
-    let wanted = [(true, false), (true, false), (false, true), (false, false)];
-    assert_eq!(rt; found, wanted);
-    assert!(rt; second.keeps(&[a_is_null, cond(7, Op::Eq, Value::Int(1))]));
-    Ok(())
-}
+/// Bytes, and the place of the fault that a tuple of one int8 by minmax finds in them, if there is one.
+const FIELDS: [(&[u8], Option<usize>); 9] = [
+    (&[0, 0, 0, 0], Some(4)),
+    (&[0, 0, 0, 0, 0, 1, 0, 1, 0], Some(6)),
+    (&[0, 0, 0, 0, 0, 1, 0, 0, 9], Some(8)),
+    (&[0, 0, 0, 0, 3, 0, 0, 0], None),
+    (&[0, 0, 0, 0, 4, 0, 0, 0], Some(4)),
+    (&[0, 0, 0, 0, 0, 0, 0, 0], Some(5)),
+    (&[0, 0, 0, 0, 2, 2, 0, 16], Some(5)),
+    (&[0, 0, 0, 0, 0, 4, 0, 0], Some(5)),
+    (&[0, 0, 0, 0, 0, 2, 0, 0], Some(6)),
+];
 
-/// The place of the fault that a tuple of one column finds in bytes.
-fn fault(tuple: &mut RangeTuple, bytes: &[u8]) -> Option<usize> {
-    match tuple.decode(bytes) {
-        Ok(()) => None,
-        Err(fault) => Some(fault.at),
+/// The same of an int8 by multi, whose own fault stands behind the fields.
+const OF_CLASS: [(&[u8], Option<usize>); 2] = [
+    (&[0, 0, 0, 0, 0, 2, 0, 2, 0, 0], None),
+    (&[0, 0, 0, 0, 0, 2, 0, 3, 0, 0, 0], Some(10)),
+];
+
+/// The first of the bytes in which the tuple finds another fault.
+fn first_wrong(
+    tuple: &mut RangeTuple,
+    cases: &[(&'static [u8], Option<usize>)],
+) -> Option<&'static [u8]> {
+    for (bytes, wanted) in cases {
+        let found = match tuple.decode(bytes) {
+            Ok(()) => None,
+            Err(fault) => Some(fault.at),
+        };
+        if found != *wanted {
+            return Some(bytes);
+        }
     }
+    None
 }
 
 #[test]
 fn malformed_fields_are_named(rt: HostRuntime) -> Result<(), Fail> {
-    let mut tuple = one(&rt, rt.alloc(), Kind::Int, Class::MinMax)?;
-    let cases: [(&[u8], Option<usize>); 9] = [
-        (&[0, 0, 0, 0], Some(4)),
-        (&[0, 0, 0, 0, 0, 1, 0, 1, 0], Some(6)),
-        (&[0, 0, 0, 0, 0, 1, 0, 0, 9], Some(8)),
-        (&[0, 0, 0, 0, 3, 0, 0, 0], None),
-        (&[0, 0, 0, 0, 4, 0, 0, 0], Some(4)),
-        (&[0, 0, 0, 0, 0, 0, 0, 0], Some(5)),
-        (&[0, 0, 0, 0, 2, 2, 0, 16], Some(5)),
-        (&[0, 0, 0, 0, 0, 4, 0, 0], Some(5)),
-        (&[0, 0, 0, 0, 0, 2, 0, 0], Some(6)),
+    let mut of_minmax = one(&rt, rt.alloc(), Kind::Int, Class::MinMax)?;
+    let mut of_multi = one(&rt, rt.alloc(), Kind::Int, Class::Multi { limit: 8 })?;
+    let wrong = [
+        first_wrong(&mut of_minmax, FIELDS.as_slice()),
+        first_wrong(&mut of_multi, OF_CLASS.as_slice()),
     ];
-    for (bytes, wanted) in cases {
-        assert_eq!(rt; fault(&mut tuple, bytes), wanted);
-    }
+    assert_eq!(rt; wrong, [None; 2]);
     Ok(())
 }
 
-#[test]
-fn a_fault_of_a_class_is_told_at_its_place(rt: HostRuntime) -> Result<(), Fail> {
-    let mut tuple = one(&rt, rt.alloc(), Kind::Int, Class::Multi { limit: 8 })?;
-    let empty = fault(&mut tuple, &[0, 0, 0, 0, 0, 2, 0, 2, 0, 0]);
-    let longer = fault(&mut tuple, &[0, 0, 0, 0, 0, 2, 0, 3, 0, 0, 0]);
-    assert_eq!(rt; (empty, longer), (None, Some(10)));
-    Ok(())
-}
-
-/// Whether the tuple keeps conditions on a column that stand apart, as keys of a scan and by themselves.
-fn keeps_apart(rt: &impl Abort, tuple: &RangeTuple, below: i64) -> (bool, bool) {
-    let net = Net::v4(10 << 24 | 1, 32).expect(rt, "an address");
+/// Whether the tuple keeps conditions on a column that stand apart, as keys of a scan and by themselves. No index has the
+/// other column.
+fn keeps_apart(tuple: &RangeTuple, below: i64) -> (bool, bool) {
     let conds = [
         cond(0, Op::NotNull, Value::Null),
         cond(0, Op::Ge, Value::Int(2)),
-        cond(1, Op::Eq, Value::Net(net)),
+        cond(7, Op::Eq, Value::Int(1)),
         cond(0, Op::Lt, Value::Int(below)),
     ];
     let keys = ScanKeys::new(&conds);
@@ -249,11 +187,10 @@ fn keeps_apart(rt: &impl Abort, tuple: &RangeTuple, below: i64) -> (bool, bool) 
 
 #[test]
 fn conditions_that_stand_apart_are_judged_together(rt: HostRuntime) -> Result<(), Fail> {
-    let net = Net::v4(10 << 24 | 1, 32).expect(&rt, "an address");
-    let mut tuple = two(&rt, rt.alloc())?;
-    assert!(rt; add_both(&mut tuple, Some(5), Some(net)));
+    let mut tuple = one(&rt, rt.alloc(), Kind::Int, Class::MinMax)?;
+    let changed = add_number(&mut tuple, 5);
     tuple.settle();
-    let judged = [keeps_apart(&rt, &tuple, 6), keeps_apart(&rt, &tuple, 5)];
-    assert_eq!(rt; judged, [(true, true), (false, false)]);
+    let judged = [keeps_apart(&tuple, 6), keeps_apart(&tuple, 5)];
+    assert_eq!(rt; (changed, judged), (true, [(true, true), (false, false)]));
     Ok(())
 }

@@ -1,168 +1,203 @@
-//! Texts that are read and written, and refusals with their places.
+//! Values and operators.
 
-use block_model::{Kind, Net, Span8, Value};
-use std::alloc::Global;
-use std::test::Fail;
-use value_text::{TextFault, append, read_value, write_value, write_values};
+use block_model::{Kind, Net, Op, Span8, Value, matches};
+use value_text::read_value;
 
-/// Whether the text reads as a value that is printed as the other text, and that one is read as the same value.
-fn prints_as(alloc: Global, kind: Kind, text: &[u8], canonical: &[u8]) -> bool {
-    let Ok(value) = read_value(kind, text) else {
-        return false;
-    };
-    let mut out = Vec::new(alloc);
-    write_value(&value, &mut out).is_ok()
-        && out.as_slice() == canonical
-        && read_value(kind, &out) == Ok(value)
+const OPS: [Op; 17] = [
+    Op::Lt,
+    Op::Le,
+    Op::Eq,
+    Op::Ge,
+    Op::Gt,
+    Op::Overlaps,
+    Op::Contains,
+    Op::Within,
+    Op::Before,
+    Op::After,
+    Op::WithinEq,
+    Op::ContainsEq,
+    Op::NotAfter,
+    Op::NotBefore,
+    Op::Adjacent,
+    Op::IsNull,
+    Op::NotNull,
+];
+
+/// A value, a key, and of all operators those that the value meets with the key.
+const MET: [(&str, &str, &[Op]); 34] = [
+    // Numbers, by their order.
+    ("4", "5", &[Op::Lt, Op::Le, Op::NotNull]),
+    ("5", "5", &[Op::Le, Op::Eq, Op::Ge, Op::NotNull]),
+    ("6", "5", &[Op::Ge, Op::Gt, Op::NotNull]),
+    // Nulls, and values of other kinds than the key.
+    ("null", "null", &[Op::IsNull]),
+    ("null", "1", &[Op::IsNull]),
+    ("null", "empty", &[Op::IsNull]),
+    ("null", "0.0.0.1", &[Op::IsNull]),
+    ("1", "null", &[Op::NotNull]),
+    ("empty", "null", &[Op::NotNull]),
+    ("0.0.0.1", "null", &[Op::NotNull]),
+    ("1", "empty", &[Op::NotNull]),
+    ("empty", "0.0.0.1", &[Op::NotNull]),
+    ("0.0.0.1", "1", &[Op::NotNull]),
+    // Ranges, by their bounds.
+    ("[0,3)", "[2,7)", &[Op::Overlaps, Op::NotAfter, Op::NotNull]),
+    (
+        "[2,7)",
+        "[0,3)",
+        &[Op::Overlaps, Op::NotBefore, Op::NotNull],
+    ),
+    ("[0,9)", "[2,7)", &[Op::Overlaps, Op::Contains, Op::NotNull]),
+    (
+        "[2,7)",
+        "[0,9)",
+        &[
+            Op::Overlaps,
+            Op::Within,
+            Op::NotAfter,
+            Op::NotBefore,
+            Op::NotNull,
+        ],
+    ),
+    ("[0,3)", "[5,9)", &[Op::Before, Op::NotAfter, Op::NotNull]),
+    ("[5,9)", "[0,3)", &[Op::After, Op::NotBefore, Op::NotNull]),
+    (
+        "empty",
+        "empty",
+        &[Op::Eq, Op::Contains, Op::Within, Op::NotNull],
+    ),
+    ("empty", "[0,3)", &[Op::Within, Op::NotNull]),
+    ("[0,3)", "empty", &[Op::Contains, Op::NotNull]),
+    (
+        "(,)",
+        "(,)",
+        &[
+            Op::Eq,
+            Op::Overlaps,
+            Op::Contains,
+            Op::Within,
+            Op::NotAfter,
+            Op::NotBefore,
+            Op::NotNull,
+        ],
+    ),
+    (
+        "(,5)",
+        "[5,)",
+        &[Op::Before, Op::NotAfter, Op::Adjacent, Op::NotNull],
+    ),
+    (
+        "[5,)",
+        "(,5)",
+        &[Op::After, Op::NotBefore, Op::Adjacent, Op::NotNull],
+    ),
+    (
+        "[5,)",
+        "(,)",
+        &[
+            Op::Overlaps,
+            Op::Within,
+            Op::NotAfter,
+            Op::NotBefore,
+            Op::NotNull,
+        ],
+    ),
+    // Addresses, by their prefixes.
+    (
+        "10.0.0.1/24",
+        "10.0.0.1/24",
+        &[
+            Op::Eq,
+            Op::Overlaps,
+            Op::WithinEq,
+            Op::ContainsEq,
+            Op::NotNull,
+        ],
+    ),
+    (
+        "10.0.0.1/24",
+        "10.0.0.0/24",
+        &[Op::Overlaps, Op::WithinEq, Op::ContainsEq, Op::NotNull],
+    ),
+    ("10.0.1.0/24", "10.0.0.0/24", &[Op::NotNull]),
+    (
+        "10.0.1.0/24",
+        "10.0.0.0/23",
+        &[Op::Overlaps, Op::Before, Op::WithinEq, Op::NotNull],
+    ),
+    (
+        "10.0.0.0/23",
+        "10.0.1.0/24",
+        &[Op::Overlaps, Op::After, Op::ContainsEq, Op::NotNull],
+    ),
+    (
+        "10.0.0.1/24",
+        "0.0.0.0/0",
+        &[Op::Overlaps, Op::Before, Op::WithinEq, Op::NotNull],
+    ),
+    (
+        "0.0.0.0/0",
+        "10.0.0.1/24",
+        &[Op::Overlaps, Op::After, Op::ContainsEq, Op::NotNull],
+    ),
+    (
+        "10.0.0.1",
+        "10.0.0.1/32",
+        &[
+            Op::Eq,
+            Op::Overlaps,
+            Op::WithinEq,
+            Op::ContainsEq,
+            Op::NotNull,
+        ],
+    ),
+];
+
+/// The value of a text of any kind.
+fn value_of(text: &str) -> Option<Value> {
+    for kind in [Kind::Int, Kind::Span, Kind::Net] {
+        if let Ok(value) = read_value(kind, text.as_bytes()) {
+            return Some(value);
+        }
+    }
+    None
 }
 
-fn form(at: usize) -> Result<Value, TextFault> {
-    Err(TextFault::Form { at })
+/// Whether of all operators the value meets these alone.
+fn meets_alone(value: &Value, key: &Value, met: &[Op]) -> bool {
+    for op in &OPS {
+        if matches(value, *op, key) != met.contains(op) {
+            return false;
+        }
+    }
+    true
 }
 
-fn range(at: usize) -> Result<Value, TextFault> {
-    Err(TextFault::Range { at })
+fn first_wrong() -> Option<(&'static str, &'static str)> {
+    for (value, key, met) in &MET {
+        let (Some(v), Some(k)) = (value_of(value), value_of(key)) else {
+            return Some((value, key));
+        };
+        if !meets_alone(&v, &k, met) {
+            return Some((value, key));
+        }
+    }
+    None
 }
 
 #[test]
-fn whole_numbers_print_without_leading_zeros(rt: HostRuntime) {
-    let cases: [(&[u8], &[u8]); 8] = [
-        (b"0", b"0"),
-        (b"-0", b"0"),
-        (b"-7", b"-7"),
-        (b"00042", b"42"),
-        (b"-00042", b"-42"),
-        (b"9223372036854775807", b"9223372036854775807"),
-        (b"-9223372036854775808", b"-9223372036854775808"),
-        (b"null", b"null"),
-    ];
-    for (text, canonical) in cases {
-        assert!(rt; prints_as(rt.alloc(), Kind::Int, text, canonical));
-    }
-    assert_eq!(rt; read_value(Kind::Int, b"-12"), Ok(Value::Int(-12)));
+fn values_meet_their_operators_alone(rt: HostRuntime) {
+    assert_eq!(rt; first_wrong(), None);
 }
 
 #[test]
-fn faults_of_whole_numbers_name_their_place(rt: HostRuntime) {
-    let cases: [(&[u8], Result<Value, TextFault>); 10] = [
-        (b"", form(0)),
-        (b"-", form(1)),
-        (b"+5", form(0)),
-        (b"5x", form(1)),
-        (b"99999999999999999999x", form(20)),
-        (b"nul", form(3)),
-        (b"nullx", form(4)),
-        (b"9223372036854775808", range(0)),
-        (b"-9223372036854775809", range(0)),
-        (b"empty", form(0)),
-    ];
-    for (text, fault) in cases {
-        assert_eq!(rt; read_value(Kind::Int, text), fault);
-    }
-}
-
-#[test]
-fn ranges_print_in_their_canonical_form(rt: HostRuntime) {
-    let cases: [(&[u8], &[u8]); 12] = [
-        (b"[1,3]", b"[1,4)"),
-        (b"(1,3)", b"[2,3)"),
-        (b"[-0,007)", b"[0,7)"),
-        (b"(5,6)", b"empty"),
-        (b"[5,5]", b"[5,6)"),
-        (b"(,5]", b"(,6)"),
-        (b"(6,]", b"[7,)"),
-        (b"[,]", b"(,)"),
-        (
-            b"[-9223372036854775808,9223372036854775807)",
-            b"[-9223372036854775808,9223372036854775807)",
-        ),
-        (b"(9223372036854775807,9223372036854775807]", b"empty"),
-        (b"empty", b"empty"),
-        (b"null", b"null"),
-    ];
-    for (text, canonical) in cases {
-        assert!(rt; prints_as(rt.alloc(), Kind::Span, text, canonical));
-    }
+fn values_tell_their_parts(rt: HostRuntime) {
+    let span = Span8::from_bounds(Some((5, true)), None).expect(&rt, "bounds");
+    let net = Net::v4(0x0A00_0001, 24).expect(&rt, "a prefix");
+    let parts = (net.family(), net.prefix(), net.address());
     assert_eq!(rt;
-        read_value(Kind::Span, b"(9,9)"),
-        Ok(Value::Span(Span8::empty()))
+        (span.is_empty(), span.lower(), span.upper()),
+        (false, Some(5), None)
     );
-}
-
-#[test]
-fn faults_of_ranges_name_their_place(rt: HostRuntime) {
-    let cases: [(&[u8], Result<Value, TextFault>); 16] = [
-        (b"", form(0)),
-        (b"5", form(0)),
-        (b"empt", form(4)),
-        (b"[", form(1)),
-        (b"[1,3", form(4)),
-        (b"[1,3]]", form(5)),
-        (b"[1,,3]", form(3)),
-        (b"[1, 3]", form(3)),
-        (b"[9223372036854775808,x", form(21)),
-        (b"[2,1]", range(0)),
-        (b"(9223372036854775807,)", range(1)),
-        (b"[1,9223372036854775807]", range(3)),
-        (b"[9223372036854775807,9223372036854775807]", range(21)),
-        (b"[9223372036854775808,5]", range(1)),
-        (b"[5,-9223372036854775809]", range(3)),
-        (b"(-9223372036854775809,9223372036854775808)", range(1)),
-    ];
-    for (text, fault) in cases {
-        assert_eq!(rt; read_value(Kind::Span, text), fault);
-    }
-}
-
-#[test]
-fn addresses_print_without_a_whole_prefix(rt: HostRuntime) {
-    let cases: [(&[u8], &[u8]); 7] = [
-        (b"10.0.0.1", b"10.0.0.1"),
-        (b"10.0.0.1/32", b"10.0.0.1"),
-        (b"10.0.0.1/8", b"10.0.0.1/8"),
-        (b"0.0.0.0/0", b"0.0.0.0/0"),
-        (b"255.255.255.255/31", b"255.255.255.255/31"),
-        (b"192.168.2.30/24", b"192.168.2.30/24"),
-        (b"null", b"null"),
-    ];
-    for (text, canonical) in cases {
-        assert!(rt; prints_as(rt.alloc(), Kind::Net, text, canonical));
-    }
-    let network = Net::v4((10 << 24) + (2 << 16) + (3 << 8) + 4, 16);
-    assert_eq!(rt;
-        read_value(Kind::Net, b"10.2.3.4/16").ok(),
-        network.map(Value::Net)
-    );
-}
-
-#[test]
-fn faults_of_addresses_name_their_place(rt: HostRuntime) {
-    let cases: [(&[u8], Result<Value, TextFault>); 14] = [
-        (b"", form(0)),
-        (b"::1", form(0)),
-        (b"10.0.0", form(6)),
-        (b"10.0.0.", form(7)),
-        (b"10.0.0.1.", form(8)),
-        (b"10.0.0.1/", form(9)),
-        (b"10.0.0.1/33", form(10)),
-        (b"10.0.0.1/08", form(10)),
-        (b"10.0.0.1/-1", form(9)),
-        (b"010.0.0.1", form(1)),
-        (b"256.0.0.1", form(2)),
-        (b"260.0.0.1", form(2)),
-        (b"1.2.3.4444", form(8)),
-        (b"-1.2.3.4", form(0)),
-    ];
-    for (text, fault) in cases {
-        assert_eq!(rt; read_value(Kind::Net, text), fault);
-    }
-}
-
-#[test]
-fn texts_are_put_behind_what_stands(rt: HostRuntime) -> Result<(), Fail> {
-    let mut out = Vec::new(rt.alloc());
-    append(&mut out, b"are")?;
-    write_values(&[Value::Int(-5), Value::Null], &mut out)?;
-    assert_eq!(rt; out.as_slice(), b"are -5 null".as_slice());
-    Ok(())
+    assert_eq!(rt; (parts, Net::v4(0, 33)), ((4, 24, 0x0A00_0001), None));
 }
