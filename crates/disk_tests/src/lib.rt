@@ -9,8 +9,6 @@ mod control_pages;
 #[cfg(test)]
 mod disks;
 #[cfg(test)]
-mod formats;
-#[cfg(test)]
 mod logs;
 #[cfg(test)]
 mod pages;

@@ -2,7 +2,7 @@
 
 ghost use Rattle.std.specs.Prelude.{◌≡◌, ◌∷◌, [], length, map, IfSome};
 ghost use Rattle.block_model.specs.declared.value.Kind.TheVariants as kinds;
-ghost use Rattle.page_layout.specs.PageContents.{HasSlot, IsForm};
+ghost use Rattle.page_layout.specs.PageContents.{HasSlot, IsForm, IsPageOf};
 
 use crate::rows::{ROW, column, heap};
 use block_model::{Columns, Kind, Kinds, Name, RowId, Table, Value, Values};
@@ -206,22 +206,37 @@ struct Slots {
     has_row: [bool; 2],
 }
 
-/// What the page of these bytes tells, where it has no fault.
-fn slots_of(bytes: &[u8; 8192]) -> Option<Slots> {
-    let page = Page::from_bytes(bytes);
-    let form = wide_heap();
-    match check(&page, form) {
+/// Whether the slot has the wide row.
+fn has_row(page: &Page, form: &Form, slot: u16) -> bool
+    requires form { IsForm form.now }
+    requires page { IsPageOf form.now page.now }
+    requires slot { HasSlot form.now slot }
+{
+    match row_at(page, *form, slot) {
+        Some(row) => row == WIDE_ROW.as_slice(),
+        None => false,
+    }
+}
+
+/// What the page tells, where it has no fault.
+fn told(page: &Page, form: &Form) -> Option<Slots>
+    requires form { IsForm form.now }
+    requires slots { HasSlot form.now 0 × HasSlot form.now 1 }
+{
+    match check(page, *form) {
         Ok(()) => Some(Slots {
-            free: free_slots(&page, form),
-            first: first_free(&page, form),
-            behind_first: first_free_from(&page, form, 1),
-            has_row: [
-                row_at(&page, form, 0) == Some(&WIDE_ROW[..]),
-                row_at(&page, form, 1) == Some(&WIDE_ROW[..]),
-            ],
+            free: free_slots(page, *form),
+            first: first_free(page, *form),
+            behind_first: first_free_from(page, *form, 1),
+            has_row: [has_row(page, form, 0), has_row(page, form, 1)],
         }),
         Err(_) => None,
     }
+}
+
+/// The same of the page of these bytes.
+fn slots_of(bytes: &[u8; 8192]) -> Option<Slots> {
+    told(&Page::from_bytes(bytes), &wide_heap())
 }
 
 const EMPTY: Slots = Slots {
