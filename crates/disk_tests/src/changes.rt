@@ -17,7 +17,7 @@ const CHANGES: [(Change<'static>, &[u8]); 12] = [
             place: PLACE,
             kind: 2,
         },
-        &[2, 5, 1, 2, 3, 4, 2],
+        b"\x02\x05\x01\x02\x03\x04\x02",
     ),
     (
         Change::RowPut {
@@ -25,7 +25,7 @@ const CHANGES: [(Change<'static>, &[u8]); 12] = [
             slot: 0x0a0b,
             bytes: b"abc",
         },
-        &[3, 5, 1, 2, 3, 4, 10, 11, 0, 3, 97, 98, 99],
+        b"\x03\x05\x01\x02\x03\x04\x0a\x0b\0\x03\x61\x62\x63",
     ),
     (
         Change::RowMark {
@@ -33,14 +33,14 @@ const CHANGES: [(Change<'static>, &[u8]); 12] = [
             slot: 7,
             deleter: 0x0102_0304_0506_0708,
         },
-        &[4, 5, 1, 2, 3, 4, 0, 7, 1, 2, 3, 4, 5, 6, 7, 8],
+        b"\x04\x05\x01\x02\x03\x04\0\x07\x01\x02\x03\x04\x05\x06\x07\x08",
     ),
     (
         Change::RowsDrop {
             place: PLACE,
             slots: &[0, 1, 1, 0],
         },
-        &[5, 5, 1, 2, 3, 4, 0, 2, 0, 1, 1, 0],
+        b"\x05\x05\x01\x02\x03\x04\0\x02\0\x01\x01\0",
     ),
     (
         Change::TuplePut {
@@ -48,7 +48,7 @@ const CHANGES: [(Change<'static>, &[u8]); 12] = [
             slot: 1,
             bytes: b"",
         },
-        &[6, 5, 1, 2, 3, 4, 0, 1, 0, 0],
+        b"\x06\x05\x01\x02\x03\x04\0\x01\0\0",
     ),
     (
         Change::TupleReplace {
@@ -56,31 +56,37 @@ const CHANGES: [(Change<'static>, &[u8]); 12] = [
             slot: 258,
             bytes: b"x",
         },
-        &[7, 5, 1, 2, 3, 4, 1, 2, 0, 1, 120],
+        b"\x07\x05\x01\x02\x03\x04\x01\x02\0\x01\x78",
     ),
     (
         Change::TupleDrop {
             place: PLACE,
             slots: &[],
         },
-        &[8, 5, 1, 2, 3, 4, 0, 0],
+        b"\x08\x05\x01\x02\x03\x04\0\0",
     ),
-    (Change::Evacuate { place: PLACE }, &[9, 5, 1, 2, 3, 4]),
-    (Change::MapPage { place: PLACE }, &[10, 5, 1, 2, 3, 4]),
+    (
+        Change::Evacuate { place: PLACE },
+        b"\x09\x05\x01\x02\x03\x04",
+    ),
+    (
+        Change::MapPage { place: PLACE },
+        b"\x0a\x05\x01\x02\x03\x04",
+    ),
     (
         Change::MapSet {
             place: PLACE,
             entry: 3,
             spot: Spot { block: 17, slot: 2 },
         },
-        &[11, 5, 1, 2, 3, 4, 0, 3, 0, 0, 0, 17, 0, 2],
+        b"\x0b\x05\x01\x02\x03\x04\0\x03\0\0\0\x11\0\x02",
     ),
     (
         Change::MetaSet {
             place: PLACE,
             maps: 6,
         },
-        &[12, 5, 1, 2, 3, 4, 0, 0, 0, 6],
+        b"\x0c\x05\x01\x02\x03\x04\0\0\0\x06",
     ),
     (
         Change::StatusSet {
@@ -88,7 +94,7 @@ const CHANGES: [(Change<'static>, &[u8]); 12] = [
             entry: 0x0c0d,
             status: 3,
         },
-        &[13, 5, 1, 2, 3, 4, 12, 13, 3],
+        b"\x0d\x05\x01\x02\x03\x04\x0c\x0d\x03",
     ),
 ];
 
@@ -117,41 +123,51 @@ fn first_other(changes: &[(Change<'_>, &[u8])], out: &mut [u8]) -> Option<usize>
     None
 }
 
-#[test]
-fn changes_stand_as_their_bytes(rt: HostRuntime) {
+/// Whether the change of a whole page stands as its bytes, and the place where it is malformed without its last byte.
+fn whole_page() -> (bool, Option<usize>) {
     let page = [7; 8192];
     let mut bytes = [7; 8198];
-    bytes[..6].copy_from_slice(&[1, 5, 1, 2, 3, 4]);
-    let whole = Change::FullPage {
+    bytes[..6].copy_from_slice(b"\x01\x05\x01\x02\x03\x04");
+    let change = Change::FullPage {
         place: PLACE,
         bytes: &page,
     };
-    let out = &mut [9; 8200];
-    let found = (first_other(&CHANGES, out), stands_as(&whole, &bytes, out));
-    assert_eq!(rt; found, (None, true));
-    assert_eq!(rt; decode(&bytes[..8197]), Err(Malformed { at: 8197 }));
+    let stands = stands_as(&change, &bytes, &mut [9; 8198]);
+    match decode(&bytes[..8197]) {
+        Ok(_) => (stands, None),
+        Err(Malformed { at }) => (stands, Some(at)),
+    }
+}
+
+#[test]
+fn changes_stand_as_their_bytes(rt: HostRuntime) {
+    let found = first_other(&CHANGES, &mut [9; 24]);
+    assert_eq!(rt; (found, whole_page()), (None, (true, Some(8197))));
 }
 
 /// Bytes that no change goes on past, and the place where none does: missing bytes, and strange tags.
 const MALFORMED: [(&[u8], usize); 18] = [
-    (&[], 0),
-    (&[1, 5, 1, 2, 3, 4, 7], 7),
-    (&[2, 5, 1, 2, 3, 4], 6),
-    (&[3, 5, 1, 2, 3, 4, 0, 7, 0, 2, 97], 11),
-    (&[4, 5, 1, 2, 3, 4, 0, 7, 1, 2, 3, 4, 5, 6, 7], 15),
-    (&[5, 5, 1, 2, 3, 4, 0, 2, 0, 1, 1], 11),
-    (&[6, 5, 1, 2, 3, 4, 0, 1, 0], 9),
-    (&[7, 5, 1, 2, 3, 4, 0], 7),
-    (&[8, 5, 1, 2, 3, 4, 0, 1], 8),
-    (&[9, 5, 1, 2, 3], 5),
-    (&[10], 1),
-    (&[11, 5, 1, 2, 3, 4, 0, 3, 0, 0, 0, 17, 0], 13),
-    (&[12, 5, 1, 2, 3, 4, 0, 0, 0], 9),
-    (&[13, 5, 1, 2, 3, 4, 12, 13], 8),
-    (&[13, 5], 2),
-    (&[0, 5, 1, 2, 3, 4, 0, 0, 0, 0], 0),
-    (&[14, 5, 1, 2, 3, 4, 0, 0, 0, 0], 0),
-    (&[255, 5, 1, 2, 3, 4, 0, 0, 0, 0], 0),
+    (b"", 0),
+    (b"\x01\x05\x01\x02\x03\x04\x07", 7),
+    (b"\x02\x05\x01\x02\x03\x04", 6),
+    (b"\x03\x05\x01\x02\x03\x04\0\x07\0\x02\x61", 11),
+    (
+        b"\x04\x05\x01\x02\x03\x04\0\x07\x01\x02\x03\x04\x05\x06\x07",
+        15,
+    ),
+    (b"\x05\x05\x01\x02\x03\x04\0\x02\0\x01\x01", 11),
+    (b"\x06\x05\x01\x02\x03\x04\0\x01\0", 9),
+    (b"\x07\x05\x01\x02\x03\x04\0", 7),
+    (b"\x08\x05\x01\x02\x03\x04\0\x01", 8),
+    (b"\x09\x05\x01\x02\x03", 5),
+    (b"\x0a", 1),
+    (b"\x0b\x05\x01\x02\x03\x04\0\x03\0\0\0\x11\0", 13),
+    (b"\x0c\x05\x01\x02\x03\x04\0\0\0", 9),
+    (b"\x0d\x05\x01\x02\x03\x04\x0c\x0d", 8),
+    (b"\x0d\x05", 2),
+    (b"\0\x05\x01\x02\x03\x04\0\0\0\0", 0),
+    (b"\x0e\x05\x01\x02\x03\x04\0\0\0\0", 0),
+    (b"\xff\x05\x01\x02\x03\x04\0\0\0\0", 0),
 ];
 
 #[test]

@@ -9,6 +9,8 @@ mod control_pages;
 #[cfg(test)]
 mod disks;
 #[cfg(test)]
+mod formats;
+#[cfg(test)]
 mod logs;
 #[cfg(test)]
 mod pages;

@@ -73,16 +73,10 @@ fn switch<D: Disk>(log: &mut LogArea, disk: &mut D) -> Result<(), DiskFault>
     log.switch(disk)
 }
 
-/// Whether the disk's frames are these, as text: the changes of each, their count, a space. `None` where its log isn't started.
-fn has_frames<D: Disk>(
-    alloc: Global,
-    disk: &mut D,
-    layout: &Layout,
-    wanted: &[u8],
-) -> Option<bool> {
+/// The disk's frames as text: the changes of each, their count, a space. `None` where its log isn't started.
+fn frames_on<D: Disk>(alloc: Global, disk: &mut D, layout: &Layout) -> Option<Vec<u8>> {
     let (_, frames) = start(alloc, disk, layout)?;
-    let text = text_of(alloc, &frames)?;
-    Some(text.as_slice() == wanted)
+    text_of(alloc, &frames)
 }
 
 fn text_of(alloc: Global, frames: &Frames) -> Option<Vec<u8>> {
@@ -114,30 +108,25 @@ fn stopped_at(alloc: Global, layout: &Layout, call: u64) -> Option<MemoryDisk> {
     Some(disk)
 }
 
-/// Whether that image of the disk opens to these frames.
+/// Whether that image of the disk opens to the frames before the call, and whether to those after it.
 fn opens_to(
     alloc: Global,
     disk: &MemoryDisk,
     pick: u64,
     layout: &Layout,
-    wanted: &[u8],
-) -> Option<bool> {
+    call: (&[u8], &[u8]),
+) -> Option<(bool, bool)> {
     let mut image = MemoryDisk::from_image(disk.image(pick).ok()?);
-    has_frames(alloc, &mut image, layout, wanted)
+    let text = frames_on(alloc, &mut image, layout)?;
+    let (before, after) = call;
+    Some((text.as_slice() == before, text.as_slice() == after))
 }
 
 /// Whether the disk's oldest image opens to the frames before the call, its newest one to those after it, and each mixed one to
 /// either.
-fn shows(
-    alloc: Global,
-    disk: &MemoryDisk,
-    layout: &Layout,
-    before: &[u8],
-    after: &[u8],
-) -> Option<bool> {
+fn shows(alloc: Global, disk: &MemoryDisk, layout: &Layout, call: (&[u8], &[u8])) -> Option<bool> {
     for pick in 0..8 {
-        let is_before = opens_to(alloc, disk, pick, layout, before)?;
-        let is_after = opens_to(alloc, disk, pick, layout, after)?;
+        let (is_before, is_after) = opens_to(alloc, disk, pick, layout, call)?;
         let fits = match pick {
             0 => is_before,
             1 => is_after,
@@ -153,9 +142,9 @@ fn shows(
 /// How many calls at the front of the list, each of which fails, leave what the list says.
 fn calls_shown(alloc: Global) -> Option<usize> {
     let layout = small_layout(alloc)?;
-    for (at, (before, after)) in CALLS.iter().enumerate() {
+    for (at, call) in CALLS.iter().enumerate() {
         let disk = stopped_at(alloc, &layout, at as u64 + 1)?;
-        if !shows(alloc, &disk, &layout, before, after)? {
+        if !shows(alloc, &disk, &layout, *call)? {
             return Some(at);
         }
     }
@@ -167,40 +156,34 @@ fn each_image_opens_to_the_frames_before_or_after(rt: HostRuntime) {
     assert_eq!(rt; calls_shown(rt.alloc()), Some(18));
 }
 
-/// What an append answers, and then an empty append, a switch and a sync.
-type Calls = (
-    Result<(), AppendFault>,
-    Result<(), AppendFault>,
-    Result<(), DiskFault>,
-    Result<(), DiskFault>,
-);
-
-fn calls_of<D: Disk>(alloc: Global, disk: &mut D, layout: &Layout) -> Option<Calls> {
+/// Whether an append goes well, and then an empty append, a switch and a sync are refused.
+fn calls_of<D: Disk>(alloc: Global, disk: &mut D, layout: &Layout) -> Option<[bool; 4]> {
     let (mut log, _) = start(alloc, disk, layout)?;
-    Some((
-        append(&mut log, disk, b"ab", 1),
-        append(&mut log, disk, b"", 0),
-        switch(&mut log, disk),
-        disk.sync(),
-    ))
+    Some([
+        append(&mut log, disk, b"ab", 1).is_ok(),
+        append(&mut log, disk, b"", 0) == Err(AppendFault::Disk),
+        switch(&mut log, disk) == Err(DiskFault),
+        disk.sync() == Err(DiskFault),
+    ])
 }
 
 /// The same on a disk whose record has room for two writes of 9 bytes and of 1, and for two syncs; and whether the first frame
 /// stands then.
-fn calls_in_little_room(alloc: Global) -> Option<(Calls, bool)> {
-    let layout = small_layout(alloc)?;
+fn calls_in_little_room(alloc: Global, layout: &Layout) -> Option<([bool; 4], bool)> {
     let mut disk = MemoryDisk::new(alloc, layout.disk_size()).ok()?;
     disk.room(4, 10).ok()?;
-    let calls = calls_of(alloc, &mut disk, &layout)?;
-    let stands = has_frames(alloc, &mut disk, &layout, b"ab1 ")?;
-    Some((calls, stands))
+    let calls = calls_of(alloc, &mut disk, layout)?;
+    let text = frames_on(alloc, &mut disk, layout)?;
+    Some((calls, text.as_slice() == b"ab1 ".as_slice()))
 }
 
 #[test]
 fn an_append_makes_four_calls(rt: HostRuntime) {
-    let fault = Err(AppendFault::Disk);
-    let calls = (Ok(()), fault, Err(DiskFault), Err(DiskFault));
-    assert_eq!(rt; calls_in_little_room(rt.alloc()), Some((calls, true)));
+    let found = match small_layout(rt.alloc()) {
+        Some(layout) => calls_in_little_room(rt.alloc(), &layout),
+        None => None,
+    };
+    assert_eq!(rt; found, Some(([true; 4], true)));
 }
 
 /// A disk with an odd area byte, which chooses area 1, and two frames there, the second of which ends with the area where this byte

@@ -157,7 +157,15 @@ fn gate_and_heap(alloc: Global, calls: u64) -> Option<(bool, bool)> {
 #[test]
 fn a_page_goes_once_its_log_is_sure(rt: HostRuntime) {
     // The sync of the start, the four calls of a flush, and the page.
-    let found = [4, 5, 6].map(|calls| gate_and_heap(rt.alloc(), calls));
-    let wanted = [(false, false), (true, false), (true, true)].map(Some);
+    let found = [
+        gate_and_heap(rt.alloc(), 4),
+        gate_and_heap(rt.alloc(), 5),
+        gate_and_heap(rt.alloc(), 6),
+    ];
+    let wanted = [
+        Some((false, false)),
+        Some((true, false)),
+        Some((true, true)),
+    ];
     assert_eq!(rt; found, wanted);
 }
