@@ -13,22 +13,45 @@ import tempfile
 
 TOP = os.path.dirname(os.path.dirname(os.path.abspath(__file__)))
 APPENDS = 1_000
-NEEDED = "log_bench: block_model store_layout disk_trait log_area\n"
+NEEDED = "log_bench: store_layout disk_trait log_area small_layouts\n"
 
 MAIN = """//! Times appends to the log of a file.
 #![tactic(auto)]
 
-mod layouts;
-
-ghost use Rattle.std.specs.Prelude.{◌≤◌};
+ghost use Rattle.std.specs.Prelude.{◌≤◌, IfSome};
 ghost use Rattle.log_area.specs.Log.{areas_end};
 
 use disk_trait::{Disk, FileDisk};
-use layouts::{append, small_layout, start};
-use log_area::{AppendFault, LogArea};
+use log_area::{AppendFault, Frames, LogArea};
+use small_layouts::{LEAST, table_layout};
+use std::alloc::Global;
 use std::fs::OpenOptions;
 use std::io;
 use std::time::Instant;
+use store_layout::Layout;
+
+/// Starts the log of a disk that is large enough.
+fn start(alloc: Global, disk: &mut FileDisk, layout: &Layout) -> Option<(LogArea, Frames)>
+    ensures { IfSome result (λ r. areas_end r.0.room ≤ (⟦<FileDisk as Disk>⟧.told disk.new).size) }
+{
+    if disk.size() < layout.disk_size() {
+        return None;
+    }
+    LogArea::start(alloc, disk, layout).ok()
+}
+
+/// Appends a frame.
+fn append(
+    log: &mut LogArea,
+    disk: &mut FileDisk,
+    changes: &[u8],
+    count: u16,
+) -> Result<(), AppendFault>
+    requires { areas_end log.old.room ≤ (⟦<FileDisk as Disk>⟧.told disk.old).size }
+    ensures { areas_end log.new.room ≤ (⟦<FileDisk as Disk>⟧.told disk.new).size }
+{
+    log.append(disk, changes, count)
+}
 
 /// The changes of a frame.
 const CHANGES: [u8; 64] = [7; 64];
@@ -115,7 +138,7 @@ fn calls(disk: &mut FileDisk) -> Option<()> {
 fn main(rt: HostRuntime) -> io::Result<()> {
     let alloc = rt.alloc();
     let file = OpenOptions::new().read(true).write(true).open(&rt, "disk")?;
-    let Some(layout) = small_layout(alloc) else {
+    let Some(layout) = table_layout(alloc, 1, LEAST) else {
         return Ok(());
     };
     let mut disk = FileDisk::on(file, layout.disk_size());
@@ -153,7 +176,6 @@ def put_files(folder):
         file.write(MAIN)
     with open(os.path.join(crate, "proofs", "Lib.antt"), "w"):
         pass
-    shutil.copy(os.path.join(TOP, "crates", "log_tests", "src", "layouts.rt"), os.path.join(crate, "src"))
     return crate
 
 

@@ -1,20 +1,28 @@
-//! Tests of disks, changes of the log, pages and rows on pages, over the public calls of disk_trait, wal_record, page_layout,
-//! page_redo, engine_pages (its pages in memory alone) and heap_rows. Nothing stands on it.
+//! Tests of the store of pages over log and pool, of the range map of an index with its tuples, and of the table of transactions, over the
+//! public calls of logged_pages, revmap, range_store and tx_table. Nothing stands on it.
 #![tactic(auto)]
 
 #[cfg(test)]
-mod changes;
+mod index_store;
 #[cfg(test)]
-mod columns;
+mod indexes;
 #[cfg(test)]
-mod disks;
+mod openings;
 #[cfg(test)]
-mod heaps;
+mod orders;
 #[cfg(test)]
-mod int8_rows;
+mod reads;
 #[cfg(test)]
-mod pages;
+mod rooms;
 #[cfg(test)]
-mod redos;
+mod status_pages;
+#[cfg(test)]
+mod steps;
 #[cfg(test)]
 mod stores;
+#[cfg(test)]
+mod transactions;
+#[cfg(test)]
+mod trial;
+#[cfg(test)]
+mod watched;

@@ -1,0 +1,268 @@
+//! What changes, as their bytes in the log, do to pages. Each is of the first block of relation 1.
+
+ghost use Rattle.page_layout.specs.PageContents.{IsForm};
+
+use crate::rows::{ROW, heap};
+use page_layout::{Form, Page, check};
+use page_redo::{Misfit, fits, redo, redo_checked};
+use wal_record::{Change, decode};
+
+/// The row 1.0 of 5, which transaction 258 deleted.
+const MARKED: [u8; 30] = [
+    1, 0, 0, 0, 0, 0, 0, 0, 1, 0, 0, 0, 0, 0, 0, 0, 0, 0, 0, 1, 2, 0, 0, 0, 0, 0, 0, 0, 0, 5,
+];
+
+/// A change, and what is answered: 0 where it fits and is made, else its tag.
+type Redo<'a> = (&'a [u8], u8);
+
+/// What is answered. `None` where the bytes are no change.
+fn answer_to(page: &mut Page, form: &Form, bytes: &[u8]) -> Option<u8>
+    requires { IsForm form.now }
+{
+    match decode(bytes) {
+        Ok((change, _)) => match redo(page, &change, *form) {
+            Ok(()) => Some(0),
+            Err(Misfit { tag }) => Some(tag),
+        },
+        Err(_) => None,
+    }
+}
+
+/// Makes the changes one after the other, each where it fits, and answers the place in the list of the first that isn't answered so.
+fn first_other(page: &mut Page, form: &Form, redos: &[Redo<'_>]) -> Option<usize>
+    requires { IsForm form.now }
+{
+    for (at, (bytes, answer)) in redos.iter().enumerate() {
+        if answer_to(page, form, bytes) != Some(*answer) {
+            return Some(at);
+        }
+    }
+    None
+}
+
+/// The second slot takes the row.
+const PUT: &[u8] = b"\x03\x01\0\0\0\0\0\x01\0\x1e\
+\x01\0\0\0\0\0\0\0\x01\0\0\0\0\0\0\0\0\0\0\0\0\0\0\0\0\0\0\0\0\x05";
+
+/// A row is put into the second of two slots and marked, and slots that aren't in use, or not there, are dropped beside it.
+const MARKS: [Redo<'static>; 10] = [
+    (PUT, 3),
+    (b"\x02\x01\0\0\0\0\x02", 0),
+    (PUT, 0),
+    (PUT, 3),
+    (b"\x04\x01\0\0\0\0\0\0\0\0\0\0\0\0\x01\x02", 4),
+    (b"\x04\x01\0\0\0\0\0\x01\0\0\0\0\0\0\x01\x02", 0),
+    (b"\x04\x01\0\0\0\0\0\x02\0\0\0\0\0\0\x01\x02", 4),
+    (b"\x05\x01\0\0\0\0\0\x02\0\x01\0\0", 5),
+    (b"\x05\x01\0\0\0\0\0\x02\0\x01\0\x01", 5),
+    (b"\x05\x01\0\0\0\0\0\x02\0\x01\0\x02", 5),
+];
+
+/// The row is dropped.
+const DROP_ROW: [Redo<'static>; 1] = [(b"\x05\x01\0\0\0\0\0\x01\0\x01", 0)];
+
+/// A started page of the heap whose second slot has the marked row.
+fn marked_heap() -> [u8; 8192] {
+    let mut bytes = [0; 8192];
+    bytes[0] = 2;
+    bytes[62..92].copy_from_slice(&MARKED);
+    bytes
+}
+
+/// A started page of that kind, and else zeros.
+fn page_of(kind: u8) -> [u8; 8192] {
+    let mut bytes = [0; 8192];
+    bytes[0] = kind;
+    bytes
+}
+
+/// Makes the changes on a page that has other bytes. Answers the first that isn't answered so, and whether the page has these bytes then.
+fn made_on(
+    page: &mut Page,
+    form: &Form,
+    redos: &[Redo<'_>],
+    bytes: &[u8; 8192],
+) -> (Option<usize>, bool)
+    requires { IsForm form.now }
+{
+    let found = first_other(page, form, redos);
+    (found, page.as_bytes() == bytes.as_slice())
+}
+
+#[test]
+fn heap_pages_take_rows_marks_and_drops(rt: HostRuntime) {
+    let mut page = Page::from_bytes(&[7; 8192]);
+    let found = [
+        made_on(&mut page, &heap(), &MARKS, &marked_heap()),
+        made_on(&mut page, &heap(), &DROP_ROW, &page_of(2)),
+    ];
+    assert_eq!(rt; found, [(None, true); 2]);
+}
+
+/// The status of entry 5 becomes 2.
+const SET: &[u8] = b"\x0d\x01\0\0\0\0\0\x05\x02";
+
+const SETS: [Redo<'static>; 2] = [(SET, 0), (b"\x09\x01\0\0\0\0", 9)];
+
+/// The change by which the page gets these bytes.
+fn full_page(bytes: &[u8; 8192]) -> [u8; 8198] {
+    let mut change = [0; 8198];
+    change[..2].copy_from_slice(b"\x01\x01");
+    change[6..].copy_from_slice(bytes);
+    change
+}
+
+/// A page of statuses whose entry 5 is 2.
+fn set_statuses() -> [u8; 8192] {
+    let mut bytes = page_of(1);
+    bytes[33] = 8;
+    bytes
+}
+
+#[test]
+fn whole_pages_and_statuses_are_set(rt: HostRuntime) {
+    let mut page = Page::from_bytes(&[7; 8192]);
+    let full = full_page(&page_of(1));
+    let found = [
+        made_on(&mut page, &Form::Status, &[(SET, 13)], &[7; 8192]),
+        made_on(&mut page, &heap(), &[(&full, 1)], &[7; 8192]),
+        made_on(&mut page, &Form::Status, &[(&full, 0)], &page_of(1)),
+        made_on(&mut page, &Form::Status, &SETS, &set_statuses()),
+    ];
+    assert_eq!(rt; found, [(None, true); 4]);
+}
+
+/// A page of two slots, with offset and length of each, and the last three bytes of the page.
+fn two_slots(directory: &[u8; 8], last: &[u8; 3]) -> [u8; 8192] {
+    let mut bytes = page_of(5);
+    bytes[3] = 2;
+    bytes[32..40].copy_from_slice(directory);
+    bytes[8189..].copy_from_slice(last);
+    bytes
+}
+
+/// An empty page of tuples.
+const START: &[u8] = b"\x02\x01\0\0\0\0\x05";
+
+const PUT_FIRST: &[u8] = b"\x06\x01\0\0\0\0\0\0\0\x03abc";
+
+const PUT_SECOND: &[u8] = b"\x06\x01\0\0\0\0\0\x01\0\x02xy";
+
+const REPLACE_FIRST: &[u8] = b"\x07\x01\0\0\0\0\0\0\0\x01d";
+
+const DROP_FIRST: &[u8] = b"\x08\x01\0\0\0\0\0\x01\0\0";
+
+const PUTS: [Redo<'static>; 4] = [
+    (START, 0),
+    (PUT_FIRST, 0),
+    (PUT_SECOND, 0),
+    (REPLACE_FIRST, 0),
+];
+
+#[test]
+fn pages_of_an_index_take_tuples(rt: HostRuntime) {
+    let mut page = Page::from_bytes(&[7; 8192]);
+    let put = two_slots(b"\x1f\xff\0\x01\x1f\xfd\0\x02", b"xyd");
+    let dropped = two_slots(b"\0\0\0\0\x1f\xfe\0\x02", b"\0xy");
+    let found = [
+        made_on(&mut page, &Form::Index, &PUTS, &put),
+        made_on(&mut page, &Form::Index, &[(DROP_FIRST, 0)], &dropped),
+    ];
+    assert_eq!(rt; found, [(None, true); 2]);
+}
+
+const TURN: &[u8] = b"\x0a\x01\0\0\0\0";
+
+/// A page of tuples becomes one of the map, whose last entry names slot 2 of block 17.
+const TURNS: [Redo<'static>; 6] = [
+    (START, 0),
+    (PUT_FIRST, 0),
+    (b"\x09\x01\0\0\0\0", 0),
+    (DROP_FIRST, 0),
+    (TURN, 0),
+    (b"\x0b\x01\0\0\0\0\x03\xfb\0\0\0\x11\0\x02", 0),
+];
+
+fn last_entry() -> [u8; 8192] {
+    let mut bytes = page_of(4);
+    bytes[8184..].copy_from_slice(b"\0\0\0\x11\0\x02\0\0");
+    bytes
+}
+
+/// The number of pages of the map becomes 6.
+const MAPS: &[u8] = b"\x0c\x01\0\0\0\0\0\0\0\x06";
+
+fn six_maps() -> [u8; 8192] {
+    let mut bytes = page_of(3);
+    bytes[35] = 6;
+    bytes
+}
+
+#[test]
+fn pages_of_the_map_take_entries_and_their_number(rt: HostRuntime) {
+    let mut page = Page::from_bytes(&[7; 8192]);
+    let mut meta = Page::from_bytes(&page_of(3));
+    let found = [
+        made_on(&mut page, &Form::Index, &TURNS, &last_entry()),
+        made_on(&mut meta, &Form::Index, &[(MAPS, 0)], &six_maps()),
+    ];
+    assert_eq!(rt; found, [(None, true); 2]);
+}
+
+/// What an empty page of tuples refuses.
+const REFUSED: [Redo<'static>; 7] = [
+    (PUT_SECOND, 6),
+    (REPLACE_FIRST, 7),
+    (DROP_FIRST, 8),
+    (b"\x02\x01\0\0\0\0\x02", 2),
+    (TURN, 10),
+    (b"\x0b\x01\0\0\0\0\0\0\0\0\0\x11\0\x02", 11),
+    (MAPS, 12),
+];
+
+/// A put of a tuple of 8157 bytes, of which an empty page takes one less.
+fn long_put() -> [u8; 8167] {
+    let mut change = [1; 8167];
+    change[..10].copy_from_slice(b"\x06\x01\0\0\0\0\0\0\x1f\xdd");
+    change
+}
+
+#[test]
+fn an_empty_page_of_tuples_takes_no_tuple_but_the_first(rt: HostRuntime) {
+    let mut page = Page::from_bytes(&page_of(5));
+    let found = [
+        made_on(&mut page, &Form::Index, &REFUSED, &page_of(5)),
+        made_on(&mut page, &Form::Index, &[(&long_put(), 6)], &page_of(5)),
+    ];
+    assert_eq!(rt; found, [(None, true); 2]);
+}
+
+/// What `fits` tells and `redo_checked` answers on a page that passes its check.
+fn redone(page: &mut Page, change: &Change<'_>, form: &Form) -> Option<(bool, Result<(), Misfit>)>
+    requires { IsForm form.now }
+{
+    match check(page, *form) {
+        Ok(()) => {
+            let fitting = fits(page, change, *form);
+            Some((fitting, redo_checked(page, change, *form)))
+        }
+        Err(_) => None,
+    }
+}
+
+/// The row is put twice into a page of two empty slots.
+fn put_twice(page: &mut Page) -> [Option<(bool, Result<(), Misfit>)>; 2] {
+    match decode(PUT) {
+        Ok((put, _)) => [redone(page, &put, &heap()), redone(page, &put, &heap())],
+        Err(_) => [None; 2],
+    }
+}
+
+#[test]
+fn checked_pages_take_what_fits(rt: HostRuntime) {
+    let mut page = Page::from_bytes(&page_of(2));
+    let found = put_twice(&mut page);
+    let is_put = page.as_bytes().get(62..92) == Some(ROW.as_slice());
+    let wanted = [Some((true, Ok(()))), Some((false, Err(Misfit { tag: 3 })))];
+    assert_eq!(rt; (found, is_put), (wanted, true));
+}
