@@ -1,11 +1,10 @@
 -- an index of a table that pages and locks show, by its place among the table's
-use Rattle.std.proofs.Common.{◌≡◌, ℕ, List, length, Some, refl}
+use Rattle.std.proofs.Common.{◌≡◌, ℕ, List, length, Some}
 use Rattle.std.specs.Prelude.{slice_get}
 use Rattle.store_layout.specs.DiskLayout.{DiskLayout}
 use Rattle.page_layout.specs.PageContents.{Slot}
 use Rattle.page_store.specs.PageMap.{PageMap}
 use Rattle.page_locks.specs.LockHolders.{LockState}
-use Rattle.heap_rows.specs.Heaps.{slots_a_page}
 use Rattle.table_coverage.specs.Machines.{Unseen, table_state}
 use Rattle.table_coverage.specs.Table.{TableState, index_view_at}
 use Rattle.index_contents.specs.IndexContents.{contents}
@@ -21,4 +20,4 @@ module _ (layout : DiskLayout) (pages : PageMap) (locks : LockState) (blocks : L
   w = table_state (shown_by layout pages locks (table_of layout n) blocks) u
 
   pub shows_here : Shows (shape_of layout n) (contents layout pages n) (lock_in layout locks n) (index_view_at at w)
-  shows_here = of_table.shows_here layout pages locks (table_of layout n) (slots_a_page layout (table_of layout n)) (length blocks) (rows_in (table_of layout n) blocks) at n there u
+  shows_here = of_table.shows_here layout pages locks (table_of layout n) (shown_by layout pages locks (table_of layout n) blocks).rows_per_page (length blocks) (rows_in (table_of layout n) blocks) at n there u
