@@ -1,5 +1,7 @@
 //! Disks in memory and over a file. A test is a list of calls, each with whether it goes well.
 
+ghost use Rattle.std.specs.Prelude.{◌≡◌, ◌+◌, ◌≤◌, true};
+
 use disk_trait::{Disk, DiskFault, FileDisk, MemoryDisk, SteadyDisk};
 use std::alloc::Global;
 use std::fs;
@@ -18,9 +20,14 @@ enum Call {
 }
 
 /// Whether the disk has so many bytes there.
-fn has<D: Disk>(disk: &D, at: u64, count: usize) -> bool {
+fn has<D: Disk>(disk: &D, at: u64, count: usize) -> bool
+    ensures { result ≡ true → at + count ≤ (D.told disk.now).size }
+{
     let size = disk.size();
-    at <= size && count as u64 <= size - at
+    if at > size {
+        return false;
+    }
+    count as u64 <= size - at
 }
 
 fn writes<D: Disk>(disk: &mut D, at: u64, bytes: &[u8]) -> bool {
@@ -31,7 +38,10 @@ fn writes<D: Disk>(disk: &mut D, at: u64, bytes: &[u8]) -> bool {
 }
 
 fn reads<D: Disk>(disk: &mut D, at: u64, bytes: &[u8]) -> bool {
-    if bytes.len() > 8 || !has(disk, at, bytes.len()) {
+    if bytes.len() > 8 {
+        return false;
+    }
+    if !has(disk, at, bytes.len()) {
         return false;
     }
     let mut piece = [7u8; 8];

@@ -169,6 +169,14 @@ fn empty_pool(alloc: Global) -> Result<Pool, NoMemory>
     Ok(pool)
 }
 
+/// A disk of four pages.
+fn empty_disk(alloc: Global) -> Result<MemoryDisk, NoMemory>
+    ensures { IfOk result (λ disk. length disk.contents ≡ 32768) }
+{
+    let disk = MemoryDisk::new(alloc, 32768)?;
+    Ok(disk)
+}
+
 /// Sets a page of a pool whose pages lie on a disk of four pages.
 fn set(pool: &mut Pool, page: u64, log: u64) -> bool
     requires page { page < 4 }
@@ -245,17 +253,20 @@ fn made(pool: &mut Pool, disk: &mut MemoryDisk, step: Step) -> Found
     }
 }
 
-/// The first step in the list that isn't answered so, by its place and its answer. `None` is want of memory.
-fn first_otherwise(alloc: Global, steps: &[(Step, Found)]) -> Option<Option<(usize, Found)>> {
-    let mut pool = empty_pool(alloc).ok()?;
-    let mut disk = MemoryDisk::new(alloc, 32768).ok()?;
+/// The first step in the list that isn't answered so, by its place and its answer.
+fn first_otherwise(
+    alloc: Global,
+    steps: &[(Step, Found)],
+) -> Result<Option<(usize, Found)>, NoMemory> {
+    let mut pool = empty_pool(alloc)?;
+    let mut disk = empty_disk(alloc)?;
     'steps: for (at, (step, wanted)) in steps.iter().enumerate() {
         let found = made(&mut pool, &mut disk, *step);
         if found != *wanted {
-            return Some(Some((at, found)));
+            return Ok(Some((at, found)));
         }
     }
-    Some(None)
+    Ok(None)
 }
 
 /// A checkpoint writes dirty pages in order.
@@ -296,5 +307,5 @@ fn dirty_pages_are_written_once_their_log_is_durable(rt: HostRuntime) {
         first_otherwise(rt.alloc(), &CHECKPOINT),
         first_otherwise(rt.alloc(), &DURABLE),
     ];
-    assert_eq!(rt; found, [Some(None); 2]);
+    assert_eq!(rt; found, [Ok(None); 2]);
 }

@@ -136,8 +136,10 @@ fn whole_pages_and_statuses_are_set(rt: HostRuntime) {
 fn two_slots(directory: &[u8; 8], last: &[u8; 3]) -> [u8; 8192] {
     let mut bytes = page_of(5);
     bytes[3] = 2;
+    bytes[8189] = last[0];
+    bytes[8190] = last[1];
+    bytes[8191] = last[2];
     bytes[32..40].copy_from_slice(directory);
-    bytes[8189..].copy_from_slice(last);
     bytes
 }
 
