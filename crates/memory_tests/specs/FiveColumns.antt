@@ -9,7 +9,7 @@ abbrev pub minmax_part : ℕ × AnyClass
 minmax_part = (0, class_of classes.MinMax kinds.Int)
 
 abbrev pub multi_part : ℕ × AnyClass
-multi_part = (1, class_of (classes.Multi 256) kinds.Int)
+multi_part = (1, class_of (classes.Multi 8) kinds.Int)
 
 abbrev pub span_part : ℕ × AnyClass
 span_part = (2, class_of classes.Inclusion kinds.Span)

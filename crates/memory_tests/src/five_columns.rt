@@ -23,7 +23,7 @@ const MINMAX: Part = Part {
 
 const MULTI: Part = Part {
     column: 1,
-    class: Class::Multi { limit: 256 },
+    class: Class::Multi { limit: 8 },
 };
 
 const RANGES: Part = Part {

@@ -11,25 +11,71 @@ use range_tuple::{RangeTuple, ScanKeys};
 use std::alloc::Global;
 use std::process::Abort;
 
-/// The most bytes of a tuple of the index: 5, and 3 for each column beside 16, 2306, 18, 7 and 2048.
-const ROOM: usize = 4415;
+/// The most bytes of a tuple of the index: 5, and 3 for each column beside 16, 74, 18, 7 and 2048.
+const ROOM: usize = 2183;
+
+/// Nine points, one more than the limit of multi, so that two are merged.
+const NUMBERS: [i64; 9] = [0, 10, 30, 500, 1000, 1500, 2000, 2020, 3000];
+
+/// What the rows hold beside numbers: a range, an address, and a network that the address isn't in.
+#[derive(Clone, Copy)]
+struct Held {
+    range: Span8,
+    address: Net,
+    network: Net,
+}
 
 /// What the calls of a tuple answer.
 #[derive(Clone, Copy, PartialEq, Eq)]
 struct Answers {
-    changes: [bool; 5],
+    changes: [usize; 2],
+    has_changed: [bool; 2],
     keeps: [bool; 2],
     size: usize,
     bytes: [u8; ROOM],
     is_read: bool,
-    is_one_refused: bool,
+    is_cut_refused: bool,
     range: u32,
     is_placeholder: bool,
 }
 
+/// Adds a row for each number; answers how many of them changed the tuple.
+fn add_each(tuple: &mut RangeTuple, numbers: &[i64], span: Span8, net: Net) -> usize
+    requires { parts_of tuple.old.columns ≡ five_parts }
+    ensures { parts_of tuple.new.columns ≡ five_parts }
+{
+    let mut changes = 0usize;
+    'numbers: for number in numbers {
+        if add_values(tuple, *number, span, net) {
+            changes = changes.saturating_add(1);
+        }
+    }
+    changes
+}
+
+fn compared(column: u8, op: Op, key: Value) -> Cond {
+    Cond { column, op, key }
+}
+
+/// Whether the tuple keeps a condition on each column, and none, as keys of a scan.
+fn asked(tuple: &RangeTuple, span: Span8, net: Net) -> [bool; 2] {
+    let conds = [
+        compared(0, Op::Gt, Value::Int(30)),
+        compared(1, Op::Gt, Value::Int(30)),
+        compared(2, Op::Overlaps, Value::Span(span)),
+        compared(3, Op::Eq, Value::Net(net)),
+        compared(4, Op::Eq, Value::Int(30)),
+    ];
+    [
+        tuple.keeps(&conds),
+        tuple.keeps_by(&ScanKeys::new(&conds[..0])),
+    ]
+}
+
 /// Starts two tuples of other ranges, adds rows to each, unites and settles the first, asks and writes it, and reads its bytes
-/// into the second: all of them, and one alone. Copies the first at the end. None where tuples have more bytes than the room.
-fn call_each(tuple: &mut RangeTuple, other: &mut RangeTuple, net: Net) -> Option<Answers>
+/// into the second: all of them, and all but the last. Copies the first at the end. None where tuples have more bytes than the
+/// room.
+fn call_each(tuple: &mut RangeTuple, other: &mut RangeTuple, held: &Held) -> Option<Answers>
     requires tuple { parts_of tuple.old.columns ≡ five_parts }
     requires other { parts_of other.old.columns ≡ five_parts }
 {
@@ -37,37 +83,28 @@ fn call_each(tuple: &mut RangeTuple, other: &mut RangeTuple, net: Net) -> Option
     tuple.restart(7);
     other.restart(8);
     let changes = [
-        add_values(tuple, 30, Span8::empty(), net),
-        add_values(tuple, 10, Span8::empty(), net),
-        add_values(other, 20, Span8::empty(), net),
-        add_nulls(other),
-        tuple.unite(other),
+        add_each(tuple, &NUMBERS, Span8::empty(), held.address),
+        add_each(other, &NUMBERS[..1], held.range, held.network),
     ];
+    let has_changed = [add_nulls(other), tuple.unite(other)];
     tuple.settle();
-    let conds = [Cond {
-        column: 0,
-        op: Op::Gt,
-        key: Value::Int(30),
-    }];
-    let keeps = [
-        tuple.keeps(&conds),
-        tuple.keeps_by(&ScanKeys::new(&conds[..0])),
-    ];
+    let keeps = asked(tuple, held.range, held.address);
     if tuple.greatest_size() > ROOM {
         return None;
     }
     let size = tuple.encode(&mut bytes);
     let is_read = other.decode(&bytes[..size]).is_ok();
-    let is_one_refused = other.decode(&bytes[..1]).is_err();
+    let is_cut_refused = other.decode(&bytes[..size.saturating_sub(1)]).is_err();
     other.restart(9);
     other.copy_from(tuple);
     Some(Answers {
         changes,
+        has_changed,
         keeps,
         size,
         bytes,
         is_read,
-        is_one_refused,
+        is_cut_refused,
         range: other.range(),
         is_placeholder: other.is_placeholder(),
     })
@@ -95,18 +132,18 @@ fn outcome(
     first: &mut Pair,
     second: &mut Pair,
     third: &mut Pair,
-    net: Net,
+    held: &Held,
 ) -> Result<Outcome, NoMemory>
     requires first { (parts_of first.old.tuple.columns ≡ five_parts) × (parts_of first.old.other.columns ≡ five_parts) }
     requires second { (parts_of second.old.tuple.columns ≡ five_parts) × (parts_of second.old.other.columns ≡ five_parts) }
     requires third { (parts_of third.old.tuple.columns ≡ five_parts) × (parts_of third.old.other.columns ≡ five_parts) }
 {
-    let wanted = call_each(&mut first.tuple, &mut first.other, net);
+    let wanted = call_each(&mut first.tuple, &mut first.other, held);
     let mut memory = AllMemory::take(alloc)?;
     let was_left = memory.has_room(1);
-    let without = call_each(&mut second.tuple, &mut second.other, net);
+    let without = call_each(&mut second.tuple, &mut second.other, held);
     let given_back = memory.give_back();
-    let again = call_each(&mut third.tuple, &mut third.other, net);
+    let again = call_each(&mut third.tuple, &mut third.other, held);
     let are_same = wanted.is_some() && without == wanted && again == wanted;
     Ok(memory.outcome(was_left, are_same, given_back))
 }
@@ -114,11 +151,18 @@ fn outcome(
 #[test]
 fn range_tuples_take_no_memory(rt: HostRuntime) -> Result<(), NoMemory> {
     let alloc = rt.alloc();
-    let net = Net::v4(10 << 24 | 1, 32).expect(&rt, "an address");
+    let address = Net::v4(10 << 24 | 1, 32).expect(&rt, "an address");
+    let network = Net::v4(10 << 24 | 1 << 16, 16).expect(&rt, "a network");
+    let range = Span8::from_bounds(Some((2, true)), Some((5, false))).expect(&rt, "bounds");
+    let held = Held {
+        range,
+        address,
+        network,
+    };
     let mut first = two_placeholders(&rt, alloc)?;
     let mut second = two_placeholders(&rt, alloc)?;
     let mut third = two_placeholders(&rt, alloc)?;
-    let found = outcome(alloc, &mut first, &mut second, &mut third, net)?;
+    let found = outcome(alloc, &mut first, &mut second, &mut third, &held)?;
     assert_eq!(rt; found, Outcome::NoMemoryIsTaken);
     Ok(())
 }
