@@ -1,28 +1,11 @@
-//! Tests of the store of pages over log and pool, of the range map of an index with its tuples, and of the table of transactions, over the
-//! public calls of logged_pages, revmap, range_store and tx_table. Nothing stands on it.
+//! Tests of pages and of their changes, over the public calls of page_layout, wal_record and page_redo. Nothing stands on it.
 #![tactic(auto)]
 
 #[cfg(test)]
-mod index_store;
+mod changes;
 #[cfg(test)]
-mod indexes;
+mod pages;
 #[cfg(test)]
-mod openings;
+mod redos;
 #[cfg(test)]
-mod orders;
-#[cfg(test)]
-mod reads;
-#[cfg(test)]
-mod rooms;
-#[cfg(test)]
-mod status_pages;
-#[cfg(test)]
-mod steps;
-#[cfg(test)]
-mod stores;
-#[cfg(test)]
-mod transactions;
-#[cfg(test)]
-mod trial;
-#[cfg(test)]
-mod watched;
+mod rows;

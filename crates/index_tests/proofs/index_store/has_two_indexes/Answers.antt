@@ -1,8 +1,8 @@
 use Rattle.std.proofs.Common.{◌≡◌, length, rules, arith}
 use Rattle.std.proofs.lemmas.Bool.Decides.{nat_tests}
 use Rattle.store_layout.specs.DiskLayout.{relation_blocks}
-use Rattle.page_tests.proofs.Relations.{two_indexes}
-use Rattle.page_tests.proofs.index_store.has_two_indexes.Goals as goal
+use Rattle.index_tests.proofs.Relations.{two_indexes}
+use Rattle.index_tests.proofs.index_store.has_two_indexes.Goals as goal
 
 pub returns-clause-blocks : goal.returns-clause-blocks
 unfolding relation_blocks

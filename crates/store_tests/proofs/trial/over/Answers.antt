@@ -1,5 +1,5 @@
-use Rattle.page_tests.proofs.Kept.{started_kept}
-use Rattle.page_tests.proofs.trial.over.Goals as goal
+use Rattle.store_tests.proofs.Kept.{started_kept}
+use Rattle.store_tests.proofs.trial.over.Goals as goal
 
 pub invariant_of-result : goal.invariant_of-result
 invariant_of-result g c =

@@ -1,5 +1,5 @@
-use Rattle.page_tests.proofs.Kept.{told_begun, trial_kept}
-use Rattle.page_tests.proofs.trial.told_status.Goals as goal
+use Rattle.store_tests.proofs.Kept.{told_begun, trial_kept}
+use Rattle.store_tests.proofs.trial.told_status.Goals as goal
 
 pub returns-clause-over : goal.returns-clause-over
 returns-clause-over g c = (trial_kept g.D.Disk.told c.args.table.now c.args.store.now c.status.new.pages c.status.ensures.kept (c.requires.over, c.requires.started)).0

@@ -1,6 +1,6 @@
 use Rattle.std.proofs.Common.{arith}
-use Rattle.page_tests.proofs.Kept.{trial_kept}
-use Rattle.page_tests.proofs.trial.Trial.byte.Goals as goal
+use Rattle.store_tests.proofs.Kept.{trial_kept}
+use Rattle.store_tests.proofs.trial.Trial.byte.Goals as goal
 
 pub first_byte-requires : goal.first_byte-requires
 first_byte-requires g c = let over = c.self.invariant.0 in omega (arith, over.some, over.opened, over.within)
