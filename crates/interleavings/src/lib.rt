@@ -3,6 +3,8 @@
 #![tactic(auto)]
 
 #[cfg(test)]
+mod move_rows;
+#[cfg(test)]
 mod orders;
 #[cfg(test)]
 mod pairs;
