@@ -26,11 +26,11 @@ use Rattle.store_parts.specs.declared.hand.Hand.TheVariants as hands
 use Rattle.store_parts.specs.ShowsPlace.{ShowsPlace}
 use Rattle.store_parts.specs.StepIs.{StepIs}
 use Rattle.store_parts.specs.StoreStates.{StoreState, shown_of}
-use Rattle.store_transactions.specs.Stops.{PassesNothing}
-use Rattle.store_images.specs.ImageLaws.{ShownIsImage, StepCommits}
-use Rattle.store_images.specs.StopRule.{AllHaveTable, HasTableOr, IsImageWith, StopsWhole}
-use Rattle.store_images.specs.StoreImage.{IsStoreImage}
-use Rattle.store_images.specs.Stops.{StopsSo}
+use Rattle.stop_laws.specs.Passes.{PassesNothing}
+use Rattle.store_starts.specs.ImageLaws.{ShownIsImage, StepCommits}
+use Rattle.store_starts.specs.StopRule.{AllHaveTable, HasTableOr, IsImageWith, StopsWhole}
+use Rattle.store_starts.specs.StoreImage.{IsStoreImage}
+use Rattle.store_starts.specs.Stops.{StopsSo}
 use Rattle.brin_app.specs.CrashRule.{HasTableOf, IsFurther, IsOfRun, IsOfStop, StopsAmid, StopsBetween, table_behind}
 
 -- ---- journals

@@ -21,7 +21,7 @@ use Rattle.line_texts.specs.Place.{Place, database_at}
 use Rattle.line_texts.specs.Starts.{IsStart}
 use Rattle.store_parts.specs.ShowsPlace.{ShowsPlace}
 use Rattle.store_parts.specs.StoreStates.{StoreState}
-use Rattle.store_images.specs.StopRule.{AllHaveTable, IsImageWith}
+use Rattle.store_starts.specs.StopRule.{AllHaveTable, IsImageWith}
 use Rattle.store_starts.specs.OpenedParts.{ShowsStart}
 use Rattle.store_starts.specs.Started.{ImagesStay, OpensTable}
 use Rattle.brin_app.specs.declared.top.Task.TheVariants.{Demo}

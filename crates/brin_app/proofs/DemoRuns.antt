@@ -15,7 +15,7 @@ use Rattle.demo_script.specs.Played.{AreSaid, HasPlayed, HasStopped}
 use Rattle.demo_script.specs.Summary.{summary_text}
 use Rattle.line_texts.specs.Place.{Place}
 use Rattle.line_texts.specs.Stops.{IsLineStopped}
-use Rattle.store_images.specs.StopRule.{AllHaveTable}
+use Rattle.store_starts.specs.StopRule.{AllHaveTable}
 use Rattle.store_parts.specs.ShowsPlace.{ShowsPlace}
 use Rattle.store_parts.specs.StoreStates.{StoreState}
 use Rattle.brin_app.specs.declared.sessions.Sessions.{Sessions}

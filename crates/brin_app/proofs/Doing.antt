@@ -26,8 +26,8 @@ use Rattle.line_texts.specs.Place.{Place, database_at}
 use Rattle.line_texts.specs.Starts.{IsOpening, IsStart}
 use Rattle.store_parts.specs.ShowsPlace.{ShowsPlace}
 use Rattle.store_parts.specs.StoreStates.{StoreState}
-use Rattle.store_images.specs.StopRule.{AllHaveTable, IsImageWith}
-use Rattle.store_images.specs.StoreImage.{IsStoreImage, database_with}
+use Rattle.store_starts.specs.StopRule.{AllHaveTable, IsImageWith}
+use Rattle.store_starts.specs.StoreImage.{IsStoreImage, database_with}
 use Rattle.store_starts.specs.OpenedParts.{ShowsStart}
 use Rattle.store_starts.specs.Started.{HoldsImage, ImagesStay, OpensTable}
 use Rattle.brin_app.specs.declared.top.Task.{Task}

@@ -10,7 +10,7 @@ use Rattle.store_format.specs.declared.fault.FormatFault.TheVariants as formats
 use Rattle.store_format.specs.FormatAnswers.{FormatAnswers}
 use Rattle.store_format.specs.FreshStore.{IsOldOrNew}
 use Rattle.fresh_store.specs.FreshPages.{IsOldOrFresh, fresh_pages}
-use Rattle.store_images.specs.ImageLaws.{NewIsImage}
+use Rattle.store_starts.specs.ImageLaws.{NewIsImage}
 use Rattle.brin_app.specs.ScriptOutput.{HoldsFresh, IsOldOrEmpty}
 use Rattle.brin_app.specs.Statuses.{IsUnfit, format_status}
 

@@ -14,7 +14,7 @@ use Rattle.line_texts.specs.LineTexts.{IsLineText}
 use Rattle.line_texts.specs.Place.{Place}
 use Rattle.line_texts.specs.Stops.{IsLineStopped}
 use Rattle.stop_laws.specs.StopLaws.{EachImage}
-use Rattle.store_images.specs.StopRule.{AllHaveTable}
+use Rattle.store_starts.specs.StopRule.{AllHaveTable}
 use Rattle.store_parts.specs.ShowsPlace.{ShowsPlace}
 use Rattle.store_parts.specs.StoreStates.{StoreState}
 use Rattle.brin_app.specs.declared.sessions.Sessions.{Sessions}

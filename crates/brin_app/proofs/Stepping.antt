@@ -28,9 +28,9 @@ use Rattle.store_parts.specs.Hands.{HandShows}
 use Rattle.store_parts.specs.ShowsPlace.{ShowsPlace}
 use Rattle.store_parts.specs.StepAnswers.{HasFaultCause, StaysReady}
 use Rattle.store_parts.specs.StepIs.{LeadsOn, StepIs}
-use Rattle.store_images.specs.ImageLaws.{ShownIsImage, StepCommits}
-use Rattle.store_images.specs.StopRule.{AllHaveTable, StopsWhole}
-use Rattle.store_images.specs.Stops.{StopsSo}
+use Rattle.store_starts.specs.ImageLaws.{ShownIsImage, StepCommits}
+use Rattle.store_starts.specs.StopRule.{AllHaveTable, StopsWhole}
+use Rattle.store_starts.specs.Stops.{StopsSo}
 use Rattle.store_parts.specs.StoreStates.{StoreState, hand_at}
 use Rattle.demo_script.specs.declared.answer.Answer.{Answer}
 use Rattle.demo_script.specs.declared.answer.Answer.TheVariants as answers

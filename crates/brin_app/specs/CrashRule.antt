@@ -7,8 +7,8 @@ use Rattle.disk_trait.specs.Told.{Told}
 use Rattle.line_texts.specs.Place.{Place, database_at}
 use Rattle.stop_laws.specs.FoundLaws.{table_committed}
 use Rattle.stop_laws.specs.StopLaws.{EachImage, EachStop}
-use Rattle.store_images.specs.ImageLaws.{IsCommitting}
-use Rattle.store_images.specs.StopRule.{AllHaveTable, IsImageWith}
+use Rattle.store_starts.specs.ImageLaws.{IsCommitting}
+use Rattle.store_starts.specs.StopRule.{AllHaveTable, IsImageWith}
 use Rattle.store_parts.specs.StoreStates.{StoreState}
 
 -- the table behind the first requests of a place's journal, as many as that

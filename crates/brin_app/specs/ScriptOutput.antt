@@ -16,8 +16,8 @@ use Rattle.script_run.specs.declared.engine.AnswerFault.{AnswerFault}
 use Rattle.script_run.specs.declared.engine.AnswerFault.TheVariants.{Memory, Full, Disk, Damaged}
 use Rattle.script_run.specs.declared.fault.RunFault.TheVariants as faults
 use Rattle.script_run.specs.Runs.{Ran, RunEnd}
-use Rattle.store_images.specs.StopRule.{IsImageWith}
-use Rattle.store_images.specs.StoreImage.{IsStoreImage, database_with}
+use Rattle.store_starts.specs.StopRule.{IsImageWith}
+use Rattle.store_starts.specs.StoreImage.{IsStoreImage, database_with}
 use Rattle.brin_app.specs.declared.status.TheConstants.{SCRIPT_LIMIT}
 use Rattle.brin_app.specs.CrashRule.{HasTableOf, IsFurther, IsOfStop}
 

@@ -6,7 +6,7 @@ ghost use Rattle.command_words.specs.Laws.{AreDemoNumbers};
 ghost use Rattle.page_store.specs.Keeps.{Tells};
 ghost use Rattle.page_store.specs.PageMap.{PageMap};
 ghost use Rattle.store_opening.specs.Opens.{Opens};
-ghost use Rattle.store_images.specs.StopRule.{AllHaveTable};
+ghost use Rattle.store_starts.specs.StopRule.{AllHaveTable};
 ghost use Rattle.store_parts.specs.ShowsPlace.{ShowsPlace};
 ghost use Rattle.store_starts.specs.Started.{HoldsImage};
 ghost use Rattle.line_texts.specs.Place.{Place};

@@ -17,7 +17,7 @@ use script_run::AnswerFault;
 use session_core::{Step, Store, StoreFault};
 use statements::Statement;
 use step_bounds::{a_finished_statement_ends, moves_are_counted};
-use store_images::{a_commit_makes_its_table, a_shown_store_is_an_image};
+use store_starts::{a_commit_makes_its_table, a_shown_store_is_an_image};
 
 /// Does what an order of the session says.
 pub fn act<D: Disk + Drop>(

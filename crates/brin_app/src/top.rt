@@ -12,7 +12,7 @@ ghost use Rattle.page_store.specs.PageMap.{PageMap};
 ghost use Rattle.store_opening.specs.Opens.{Opens};
 ghost use Rattle.line_texts.specs.Place.{Place};
 ghost use Rattle.store_parts.specs.ShowsPlace.{ShowsPlace};
-ghost use Rattle.store_images.specs.StopRule.{AllHaveTable};
+ghost use Rattle.store_starts.specs.StopRule.{AllHaveTable};
 ghost use Rattle.store_starts.specs.Started.{HoldsImage};
 ghost use Rattle.brin_app.specs.ScriptOutput.{EachImageHas, HoldsFresh, IsFreshOutput, IsMade, IsOldOrEmpty, IsScriptRun, RunsThrough, exit_status};
 ghost use Rattle.brin_app.specs.StatusCauses.{HasDamage, IsCompleteOf, IsDoneSo, IsSpentOf, LacksStore};
@@ -43,9 +43,9 @@ use script_run::{AnswerFault, RunFault, run};
 use session_core::Store;
 use std::alloc::Global;
 use store_format::{FormatFault, format};
-use store_images::a_new_store_is_an_image;
 use store_layout::Layout;
 use store_opening::{StartFault, an_image_opens_to_one_map};
+use store_starts::a_new_store_is_an_image;
 
 /// Does what the words of a command line say. `init` with options and the declarations of tables and indexes makes an empty store of the disk; `run`
 /// with them does so first, and then runs the script of the source over it, line after line, and writes the text of each line to the sink before the

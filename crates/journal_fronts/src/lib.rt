@@ -2,7 +2,7 @@
 //! row that is gone stays gone, and each open transaction's copy and marks tell what the table was when it began; so the rows
 //! that nobody can see any more are told by the front at which the oldest open transaction began. Each law is a function that
 //! does nothing: its contract is the law, and whoever calls it may use it. It stands on block_model and line_texts, whose
-//! definition of dead rows two laws are about. store_fronts stands on it, for a vacuum whose steps a store makes.
+//! definition of dead rows two laws are about. store_upkeep stands on it, for a vacuum whose steps a store makes.
 #![tactic(auto)]
 
 ghost use Rattle.journal_fronts.specs.Openings.{NewIsOpening};

@@ -19,8 +19,8 @@ use Rattle.store_parts.specs.HandFits.{FitsStore}
 use Rattle.store_parts.specs.ShowsPlace.{ShowsPlace}
 use Rattle.store_parts.specs.StoreFaults.{fault_of}
 use Rattle.store_parts.specs.StoreStates.{StoreState, hand_at, hand_in, store_of}
-use Rattle.store_images.specs.StopRule.{AllHaveTable, StepStopsWhole, StopsWhole}
-use Rattle.store_images.specs.Stops.{StopsSo}
+use Rattle.store_starts.specs.StopRule.{AllHaveTable, StepStopsWhole, StopsWhole}
+use Rattle.store_starts.specs.Stops.{StopsSo}
 use Rattle.store_transactions.proofs.Stopping.{passes_no_commit, passes_nothing}
 use Rattle.session_core.specs.StoreKept.{IsStoreKept}
 use Rattle.session_core.proofs.Lists.{inside}

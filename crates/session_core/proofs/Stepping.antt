@@ -25,7 +25,7 @@ use Rattle.session_core.specs.SessionLaws.{SessionLaws}
 use Rattle.session_core.specs.SessionLists.{spare_in}
 use Rattle.session_core.specs.Sessions.{IsInHandThen, IsSameStatement, LeavesTheRest, NamesASession, StaysStill}
 use Rattle.session_core.specs.StoreKept.{IsStoreKept}
-use Rattle.store_images.specs.Stops.{StopsSo}
+use Rattle.store_starts.specs.Stops.{StopsSo}
 use Rattle.session_core.proofs.Kept.{fits_now, nobody_now, promised_now, session_below}
 use Rattle.session_core.proofs.Lists.{spares_set}
 

@@ -12,7 +12,7 @@ use Rattle.store_parts.specs.declared.hand.Stepped.TheVariants as stepped
 use Rattle.store_parts.specs.StepIs.{answer_of}
 use Rattle.store_transactions.specs.Stops.{IsSureThen}
 use Rattle.session_core.specs.Sessions.{IsNoPut}
-use Rattle.store_images.specs.Stops.{IsSureBehind}
+use Rattle.store_starts.specs.Stops.{IsSureBehind}
 
 pub sure_behind : {D : Type 0} (told : D → Told) (old new : View D) (answer : Stepped) → IsSureThen told old new answer → IsSureBehind told old new (answer_of answer)
 sure_behind told old new (stepped.Moved point hand) sure = tt

@@ -9,7 +9,7 @@ ghost use Rattle.store_parts.specs.Stepping.{IsFit, IsShown};
 ghost use Rattle.store_parts.specs.UndoneLaws.{StepsSo};
 ghost use Rattle.store_inserts.specs.Settling.{SettlesSo};
 ghost use Rattle.session_core.specs.Sessions.{IsNoPut};
-ghost use Rattle.store_images.specs.Stops.{StopsSo};
+ghost use Rattle.store_starts.specs.Stops.{StopsSo};
 
 use brin_insert::Insert;
 use disk_trait::Disk;
@@ -17,10 +17,10 @@ use store_inserts::{insert_on, put_row};
 use store_marks::mark;
 use store_parts::{Hand, Parts, Step, Stepped, StoreFault};
 use store_scans::{begin_delete, begin_select, delete_on, select_on};
-use store_summaries::complete_on;
 use store_transactions::{begin, commit, roll_back};
-use store_upkeep::{begin_work, desummarise_on, explain_on, summarise_on, work_on};
-use store_vacuums::clean_on;
+use store_upkeep::{
+    begin_work, clean_on, complete_on, desummarise_on, explain_on, summarise_on, work_on,
+};
 
 /// Makes the next step of the statement; what is left of it comes into `left`. The session's spare machine serves the next row of its table.
 pub(crate) fn step_of<D: Disk + Drop>(

@@ -17,10 +17,10 @@ ghost use Rattle.store_parts.specs.StepIs.{LeadsOn, StepIs};
 ghost use Rattle.store_parts.specs.StoreStates.{hand_at};
 ghost use Rattle.store_starts.specs.OpenedParts.{ShowsStart};
 ghost use Rattle.store_starts.specs.Started.{HoldsImage, ImagesStay, OpensTable};
-ghost use Rattle.store_images.specs.StopRule.{AllHaveTable, StopsWhole};
+ghost use Rattle.store_starts.specs.StopRule.{AllHaveTable, StopsWhole};
 ghost use Rattle.session_core.specs.Ending.{EndsSoon};
 ghost use Rattle.session_core.specs.Sessions.{HasSession, IsInHandThen, IsSameStatement, LeavesTheRest, NamesASession, StaysStill, refusal_in};
-ghost use Rattle.store_images.specs.Stops.{StopsSo};
+ghost use Rattle.store_starts.specs.Stops.{StopsSo};
 ghost use Rattle.session_core.specs.Submitting.{IsJudged, IsTakenUp, refusal_here};
 
 use crate::faults::SessionFault;
@@ -36,11 +36,10 @@ use statements::{MAX_SESSIONS, Statement};
 use std::alloc::Global;
 use std::marker::Model;
 use step_bounds::shown_tables_are_bounded;
-use store_images::a_step_stops_whole;
 use store_layout::Layout;
 use store_opening::StartFault;
 use store_parts::{Parts, Step, StoreFault, fault_of, few_locks_are_held};
-use store_starts::start_parts;
+use store_starts::{a_step_stops_whole, start_parts};
 
 /// A store of sessions over pages on a disk.
 #[derive(Drop)]

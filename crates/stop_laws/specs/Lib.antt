@@ -1,3 +1,4 @@
 pub mod FoundTable
 pub mod FoundLaws
 pub mod StopLaws
+pub mod Passes

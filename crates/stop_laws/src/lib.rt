@@ -1,7 +1,7 @@
 //! What a stop leaves of the table. The table that pages show when nobody is at work is exactly the rows that a commit put and no
 //! commit deleted (specs/FoundTable.antt). Here stands which table each image of a disk opens to, at every moment of a store's calls:
 //! the one of before, until a commit is sure. Each law is a function that does no work: its contract is the law, and whoever calls it
-//! may use it. It stands on transactions, tx_table and logged_pages; the laws of a whole store's images (store_images) stand on it.
+//! may use it. It stands on transactions, tx_table and logged_pages; the laws of a whole store's images (store_starts) stand on it.
 #![tactic(auto)]
 
 ghost use Rattle.stop_laws.specs.FoundLaws.{CommitFindsEither, FailedCommitFindsOld, FoundTableIsShown, OneTableIsFound, OnlyCommitsChangeTable, OtherRequestsLeaveTable, ShownTableIsFound};

@@ -29,9 +29,9 @@ use Rattle.line_texts.specs.Place.{Place, database_at}
 use Rattle.line_texts.specs.Starts.{IsOpening}
 use Rattle.store_parts.specs.declared.parts.Parts.{Parts}
 use Rattle.store_parts.specs.StoreStates.{shown_of, store_of}
-use Rattle.store_images.specs.ImageLaws.{ImageIsShown, IsOpenedStore}
-use Rattle.store_images.specs.StoreImage.{IsStoreImage, database_with}
-use Rattle.store_images.specs.StopRule.{AllHaveTable, IsImageWith}
+use Rattle.store_starts.specs.ImageLaws.{ImageIsShown, IsOpenedStore}
+use Rattle.store_starts.specs.StoreImage.{IsStoreImage, database_with}
+use Rattle.store_starts.specs.StopRule.{AllHaveTable, IsImageWith}
 use Rattle.store_starts.specs.OpenedParts.{AreOpened, IsRefused}
 use Rattle.store_starts.specs.Started.{ImagesStay, OpensTable, start_fault}
 

@@ -1,2 +1,6 @@
+pub mod StoreImage
+pub mod Stops
+pub mod ImageLaws
+pub mod StopRule
 pub mod OpenedParts
 pub mod Started

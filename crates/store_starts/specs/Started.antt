@@ -16,8 +16,8 @@ use Rattle.line_texts.specs.Place.{Place}
 use Rattle.line_texts.specs.Starts.{IsOpening}
 use Rattle.store_parts.specs.ShowsPlace.{ShowsPlace}
 use Rattle.store_parts.specs.StoreStates.{StoreState}
-use Rattle.store_images.specs.StoreImage.{IsStoreImage, database_with}
-use Rattle.store_images.specs.StopRule.{AllHaveTable, IsImageWith}
+use Rattle.store_starts.specs.StoreImage.{IsStoreImage, database_with}
+use Rattle.store_starts.specs.StopRule.{AllHaveTable, IsImageWith}
 
 -- Where the disk tells its contents, and they open to pages, these are those of a store with some table: so it is of each image that a stop left. Bytes that
 -- don't open are any.

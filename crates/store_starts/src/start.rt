@@ -13,13 +13,13 @@ ghost use Rattle.store_parts.specs.StoreStates.{store_of};
 ghost use Rattle.store_starts.specs.OpenedParts.{AreOpened, ShowsStart};
 ghost use Rattle.store_starts.specs.Started.{ImagesStay, IsOfStart, OpensTable, start_fault};
 
+use crate::images::an_image_is_shown;
 use crate::parts::open_parts;
 use control_page::one_layout;
 use disk_trait::Disk;
 use logged_pages::PageStore;
 use page_store::{MachineFault, StoreError};
 use std::alloc::Global;
-use store_images::an_image_is_shown;
 use store_opening::{StartFault, an_image_opens_to_one_map};
 use store_parts::Parts;
 

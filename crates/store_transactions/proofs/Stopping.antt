@@ -18,7 +18,8 @@ use Rattle.store_parts.specs.declared.faults.StoreFault.TheVariants as stops
 use Rattle.store_parts.specs.declared.hand.Hand.{Hand}
 use Rattle.store_parts.specs.declared.hand.Stepped.TheVariants as stepped
 use Rattle.store_parts.specs.StoreFaults.{fault_of}
-use Rattle.store_transactions.specs.Stops.{IsSureThen, PassesCommit, PassesNothing}
+use Rattle.stop_laws.specs.Passes.{PassesCommit, PassesNothing}
+use Rattle.store_transactions.specs.Stops.{IsSureThen}
 
 module _ {D : Type 0} (told : D → Told) (pages : View D) (stays : Survives told (λ pages. ⊥) pages pages) where
   -- where no call is made

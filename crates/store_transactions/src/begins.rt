@@ -5,7 +5,7 @@ ghost use Rattle.statements.specs.declared.limits.TheConstants.{MAX_ENTRIES};
 ghost use Rattle.tx_table.specs.Statuses.{number_limit};
 ghost use Rattle.store_parts.specs.StepAnswers.{HasCause};
 ghost use Rattle.store_parts.specs.Stepping.{IsFit, IsShown, LeavesTheOthers, MakesItsStep, StaysFit, StaysUndone};
-ghost use Rattle.store_transactions.specs.Stops.{PassesNothing};
+ghost use Rattle.stop_laws.specs.Passes.{PassesNothing};
 
 use crate::laws::laws_of_transactions;
 use block_model::{Name, Refusal, Reply, Request, Tag};

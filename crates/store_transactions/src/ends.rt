@@ -7,7 +7,8 @@ ghost use Rattle.transactions.specs.TransactionsState.{OfOpen};
 ghost use Rattle.store_parts.specs.Shares.{open_share};
 ghost use Rattle.store_parts.specs.StepAnswers.{HasCause};
 ghost use Rattle.store_parts.specs.Stepping.{IsFit, IsShown, LeavesTheOthers, MakesItsStep, StaysFit, StaysUndone};
-ghost use Rattle.store_transactions.specs.Stops.{IsSureThen, PassesCommit, PassesNothing};
+ghost use Rattle.stop_laws.specs.Passes.{PassesCommit, PassesNothing};
+ghost use Rattle.store_transactions.specs.Stops.{IsSureThen};
 
 use crate::laws::laws_of_transactions;
 use block_model::{Reply, Request, Tag};

@@ -1,3 +1,8 @@
+mod Fronts
+pub mod Oldest
+mod Dead
+mod Wanted
+mod Watching
 pub mod ExplainTurns
 pub mod ExplainShown
 pub mod Explained
@@ -19,3 +24,24 @@ pub mod WorkAsked
 pub mod WorkAtOnce
 pub mod WorkBegins
 pub mod WorkParts
+pub mod CompleteAt
+pub mod CompletePoints
+pub mod CompleteSteps
+pub mod CompleteStays
+pub mod CompleteParts
+pub mod Summaries
+pub mod CompleteTurns
+pub mod SummarySteps
+pub mod IndexEnds
+pub mod CompleteFull
+pub mod Thinned
+pub mod DroppedRows
+pub mod DeadUnseen
+pub mod CleaningAt
+pub mod CleaningSteps
+pub mod CleaningMade
+pub mod StillShown
+pub mod CleaningRights
+pub mod CleaningParts
+pub mod CleaningDone
+pub mod CleaningWaits

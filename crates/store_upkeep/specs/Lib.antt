@@ -1,2 +1,5 @@
+pub mod DeadToAll
+pub mod Watched
 pub mod Askers
 pub mod FirstRequests
+pub mod Cleaned

@@ -3,7 +3,7 @@ use Rattle.std.proofs.lemmas.Result.{err_from_is_err_and}
 use Rattle.fresh_store.specs.FreshPages.{fresh_pages}
 use Rattle.store_layout.specs.DiskLayout.{DiskLayout}
 use Rattle.store_opening.specs.declared.fault.StartFault.{StartFault}
-use Rattle.store_images.specs.ImageLaws.{ImageIsShown}
+use Rattle.store_starts.specs.ImageLaws.{ImageIsShown}
 use Rattle.store_parts.specs.declared.parts.Parts.{Parts}
 use Rattle.store_parts.specs.StoreStates.{store_of}
 use Rattle.store_starts.specs.OpenedParts.{ShowsStart}

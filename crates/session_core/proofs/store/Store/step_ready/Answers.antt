@@ -8,7 +8,7 @@ use Rattle.store_parts.specs.StepIs.{answer_of, hand_after}
 use Rattle.store_parts.specs.StoreStates.{StoreState, hand_at, hand_in, store_of, with_hand}
 use Rattle.session_core.specs.declared.sessions.Session.{Session}
 use Rattle.session_core.specs.SessionLists.{hands_of, names_of, spares_of}
-use Rattle.store_images.specs.Stops.{StopsSo}
+use Rattle.store_starts.specs.Stops.{StopsSo}
 use Rattle.session_core.proofs.Kept.{few_each, kept_as, none_beyond, session_below}
 use Rattle.session_core.proofs.Lists.{hand_here, hands_changed, in_list, names_kept, spare_here, spares_changed}
 use Rattle.session_core.proofs.Stepping.{is_step, kept_behind, step_as}

@@ -1,5 +1,0 @@
-mod Fronts
-pub mod Oldest
-mod Dead
-mod Wanted
-mod Watching

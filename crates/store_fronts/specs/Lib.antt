@@ -1,2 +1,0 @@
-pub mod DeadToAll
-pub mod Watched

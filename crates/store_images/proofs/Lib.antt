@@ -1,9 +1,0 @@
-pub mod PutRows
-pub mod Resting
-pub mod Counts
-pub mod Order
-pub mod Images
-pub mod Opening
-pub mod NewImage
-pub mod Steps
-pub mod Whole

@@ -1,4 +1,0 @@
-pub mod StoreImage
-pub mod Stops
-pub mod ImageLaws
-pub mod StopRule
