@@ -19,8 +19,8 @@ use Rattle.brin_app.specs.CrashRule.{HasTableOf, IsFurther}
 use Rattle.brin_app.specs.ScriptOutput.{EachImageHas, IsUnmade, IsUnopened, Stops, StopsOfNewRun, StopsOfRun, exit_status}
 
 -- the whole demo was said from the one place to the other, and answered with these counts
-abbrev pub IsSaid : DiskLayout → (seed rows : ℕ) → (start after : Place) → Counts → Type 0
-IsSaid layout seed rows start after counts = HasPlayed (IsLineAnswered layout.schema) seed rows start after counts
+abbrev pub IsPlayed : DiskLayout → (seed rows : ℕ) → (start after : Place) → Counts → Type 0
+IsPlayed layout seed rows start after counts = HasPlayed (IsLineAnswered layout.schema) seed rows start after counts
 
 -- its first lines were, and the one behind them wasn't answered
 abbrev pub IsLeftOff : DiskLayout → (seed rows : ℕ) → (start after : Place) → AnswerFault → Type 0
@@ -33,10 +33,10 @@ summary_at counts after = summary_text counts (after.tables 0).blocks
 -- By how the demo ends. What is written is its summary; where the sink failed a front of it; and nothing where a line wasn't answered, or memory was
 -- short for the summary.
 abbrev pub DemoWrites : RunEnd → DiskLayout → (seed rows : ℕ) → (start after : Place) → (taken taken' : Option (List ℕ)) → Type 0
-DemoWrites (Ok done) layout seed rows start after taken taken' = (counts : Counts) × IsSaid layout seed rows start after counts × Appends taken taken' (summary_at counts after)
-DemoWrites (Err faults.Write) layout seed rows start after taken taken' = (counts : Counts) × IsSaid layout seed rows start after counts × AppendsPart taken taken' (summary_at counts after)
+DemoWrites (Ok done) layout seed rows start after taken taken' = (counts : Counts) × IsPlayed layout seed rows start after counts × Appends taken taken' (summary_at counts after)
+DemoWrites (Err faults.Write) layout seed rows start after taken taken' = (counts : Counts) × IsPlayed layout seed rows start after counts × AppendsPart taken taken' (summary_at counts after)
 DemoWrites (Err (faults.Unanswered fault)) layout seed rows start after taken taken' =
-    (taken' ≡ taken) × (IsLeftOff layout seed rows start after fault ⊎ ((fault ≡ Memory) × (counts : Counts) × IsSaid layout seed rows start after counts))
+    (taken' ≡ taken) × (IsLeftOff layout seed rows start after fault ⊎ ((fault ≡ Memory) × (counts : Counts) × IsPlayed layout seed rows start after counts))
 DemoWrites end layout seed rows start after taken taken' = ⊥
 
 -- The demo was run from the place, by the crash rule of scripts.

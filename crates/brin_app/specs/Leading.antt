@@ -40,7 +40,7 @@ HasStopCause told s s' Damaged = Tells told s.pages → s.pages.failed ≡ None 
 HasStopCause told s s' fault = Unit {0}
 
 -- a place that the store showed leads so to the place at which the fault came
-pub record StopsAt {D : Type 0} (told : D → Told) (s s' : StoreState D) (fault : AnswerFault) (P : Place → Place → Type 0) (p : Place) : Type 0 where
+pub record StopsWith {D : Type 0} (told : D → Told) (s s' : StoreState D) (fault : AnswerFault) (P : Place → Place → Type 0) (p : Place) : Type 0 where
   pub place : Place
   pub so : P p place
   pub further : IsFurther p place
@@ -50,4 +50,4 @@ pub record StopsAt {D : Type 0} (told : D → Told) (s s' : StoreState D) (fault
 pub record PlacesStop {D : Type 0} (told : D → Told) (s s' : StoreState D) (fault : AnswerFault) (P : Place → Place → Type 0) : Type 0 where
   pub leaves : Leaves told s.pages s'.pages
   pub cause : HasStopCause told s s' fault
-  pub places : Tells told s.pages → s.pages.failed ≡ None → (p : Place) → ShowsPlace s p → StopsAt told s s' fault P p
+  pub places : Tells told s.pages → s.pages.failed ≡ None → (p : Place) → ShowsPlace s p → StopsWith told s s' fault P p

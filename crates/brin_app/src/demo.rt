@@ -35,7 +35,7 @@ const DEMO_TABLE: u8 = 0;
 
 /// The seed of a demo, and how many rows it has.
 #[derive(Clone, Copy, Debug)]
-pub(crate) struct Numbers {
+pub(crate) struct DemoNumbers {
     pub seed: u32,
     pub rows: u32,
 }
@@ -44,7 +44,7 @@ pub(crate) struct Numbers {
 pub(crate) fn run_demo<D: Disk + Drop, K: Sink>(
     alloc: Global,
     layout: &Layout,
-    numbers: Numbers,
+    numbers: DemoNumbers,
     mut disk: D,
     sink: &mut K,
 ) -> (u8, D)
@@ -66,7 +66,7 @@ pub(crate) fn run_demo<D: Disk + Drop, K: Sink>(
 fn demo_on<D: Disk + Drop, K: Sink>(
     alloc: Global,
     disk: D,
-    numbers: Numbers,
+    numbers: DemoNumbers,
     sink: &mut K,
 ) -> (u8, D)
     requires image { HoldsImage (D.told disk) }
@@ -85,7 +85,7 @@ fn demo_on<D: Disk + Drop, K: Sink>(
 fn demo_over<D: Disk + Drop, K: Sink>(
     alloc: Global,
     store: Store<D>,
-    numbers: Numbers,
+    numbers: DemoNumbers,
     sink: &mut K,
 ) -> (u8, D)
     requires { AreDemoNumbers numbers.seed numbers.rows }
@@ -106,7 +106,7 @@ fn demo_over<D: Disk + Drop, K: Sink>(
 /// Says the demo to the sessions, and writes what it sums up.
 fn sum_up<D: Disk + Drop, K: Sink>(
     sessions: &mut Sessions<D>,
-    numbers: Numbers,
+    numbers: DemoNumbers,
     sink: &mut K,
 ) -> Result<(), RunFault>
     requires { AreDemoNumbers numbers.seed numbers.rows }

@@ -24,7 +24,7 @@ ghost use Rattle.brin_app.specs.declared.top.Task.{Task};
 ghost use Rattle.brin_app.specs.declared.top.Task.TheVariants as tasks;
 ghost use Rattle.brin_app.specs.TaskOutputs.{IsOutputOf};
 
-use crate::demo::{Numbers, run_demo};
+use crate::demo::{DemoNumbers, run_demo};
 use crate::laws::a_stored_table_is_not_damaged;
 use crate::sessions::Sessions;
 use crate::status::{
@@ -245,7 +245,7 @@ fn perform<D: Disk + Drop, S: Source, K: Sink>(
         Task::Run(layout) => run_new(alloc, &layout, disk, source, sink),
         Task::RunStored => run_stored(alloc, disk, source, sink),
         Task::Demo { layout, seed, rows } => {
-            run_demo(alloc, &layout, Numbers { seed, rows }, disk, sink)
+            run_demo(alloc, &layout, DemoNumbers { seed, rows }, disk, sink)
         }
     }
 }

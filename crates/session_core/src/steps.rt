@@ -14,10 +14,9 @@ ghost use Rattle.store_starts.specs.Stops.{StopsSo};
 use brin_insert::Insert;
 use disk_trait::Disk;
 use store_inserts::{insert_on, put_row};
-use store_marks::mark;
 use store_parts::{Hand, Parts, Step, Stepped, StoreFault};
 use store_scans::{begin_delete, begin_select, delete_on, select_on};
-use store_transactions::{begin, commit, roll_back};
+use store_transactions::{begin, commit, mark, roll_back};
 use store_upkeep::{
     begin_work, clean_on, complete_on, desummarise_on, explain_on, summarise_on, work_on,
 };

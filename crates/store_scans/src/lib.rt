@@ -1,6 +1,6 @@
 //! The steps of a select, and of the scan of a delete, over the parts of a store (store_parts): the extent of the table, the ranges of its indexes,
 //! and the candidate blocks. With its last step a select tells the rows that it found, in order of their ids, and its look is entered; a delete goes
-//! on to its marks (store_marks), or is done where it found none. No step waits, none changes a page, and memory is taken before anything is
+//! on to its marks (store_transactions), or is done where it found none. No step waits, none changes a page, and memory is taken before anything is
 //! entered. Each leads from every place that was shown before to one that is shown after it, by the definition's step. It stands on store_parts,
 //! on the machine of brin_scan, and on transactions.
 #![tactic(auto)]

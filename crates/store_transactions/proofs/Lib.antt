@@ -4,3 +4,16 @@ pub mod Rooms
 pub mod Beginning
 pub mod Undoing
 pub mod Stopping
+pub mod Copies
+pub mod Entries
+pub mod Hits
+pub mod Turns
+pub mod Definition
+pub mod Standing
+pub mod Refusing
+pub mod Making
+pub mod Frames
+pub mod Finals
+pub mod Lacking
+pub mod Behind
+pub mod Judging

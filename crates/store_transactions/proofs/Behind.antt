@@ -23,8 +23,8 @@ use Rattle.store_parts.specs.Stepping.{IsFit, IsShown}
 use Rattle.store_parts.specs.StoreStates.{shown_of, store_of}
 use Rattle.store_parts.specs.UndoneLaws.{FitsParts, StepsSo}
 use Rattle.store_parts.proofs.Undone.{fit_of_parts, fit_of_stores, steps_behind}
-use Rattle.store_marks.specs.HitConflicts.{HitConflicts}
-use Rattle.store_marks.proofs.Standing.{MarksAt, marks_at, under_way}
+use Rattle.store_transactions.specs.HitConflicts.{HitConflicts}
+use Rattle.store_transactions.proofs.Standing.{MarksAt, marks_at, under_way}
 
 -- the transactions stay over the pages
 pub over_still : {D : Type 0} (told : D → Told) (tx : TxState) (old mid : View D) → IsOver told tx old → Keeps told old mid → IsOver told tx mid

@@ -18,8 +18,8 @@ use Rattle.statements.specs.declared.statement.Statement.TheVariants as statemen
 use Rattle.statements.specs.StatementRequests.{deleted_reply, look_entry, mark_entry, marks_reply, request_entry}
 use Rattle.line_texts.specs.Requests.{Course, MakesAll, MakesMark, Enters, First, Further, NoneLeft, OneMore, entered, next_request, row_to_mark}
 use Rattle.status_fronts.specs.StepLaws.{IsWithin}
-use Rattle.store_marks.specs.Looks.{look_entries}
-use Rattle.store_marks.proofs.Copies.{nil-cons, same_head, same_tail}
+use Rattle.store_transactions.specs.Looks.{look_entries}
+use Rattle.store_transactions.proofs.Copies.{nil-cons, same_head, same_tail}
 
 -- ---- the row to mark next, behind so many marks
 

@@ -14,7 +14,7 @@ ghost use Rattle.row_versions.specs.StoredVersions.{transaction_of};
 ghost use Rattle.snapshot_core.specs.declared.statuses.Status.{Status as AnyStatus};
 ghost use Rattle.tx_table.specs.Durable.{IsBefore};
 ghost use Rattle.transactions.specs.TransactionsState.{OfOpen};
-ghost use Rattle.store_marks.specs.HitConflicts.{HitConflicts};
+ghost use Rattle.store_transactions.specs.HitConflicts.{HitConflicts};
 
 use disk_trait::Disk;
 use heap_rows::deleter_of;

@@ -79,13 +79,13 @@ use Rattle.store_parts.proofs.Places.{table_step_is_shown}
 use Rattle.store_parts.proofs.Requests.{copies_stay}
 use Rattle.store_parts.proofs.Stores.{hand_changes}
 use Rattle.store_parts.proofs.Tables.{own_table_goes_on, same_contents, shown_alike}
-use Rattle.store_marks.specs.HitConflicts.{HitConflicts}
-use Rattle.store_marks.specs.Looks.{look_entries}
-use Rattle.store_marks.proofs.Definition.{answers_are, course, course_is, ends, goes_on}
-use Rattle.store_marks.proofs.Entries.{all_within, entries_of, legal_mark}
-use Rattle.store_marks.proofs.Hits.{first_of, hits_from}
-use Rattle.store_marks.proofs.Turns.{IsMarkTurn, at_task, left_at, mark_turns, task_then}
-use Rattle.store_marks.proofs.Standing.{MarksAt, entries_are, is_first, marks_at}
+use Rattle.store_transactions.specs.HitConflicts.{HitConflicts}
+use Rattle.store_transactions.specs.Looks.{look_entries}
+use Rattle.store_transactions.proofs.Definition.{answers_are, course, course_is, ends, goes_on}
+use Rattle.store_transactions.proofs.Entries.{all_within, entries_of, legal_mark}
+use Rattle.store_transactions.proofs.Hits.{first_of, hits_from}
+use Rattle.store_transactions.proofs.Turns.{IsMarkTurn, at_task, left_at, mark_turns, task_then}
+use Rattle.store_transactions.proofs.Standing.{MarksAt, entries_are, is_first, marks_at}
 
 -- the laws of transactions that it takes
 pub record MarkLaws : Type 0 where

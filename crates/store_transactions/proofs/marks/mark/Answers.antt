@@ -10,13 +10,13 @@ use Rattle.store_parts.specs.declared.hand.Hit.{Hit}
 use Rattle.store_parts.specs.declared.parts.Parts.{Parts}
 use Rattle.store_parts.specs.StoreFaults.{fault_of}
 use Rattle.store_parts.proofs.Undone.{fit_of_parts}
-use Rattle.store_marks.proofs.Behind.{behind, in_use, over_still, still_in_use}
-use Rattle.store_marks.proofs.Undoing.{refused_by}
-use Rattle.store_marks.proofs.marks.mark.Goals as goal
+use Rattle.store_transactions.proofs.Behind.{behind, in_use, over_still, still_in_use}
+use Rattle.store_transactions.proofs.Undoing.{refused_by}
+use Rattle.store_transactions.proofs.marks.mark.Goals as goal
 
 pub hit_conflicts-requires-clause-used : goal.hit_conflicts-requires-clause-used
 hit_conflicts-requires-clause-used g c = λ tells.
-    in_use g.D.Disk.told c.laws_of_transactions.ensures.sessions c.laws_of_transactions.ensures.copies c.args.parts.now c.args.session c.args.marking c.next_hit-hit.result c.requires.fit c.requires.shown c.in-Ok.ensures.outcome.0
+    in_use g.D.Disk.told c.laws_of_marks.ensures.sessions c.laws_of_marks.ensures.copies c.args.parts.now c.args.session c.args.marking c.next_hit-hit.result c.requires.fit c.requires.shown c.in-Ok.ensures.outcome.0
     c.next_hit-hit.ensures tells
 
 pub mark_hit-requires-clause-used : goal.mark_hit-requires-clause-used
@@ -28,7 +28,7 @@ mark_hit-requires-clause-used g c = λ tells.
     let before = sym keeps.leaves.tells ∙ tells in
     subst (λ (x : Option Hit). IfSome x (λ (hit : Hit). IsInUse pages.layout pages.pages c.args.marking.query.table hit.spot)) (sym c.next_hit-hit.ensures)
     (still_in_use told old pages c.args.session c.args.marking keeps c.args.marking.query.table c.next_hit-hit.result
-    (in_use told c.laws_of_transactions.ensures.sessions c.laws_of_transactions.ensures.copies old c.args.session c.args.marking c.next_hit-hit.result c.requires.fit c.requires.shown c.in-Ok.ensures.outcome.0 c.next_hit-hit.ensures before)
+    (in_use told c.laws_of_marks.ensures.sessions c.laws_of_marks.ensures.copies old c.args.session c.args.marking c.next_hit-hit.result c.requires.fit c.requires.shown c.in-Ok.ensures.outcome.0 c.next_hit-hit.ensures before)
     before)
 
 pub returns-in-Ok-true : goal.returns-in-Ok-true

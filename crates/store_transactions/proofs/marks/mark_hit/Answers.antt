@@ -6,17 +6,17 @@ use Rattle.store_parts.specs.declared.hand.Stepped.TheVariants as stepped
 use Rattle.store_parts.specs.declared.parts.Parts.{Parts}
 use Rattle.store_parts.specs.UndoneLaws.{StepsSo}
 use Rattle.store_parts.proofs.Undone.{fit_of_parts}
-use Rattle.store_marks.proofs.Finals.{marks_so}
-use Rattle.store_marks.proofs.Frames.{over_marked}
-use Rattle.store_marks.proofs.Lacking.{more_entries}
-use Rattle.store_marks.proofs.Undoing.{refused_by}
-use Rattle.store_marks.proofs.marks.mark_hit.Goals as goal
+use Rattle.store_transactions.proofs.Finals.{marks_so}
+use Rattle.store_transactions.proofs.Frames.{over_marked}
+use Rattle.store_transactions.proofs.Lacking.{more_entries}
+use Rattle.store_transactions.proofs.Undoing.{refused_by}
+use Rattle.store_transactions.proofs.marks.mark_hit.Goals as goal
 
 pub returns-in-Ok : goal.returns-in-Ok
 returns-in-Ok g c =
     let told = g.D.Disk.told in
     let old : Parts _ = c.args.parts.now in
-    let laws = c.laws_of_transactions.ensures in
+    let laws = c.laws_of_marks.ensures in
     let r : StepsSo told old (record old { pages = c.mark.new.pages; journal = c.enter.new.self }) c.args.session (hands.Marks c.args.marking) c.behind.result =
     marks_so told old c.args.session c.args.marking c.next_hit-hit.result c.requires.fit c.requires.ready c.next_hit-hit.ensures
     (record { sessions = laws.sessions; copies = laws.copies; mark = laws.mark; unseen = laws.unseen }) c.mark.new.pages c.enter_look.new.journal c.enter.new.self c.open.result.now.t c.requires.free

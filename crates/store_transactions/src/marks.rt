@@ -8,14 +8,14 @@ ghost use Rattle.row_versions.specs.StoredVersions.{transaction_of};
 ghost use Rattle.statements.specs.declared.limits.TheConstants.{MAX_ENTRIES};
 ghost use Rattle.tx_table.specs.Durable.{IsBefore};
 ghost use Rattle.transactions.specs.TransactionsState.{OfOpen};
-ghost use Rattle.store_marks.specs.HitConflicts.{HitConflicts};
-ghost use Rattle.store_marks.specs.Looks.{look_entries, stepped_behind};
+ghost use Rattle.store_transactions.specs.HitConflicts.{HitConflicts};
+ghost use Rattle.store_transactions.specs.Looks.{look_entries, stepped_behind};
 ghost use Rattle.store_parts.specs.Shares.{look_share};
 ghost use Rattle.store_parts.specs.StepAnswers.{HasCause};
 ghost use Rattle.store_parts.specs.Stepping.{IsFit, IsShown, LeavesTheOthers, MakesItsStep, StaysFit, StaysUndone};
 
 use crate::conflicts::hit_conflicts;
-use crate::laws::laws_of_transactions;
+use crate::laws::laws_of_marks;
 use block_model::{Point, Query, Refusal, Reply, Request, Tag};
 use disk_trait::Disk;
 use store_parts::{Hand, Hit, Journal, Marking, Parts, Stepped, fault_of, spent};
@@ -33,7 +33,7 @@ pub fn mark<D: Disk + Drop>(parts: &mut Parts<D>, session: u32, marking: Marking
     // At every moment of the step an image opens to what one did before it, or to the pages as they were.
     ensures survives { Survives D.told (IsBefore parts.old.pages) parts.old.pages parts.new.pages }
 {
-    laws_of_transactions();
+    laws_of_marks();
     match parts.pages.ready() {
         Ok(()) => {}
         Err(error) => {
@@ -112,7 +112,7 @@ fn no_room<D: Disk + Drop>(parts: &Parts<D>, session: u32, marking: Marking) -> 
     ensures stays { StaysUndone D.told parts.now parts.now session (Hand.Marks marking) result }
     ensures cause { HasCause D.told parts.now.pages parts.now.pages result }
 {
-    laws_of_transactions();
+    laws_of_marks();
     Stepped::Undone {
         fault: spent(&parts.journal),
         hand: Hand::Marks(marking),
@@ -132,7 +132,7 @@ fn refuse<D: Disk + Drop>(parts: &mut Parts<D>, session: u32, marking: Marking) 
     ensures cause { HasCause D.told parts.old.pages parts.new.pages result }
     ensures pages { parts.new.pages ≡ parts.old.pages }
 {
-    laws_of_transactions();
+    laws_of_marks();
     let hit = next_hit(&marking);
     let left = hits_left(&marking);
     let table = marking.query.table;
@@ -159,7 +159,7 @@ fn mark_hit<D: Disk + Drop>(parts: &mut Parts<D>, session: u32, marking: Marking
     ensures cause { HasCause D.told parts.old.pages parts.new.pages result }
     ensures survives { Survives D.told (IsBefore parts.old.pages) parts.old.pages parts.new.pages }
 {
-    laws_of_transactions();
+    laws_of_marks();
     let hit = next_hit(&marking);
     let table = marking.query.table;
     let own = parts.transactions.open(session).t;

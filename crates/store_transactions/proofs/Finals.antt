@@ -32,12 +32,12 @@ use Rattle.store_parts.specs.Shares.{look_share, open_share, share_of}
 use Rattle.store_parts.specs.Stepping.{IsFit}
 use Rattle.store_parts.specs.UndoneLaws.{FitsParts, StepsSo}
 use Rattle.store_parts.proofs.Undone.{fit_of_parts}
-use Rattle.store_marks.specs.HitConflicts.{HitConflicts}
-use Rattle.store_marks.specs.Looks.{look_entries, stepped_behind}
-use Rattle.store_marks.proofs.Frames.{conflict_promised, done_so, mark_promised, marking_fits, moved_so, over_marked}
-use Rattle.store_marks.proofs.Making.{MarkLaws, moves, replies_so}
-use Rattle.store_marks.proofs.Refusing.{ConflictLaws, meets_conflict}
-use Rattle.store_marks.proofs.Standing.{under_way}
+use Rattle.store_transactions.specs.HitConflicts.{HitConflicts}
+use Rattle.store_transactions.specs.Looks.{look_entries, stepped_behind}
+use Rattle.store_transactions.proofs.Frames.{conflict_promised, done_so, mark_promised, marking_fits, moved_so, over_marked}
+use Rattle.store_transactions.proofs.Making.{MarkLaws, moves, replies_so}
+use Rattle.store_transactions.proofs.Refusing.{ConflictLaws, meets_conflict}
+use Rattle.store_transactions.proofs.Standing.{under_way}
 
 -- the session has the failed one later
 failed_here : (opens : List (Option Open)) (n : ℕ) (o p : Open) → transaction_of opens n ≡ Some o → transaction_of (set opens n (Some p)) n ≡ Some p

@@ -24,8 +24,8 @@ use Rattle.store_parts.specs.PlacesAfter.{TurnsIn, place_after, refusal_in}
 use Rattle.store_parts.specs.RefusalLaws.{refused_in}
 use Rattle.store_parts.proofs.Refusals.{mark_is_refused}
 use Rattle.store_parts.proofs.Steps.{turn_conflicts, turn_goes_on, turn_replies}
-use Rattle.store_marks.proofs.Entries.{HasMarked, IsMarked, all_made, deleted, drop_next, entries_of, met_conflict, none_behind_it, none_left, one_left, one_mark, one_marked_more}
-use Rattle.store_marks.proofs.Turns.{IsMarkTurn, at_task, left_at, mark_turns, task_then}
+use Rattle.store_transactions.proofs.Entries.{HasMarked, IsMarked, all_made, deleted, drop_next, entries_of, met_conflict, none_behind_it, none_left, one_left, one_mark, one_marked_more}
+use Rattle.store_transactions.proofs.Turns.{IsMarkTurn, at_task, left_at, mark_turns, task_then}
 
 -- where a delete stands before a mark: its query's rows, of which so many are marked, and this one is next
 pub record StandsAtMark (p : Place) (n : ℕ) (query : Query) (answers : List Answer) (first : Bool) (k : ℕ) : Type 0 where

@@ -20,10 +20,10 @@ use Rattle.store_parts.specs.ShowsPlace.{ShowsPlace}
 use Rattle.store_parts.specs.Stepping.{IsFit}
 use Rattle.store_parts.specs.StoreStates.{hand_in, shown_of, store_of}
 use Rattle.store_parts.proofs.Undone.{fit_of_parts}
-use Rattle.store_marks.specs.Looks.{look_entries}
-use Rattle.store_marks.proofs.Definition.{lacks_room}
-use Rattle.store_marks.proofs.Entries.{entries_of}
-use Rattle.store_marks.proofs.Standing.{MarksAt, count_entries, is_first, marks_at, under_way}
+use Rattle.store_transactions.specs.Looks.{look_entries}
+use Rattle.store_transactions.proofs.Definition.{lacks_room}
+use Rattle.store_transactions.proofs.Entries.{entries_of}
+use Rattle.store_transactions.proofs.Standing.{MarksAt, count_entries, is_first, marks_at, under_way}
 
 -- below its length a list has an element
 some_at : (hits : List Hit) (k : ℕ) → k < length hits → (hit : Hit) × (slice_get hits k ≡ Some hit)

@@ -33,11 +33,11 @@ use Rattle.store_parts.specs.HandsInTables.{IsMarkingAt, IsMarkingBy, IsTaskOf}
 use Rattle.store_parts.specs.Shares.{look_share}
 use Rattle.store_parts.specs.ShowsPlace.{IsLeftToMark, IsPlaceOf, ShowsTable}
 use Rattle.store_parts.specs.StoreStates.{ShownStore, hand_in}
-use Rattle.store_marks.specs.Looks.{look_entries}
-use Rattle.store_marks.proofs.Copies.{first_in_copy, others_found}
-use Rattle.store_marks.proofs.Definition.{StandsAtMark}
-use Rattle.store_marks.proofs.Entries.{HasMarked, entries_of}
-use Rattle.store_marks.proofs.Hits.{IsFirstOf, first_of, hits_from, rows_from}
+use Rattle.store_transactions.specs.Looks.{look_entries}
+use Rattle.store_transactions.proofs.Copies.{first_in_copy, others_found}
+use Rattle.store_transactions.proofs.Definition.{StandsAtMark}
+use Rattle.store_transactions.proofs.Entries.{HasMarked, entries_of}
+use Rattle.store_transactions.proofs.Hits.{IsFirstOf, first_of, hits_from, rows_from}
 
 -- whether the look is still to be entered
 abbrev pub is_first : Option Query → Bool

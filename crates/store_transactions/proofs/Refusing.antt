@@ -58,11 +58,11 @@ use Rattle.store_parts.proofs.Refusals.{mark_is_refused}
 use Rattle.store_parts.proofs.Requests.{copies_stay}
 use Rattle.store_parts.proofs.Stores.{hand_changes}
 use Rattle.store_parts.proofs.Tables.{own_table_goes_on}
-use Rattle.store_marks.specs.HitConflicts.{HitConflicts}
-use Rattle.store_marks.specs.Looks.{look_entries}
-use Rattle.store_marks.proofs.Definition.{conflicts, course_met, course_met_is}
-use Rattle.store_marks.proofs.Entries.{all_within, entries_of, legal_mark}
-use Rattle.store_marks.proofs.Standing.{MarksAt, entries_are, is_first, marks_at}
+use Rattle.store_transactions.specs.HitConflicts.{HitConflicts}
+use Rattle.store_transactions.specs.Looks.{look_entries}
+use Rattle.store_transactions.proofs.Definition.{conflicts, course_met, course_met_is}
+use Rattle.store_transactions.proofs.Entries.{all_within, entries_of, legal_mark}
+use Rattle.store_transactions.proofs.Standing.{MarksAt, entries_are, is_first, marks_at}
 
 -- the laws of transactions that it takes
 pub record ConflictLaws : Type 0 where

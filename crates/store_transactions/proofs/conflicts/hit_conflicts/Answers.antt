@@ -7,8 +7,8 @@ use Rattle.store_layout.specs.DiskLayout.{DiskLayout}
 use Rattle.tx_table.specs.Statuses.{HasStatuses, shown_status}
 use Rattle.tx_table.specs.TxState.{TxState}
 use Rattle.tx_table.proofs.Parts.{before_then}
-use Rattle.store_marks.proofs.Judging.{by_status}
-use Rattle.store_marks.proofs.conflicts.hit_conflicts.Goals as goal
+use Rattle.store_transactions.proofs.Judging.{by_status}
+use Rattle.store_transactions.proofs.conflicts.hit_conflicts.Goals as goal
 
 pub returns-in-Ok-status-clause-conflicts : goal.returns-in-Ok-status-clause-conflicts
 returns-in-Ok-status-clause-conflicts g c = λ o opened tells stored blocks row has blocks_has there its_id.

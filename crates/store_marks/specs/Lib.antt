@@ -1,2 +1,0 @@
-pub mod HitConflicts
-pub mod Looks
