@@ -175,6 +175,7 @@ module _ (one : HaveOneLayout) (law : AreNotDamaged) (layout : DiskLayout) (seed
     write_fault = λ e. absurd (omega (arith, six.0, e));
     disk_fault = λ _. six.1;
     no_store = λ e. absurd (omega (arith, six.0, e));
+    refused_disk = λ wrong. absurd (wrong six.2);
     damaged = λ e. absurd (omega (arith, six.0, e));
     no_usage = λ e. absurd (omega (arith, six.0, e));
     spent = λ tells e. absurd (omega (arith, six.0, e));
@@ -186,6 +187,7 @@ module _ (one : HaveOneLayout) (law : AreNotDamaged) (layout : DiskLayout) (seed
     write_fault = λ e. absurd (omega (arith, nine.0, e));
     disk_fault = λ e. absurd (omega (arith, nine.0, e));
     no_store = λ _ tells. nine.1;
+    refused_disk = λ wrong. record { why = inr nine.0; disk = nine.2; idle = idle l k };
     damaged = λ e. absurd (omega (arith, nine.0, e));
     no_usage = λ e. absurd (omega (arith, nine.0, e));
     spent = λ tells e. absurd (omega (arith, nine.0, e));
@@ -264,6 +266,7 @@ module _ (one : HaveOneLayout) (law : AreNotDamaged) (layout : DiskLayout) (seed
             write_fault = sums.write_fault;
             disk_fault = rose;
             no_store = λ nine tells. absurd (sums.no_store nine (moments.tells_contents ∙ tells) layout (has_store mid layout initial_state.table (held mid layout (holds tells))));
+            refused_disk = λ wrong. absurd (wrong fit.0);
             damaged = no_damage_then;
             no_usage = sums.others.0;
             spent = λ tells eight. new_spent l (far tells l) eight;

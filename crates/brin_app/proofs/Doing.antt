@@ -1,5 +1,5 @@
 -- what is done for a task, by what is done with its disk
-use Rattle.std.proofs.Common.{◌≡◌, ◌≢◌, ℕ, ◌≤◌, List, [], take, Option, None, refl, sym, ap, ◌∙◌, subst, arith, ◌⊎◌, inl, inr}
+use Rattle.std.proofs.Common.{◌≡◌, ◌≢◌, ℕ, ◌≤◌, ◌<◌, List, [], length, take, Option, None, refl, sym, ap, ◌∙◌, subst, arith, ◌⊎◌, inl, inr}
 use Rattle.std.specs.Prelude.{IsTrue}
 use Rattle.block_model.specs.Causes.{Rose, rose_earlier}
 use Rattle.block_model.specs.DatabaseState.{DatabaseState, initial_state}
@@ -18,23 +18,24 @@ use Rattle.store_opening.specs.Damaged.{IsDamaged}
 use Rattle.store_opening.specs.Opens.{Opens, OpensAs}
 use Rattle.store_opening.specs.PageOrder.{AreInOrder}
 use Rattle.store_opening.specs.StartCauses.{HasStore, IsDamagedStore}
+use Rattle.store_opening.specs.Untouched.{IsUntouched}
 use Rattle.store_opening.specs.declared.fault.StartFault.{StartFault}
 use Rattle.store_opening.specs.declared.fault.StartFault.TheVariants as starts
 use Rattle.logged_pages.specs.Refused.{IsRefused}
-use Rattle.fresh_store.specs.FreshPages.{fresh_pages}
+use Rattle.fresh_store.specs.FreshPages.{IsOldOrFresh, fresh_pages}
 use Rattle.line_texts.specs.Place.{Place, database_at}
 use Rattle.line_texts.specs.Starts.{IsOpening, IsStart}
 use Rattle.store_parts.specs.ShowsPlace.{ShowsPlace}
-use Rattle.store_parts.specs.StoreStates.{StoreState}
+use Rattle.store_parts.specs.StoreStates.{StoreState, shown_of}
 use Rattle.store_starts.specs.StopRule.{AllHaveTable, IsImageWith}
-use Rattle.store_starts.specs.StoreImage.{IsStoreImage, database_with}
+use Rattle.store_starts.specs.StoreImage.{IsStoreImage, IsTableOn, database_with}
 use Rattle.store_starts.specs.OpenedParts.{ShowsStart}
 use Rattle.store_starts.specs.Started.{HoldsImage, ImagesStay, OpensTable}
 use Rattle.brin_app.specs.declared.top.Task.{Task}
 use Rattle.brin_app.specs.declared.top.Task.TheVariants.{Demo, Init, Run, RunStored}
 use Rattle.brin_app.specs.CrashRule.{IsOfStop}
 use Rattle.brin_app.specs.ScriptOutput.{EachImageHas, HoldsFresh, HoldsTable, IsFreshOutput, IsIdle, IsMade, IsOldOrEmpty, IsOldOrNone, IsScriptRun, IsUnopened, RunsThrough, StartsOver, StopsOfNewRun, StopsOfRun}
-use Rattle.brin_app.specs.StatusCauses.{HasSpentCauses, IsCompleteOf, IsDoneSo, IsSpentOf}
+use Rattle.brin_app.specs.StatusCauses.{HasSpentCauses, IsCompleteOf, IsDoneSo, IsRefusedSo, IsSpentOf}
 use Rattle.brin_app.specs.Statuses.{IsFit, IsUnfit, start_status}
 use Rattle.brin_app.specs.TaskOutputs.{IsOutputOf}
 use Rattle.brin_app.proofs.Crash.{image_as, run_of}
@@ -86,6 +87,7 @@ init_done layout status old new l k r w made (inl fit) = record {
   write_fault = λ e. absurd (omega (arith, fit.0, e));
   disk_fault = λ e. absurd (omega (arith, fit.0, e));
   no_store = λ e. absurd (omega (arith, fit.0, e));
+  refused_disk = λ wrong. absurd (wrong fit.1.0);
   damaged = λ e. absurd (omega (arith, fit.0, e));
   no_usage = λ e. absurd (omega (arith, fit.0, e));
   spent = λ e. absurd (omega (arith, fit.0, e));
@@ -97,6 +99,7 @@ init_done layout status old new l k r w made (inr (inl six)) = record {
   write_fault = λ e. absurd (omega (arith, six.0, e));
   disk_fault = λ _. six.1;
   no_store = λ e. absurd (omega (arith, six.0, e));
+  refused_disk = λ wrong. absurd (wrong six.2);
   damaged = λ e. absurd (omega (arith, six.0, e));
   no_usage = λ e. absurd (omega (arith, six.0, e));
   spent = λ e. absurd (omega (arith, six.0, e));
@@ -108,13 +111,14 @@ init_done layout status old new l k r w made (inr (inr nine)) = record {
   write_fault = λ e. absurd (omega (arith, nine.0, e));
   disk_fault = λ e. absurd (omega (arith, nine.0, e));
   no_store = λ _. nine.1;
+  refused_disk = λ wrong. record { why = inr nine.0; disk = nine.2; idle = idle l k };
   damaged = λ e. absurd (omega (arith, nine.0, e));
   no_usage = λ e. absurd (omega (arith, nine.0, e));
   spent = λ e. absurd (omega (arith, nine.0, e));
   complete = λ _ _ _ fits. absurd (nine.1 fits);
 }
 
-pub unfit_made : (status : ℕ) (layout : DiskLayout) (old new : Told) → Throughout old new (IsOldOrEmpty layout old) → IsUnfit status layout old new → IsMade status layout old new
+pub unfit_made : (status : ℕ) (layout : DiskLayout) (old new : Told) → Throughout old new (IsOldOrFresh layout old) → IsUnfit status layout old new → IsMade status layout old new
 unfit_made status layout old new moments (inl six) = record { any_moment = moments; made = λ e. absurd (omega (arith, six.0, e)); holds = λ e. absurd (omega (arith, six.0, e)) }
 unfit_made status layout old new moments (inr nine) = record { any_moment = moments; made = λ e. absurd (omega (arith, nine.0, e)); holds = λ e. absurd (omega (arith, nine.0, e)) }
 
@@ -125,7 +129,7 @@ module _ (old : Told) (l k : Option (List ℕ)) (only : (image : List ℕ) → I
   idle_output (Init layout) = (
     idle l k,
     record {
-      any_moment = started old (IsOldOrEmpty layout old) (λ image since. inl (inl (only image since)));
+      any_moment = started old (IsOldOrFresh layout old) (λ image since. inl (only image since));
       made = λ e. absurd (omega (arith, e));
       holds = λ e. absurd (omega (arith, e));
     },
@@ -139,11 +143,17 @@ module _ (old : Told) (l k : Option (List ℕ)) (only : (image : List ℕ) → I
   idle_output RunStored = λ tells layout table holds.
       inl (record { why = inr refl; idle = idle l k; any_moment = λ each. started old (IsImageWith layout table) (λ image since. each image (only image since)) })
 
+  pub idle_refused_of : (task : Task) → IsRefusedSo task 7 old old l l k k
+  idle_refused_of (Init layout) = λ wrong. record { why = inl refl; disk = refl; idle = idle l k }
+  idle_refused_of (Run layout) = λ wrong. record { why = inl refl; disk = refl; idle = idle l k }
+  idle_refused_of (Demo layout seed rows) = λ wrong. record { why = inl refl; disk = refl; idle = idle l k }
+  idle_refused_of RunStored = record { none = λ tells none. record { why = inr (inl refl); idle = idle l k }; untouched = λ e. absurd (omega (arith, e)) }
+
   pub idle_spent_of : (task : Task) → IsSpentOf task 7 old l l
   idle_spent_of (Init layout) = λ e. omega (arith, e)
   idle_spent_of (Run layout) = λ tells. idle_spent 7 (IsStart layout) layout l (λ e. omega (arith, e))
   idle_spent_of (Demo layout seed rows) = λ tells e. absurd (omega (arith, e))
-  idle_spent_of RunStored = λ tells layout table holds. idle_spent 7 (StartsOver layout holds.image.next table) layout l (λ e. omega (arith, e))
+  idle_spent_of RunStored = λ tells layout table holds. idle_spent 7 (StartsOver layout holds.pages holds.image.next table) layout l (λ e. omega (arith, e))
 
   pub idle_complete_of : (task : Task) → IsCompleteOf task 7 old l
   idle_complete_of (Init layout) = λ fits. inr refl
@@ -154,49 +164,53 @@ module _ (old : Told) (l k : Option (List ℕ)) (only : (image : List ℕ) → I
 -- ---- a store that isn't opened
 
 module _ (one : HaveOneLayout) (law : AreNotDamaged) (old new : Told) (l k : Option (List ℕ)) (stay : ImagesStay old new) where
-  pub refused_done : (fault : StartFault) (r w : Type 0) → IsRefused old new fault → IsDoneSo RunStored (start_status fault) old new l l k k r w
-  refused_done starts.NoStore r w cause = record {
+  pub refused_done : (fault : StartFault) (r w : Type 0) → (fault ≡ starts.NoStore → IsUntouched old new) → IsRefused old new fault → IsDoneSo RunStored (start_status fault) old new l l k k r w
+  refused_done starts.NoStore r w untouched cause = record {
     output = λ tells layout table holds. absurd (cause.0 tells layout (has_store old layout table holds));
     read_fault = λ e. absurd (omega (arith, e));
     write_fault = λ e. absurd (omega (arith, e));
     disk_fault = λ e. absurd (omega (arith, e));
     no_store = λ _. cause.0;
+    refused_disk = record { none = λ tells none. record { why = inr (inr (inl refl)); idle = idle l k }; untouched = λ e. untouched refl };
     damaged = λ e. absurd (omega (arith, e));
     no_usage = λ e. absurd (omega (arith, e));
-    spent = λ tells layout table holds. idle_spent 9 (StartsOver layout holds.image.next table) layout l (λ e. omega (arith, e));
+    spent = λ tells layout table holds. idle_spent 9 (StartsOver layout holds.pages holds.image.next table) layout l (λ e. omega (arith, e));
     complete = λ _ _ _ tells layout table holds. absurd (cause.0 tells layout (has_store old layout table holds));
   }
-  refused_done (starts.Damaged at) r w cause = record {
+  refused_done (starts.Damaged at) r w untouched cause = record {
     output = λ tells layout table holds. absurd (undamaged one law old layout table at holds (cause.0 tells));
     read_fault = λ e. absurd (omega (arith, e));
     write_fault = λ e. absurd (omega (arith, e));
     disk_fault = λ e. absurd (omega (arith, e));
     no_store = λ e. absurd (omega (arith, e));
+    refused_disk = record { none = λ tells none. record { why = inr (inr (inr refl)); idle = idle l k }; untouched = λ e. absurd (omega (arith, e)) };
     damaged = λ _ tells. (at, cause.0 tells);
     no_usage = λ e. absurd (omega (arith, e));
-    spent = λ tells layout table holds. idle_spent 11 (StartsOver layout holds.image.next table) layout l (λ e. omega (arith, e));
+    spent = λ tells layout table holds. idle_spent 11 (StartsOver layout holds.pages holds.image.next table) layout l (λ e. omega (arith, e));
     complete = λ _ _ _ tells layout table holds. absurd (undamaged one law old layout table at holds (cause.0 tells));
   }
-  refused_done starts.Disk r w cause = record {
+  refused_done starts.Disk r w untouched cause = record {
     output = λ tells layout table holds. inl (record { why = inl refl; idle = idle l k; any_moment = stay layout table });
     read_fault = λ e. absurd (omega (arith, e));
     write_fault = λ e. absurd (omega (arith, e));
     disk_fault = λ _. cause.1;
     no_store = λ e. absurd (omega (arith, e));
+    refused_disk = record { none = λ tells none. record { why = inl refl; idle = idle l k }; untouched = λ e. absurd (omega (arith, e)) };
     damaged = λ e. absurd (omega (arith, e));
     no_usage = λ e. absurd (omega (arith, e));
-    spent = λ tells layout table holds. idle_spent 6 (StartsOver layout holds.image.next table) layout l (λ e. omega (arith, e));
+    spent = λ tells layout table holds. idle_spent 6 (StartsOver layout holds.pages holds.image.next table) layout l (λ e. omega (arith, e));
     complete = λ _ _ not. absurd (not cause.1);
   }
-  refused_done starts.Memory r w cause = record {
+  refused_done starts.Memory r w untouched cause = record {
     output = λ tells layout table holds. inl (record { why = inr refl; idle = idle l k; any_moment = stay layout table });
     read_fault = λ e. absurd (omega (arith, e));
     write_fault = λ e. absurd (omega (arith, e));
     disk_fault = λ e. absurd (omega (arith, e));
     no_store = λ e. absurd (omega (arith, e));
+    refused_disk = record { none = λ tells none. record { why = inr (inl refl); idle = idle l k }; untouched = λ e. absurd (omega (arith, e)) };
     damaged = λ e. absurd (omega (arith, e));
     no_usage = λ e. absurd (omega (arith, e));
-    spent = λ tells layout table holds. idle_spent 7 (StartsOver layout holds.image.next table) layout l (λ e. omega (arith, e));
+    spent = λ tells layout table holds. idle_spent 7 (StartsOver layout holds.pages holds.image.next table) layout l (λ e. omega (arith, e));
     complete = λ _ _ _ tells layout table holds limit room. inr refl;
   }
 
@@ -244,15 +258,26 @@ module _ {D : Type 0} (told : D → Told) (one : HaveOneLayout) (old : Told) (s 
       subst (λ (m : DiskLayout). IsStoreImage m s.pages.pages table) (sym (its_layout layout table tells holds))
       (subst (λ (x : PageMap). IsStoreImage layout x table) (sym (its_pages layout table tells holds)) holds.image)
 
+  -- its tables are those of its pages
+  tables_on : (p : Place) → ShowsPlace s p → (n : ℕ) → n < length s.pages.layout.schema.tables → IsTableOn s.pages.layout s.pages.pages n (p.tables n)
+  tables_on p shown n below =
+      let t = shown.tables n below in
+      record { blocks = t.blocks; has = t.has; locks = (shown_of s).locks; unseen = t.unseen; is = t.shown }
+
   -- what the store shows over pages of a store with the table
   abbrev ShowsOver : DiskLayout → TableState → PageMap → Type 0
   ShowsOver layout table held =
-      (image : IsStoreImage layout held table) → (p : Place) × IsOpening layout (database_with image.next table) p × ShowsPlace s p × AllHaveTable told s.pages p
+      (image : IsStoreImage layout held table) → (p : Place) × StartsOver layout held image.next table p × ShowsPlace s p × AllHaveTable told s.pages p
+
+  own_opening : (table : TableState) → IsTrue old.tells_contents → ShowsOver s.pages.layout table s.pages.pages
+  own_opening table tells image =
+      let p = opens (same_tells ∙ tells) table image in
+      (p.0, record { opening = p.1; tables = tables_on p.0 p.2 }, p.2, p.3)
 
   -- its pages are those that the disk holds
   its_opening : (layout : DiskLayout) (table : TableState) → IsTrue old.tells_contents → (holds : HoldsTable old layout table) → ShowsOver layout table holds.pages
   its_opening layout table tells holds =
-      let own : ShowsOver s.pages.layout table s.pages.pages = opens (same_tells ∙ tells) table in
+      let own : ShowsOver s.pages.layout table s.pages.pages = own_opening table tells in
       subst (ShowsOver layout table) (its_pages layout table tells holds)
       (subst (λ (m : DiskLayout). ShowsOver m table s.pages.pages) (its_layout layout table tells holds) own)
 
@@ -285,7 +310,7 @@ module _ {D : Type 0} (told : D → Told) (one : HaveOneLayout) (old : Told) (s 
         (earlier_run status s.pages.layout old (told s.pages.disk) new l l' k k' start stay (runs start (same_tells ∙ tells) ready shown all))
 
     pub stored_run : IsTrue old.tells_contents → (layout : DiskLayout) (table : TableState) (holds : HoldsTable old layout table)
-        → (start : Place) × StartsOver layout holds.image.next table start × IsScriptRun status layout (StopsOfRun old new) new l l' k k' start
+        → (start : Place) × StartsOver layout holds.pages holds.image.next table start × IsScriptRun status layout (StopsOfRun old new) new l l' k k' start
     stored_run tells layout table holds =
         let same = its_layout layout table tells holds in
         let start = its_opening layout table tells holds holds.image in
@@ -296,9 +321,15 @@ module _ {D : Type 0} (told : D → Told) (one : HaveOneLayout) (old : Told) (s 
         let start = fresh_start begins tells layout fresh in
         inr (start.0, start.1, run_at layout start.2 tells start.0 start.3 start.4)
 
-    pub stored_done : (r w : Type 0) → (status ≡ 4 → r) → (status ≡ 5 → w) → (old.faults ≤ (told s.pages.disk).faults) → (status ≡ 6 → s.pages.failed ≡ None → Rose (told s.pages.disk).faults new.faults)
+    -- whatever the disk tells is a store's
+    held_here : HoldsImage old → IsTrue old.tells_contents → ((layout : DiskLayout) (table : TableState) → HoldsTable old layout table → ⊥) → ⊥
+    held_here image tells none =
+        let found = image tells s.pages.layout s.pages.pages (pages tells) in
+        none s.pages.layout found.0 (record { sized = (there tells).sized; pages = s.pages.pages; opens = pages tells; image = found.1 })
+
+    pub stored_done : HoldsImage old → (r w : Type 0) → (status ≡ 4 → r) → (status ≡ 5 → w) → (old.faults ≤ (told s.pages.disk).faults) → (status ≡ 6 → s.pages.failed ≡ None → Rose (told s.pages.disk).faults new.faults)
         → (status ≡ 11 → Tells told s.pages → s.pages.failed ≡ None → ⊥) → (status ≢ 2) × (status ≢ 9) → IsDoneSo RunStored status old new l l' k k' r w
-    stored_done r w read write later disk_ damage others =
+    stored_done image r w read write later disk_ damage others =
         let rose = λ (six : status ≡ 6). rose_earlier old.faults (told s.pages.disk).faults new.faults later (disk_ six ready) in
         record {
           output = λ tells layout table holds. inr (stored_run tells layout table holds);
@@ -306,14 +337,15 @@ module _ {D : Type 0} (told : D → Told) (one : HaveOneLayout) (old : Told) (s 
           write_fault = write;
           disk_fault = rose;
           no_store = λ nine. absurd (others.1 nine);
+          refused_disk = record { none = λ tells none. absurd (held_here image tells none); untouched = λ nine. absurd (others.1 nine) };
           damaged = λ eleven tells. absurd (damage eleven (same_tells ∙ tells) ready);
           no_usage = others.0;
           spent = λ tells layout table holds.
               let run = stored_run tells layout table holds in
-              run_spent (StartsOver layout holds.image.next table) layout status (StopsOfRun old new) new run.0 run.1 l l' k k' run.2;
+              run_spent (StartsOver layout holds.pages holds.image.next table) layout status (StopsOfRun old new) new run.0 run.1 l l' k k' run.2;
           complete = λ no_read no_write no_disk tells layout table holds.
               let run = stored_run tells layout table holds in
-              run_complete (StartsOver layout holds.image.next table) layout status (StopsOfRun old new) new run.0 run.1 l l' k k' run.2 (λ e. no_read (read e)) (λ e. no_write (write e)) (λ e. no_disk (rose e))
+              run_complete (StartsOver layout holds.pages holds.image.next table) layout status (StopsOfRun old new) new run.0 run.1 l l' k k' run.2 (λ e. no_read (read e)) (λ e. no_write (write e)) (λ e. no_disk (rose e))
               (λ e. damage e (same_tells ∙ tells) ready);
         }
 
@@ -330,6 +362,7 @@ module _ (one : HaveOneLayout) (law : AreNotDamaged) (layout : DiskLayout) (old 
     write_fault = λ e. absurd (omega (arith, six.0, e));
     disk_fault = λ _. six.1;
     no_store = λ e. absurd (omega (arith, six.0, e));
+    refused_disk = λ wrong. absurd (wrong six.2);
     damaged = λ e. absurd (omega (arith, six.0, e));
     no_usage = λ e. absurd (omega (arith, six.0, e));
     spent = λ tells. idle_spent status (IsStart layout) layout l (λ e. omega (arith, six.0, e));
@@ -341,6 +374,7 @@ module _ (one : HaveOneLayout) (law : AreNotDamaged) (layout : DiskLayout) (old 
     write_fault = λ e. absurd (omega (arith, nine.0, e));
     disk_fault = λ e. absurd (omega (arith, nine.0, e));
     no_store = λ _ tells. nine.1;
+    refused_disk = λ wrong. record { why = inr nine.0; disk = nine.2; idle = idle l k };
     damaged = λ e. absurd (omega (arith, nine.0, e));
     no_usage = λ e. absurd (omega (arith, nine.0, e));
     spent = λ tells. idle_spent status (IsStart layout) layout l (λ e. omega (arith, nine.0, e));
@@ -420,6 +454,7 @@ module _ (one : HaveOneLayout) (law : AreNotDamaged) (layout : DiskLayout) (old 
             write_fault = done.write_fault;
             disk_fault = rose_then fit;
             no_store = λ nine tells. absurd (done.no_store nine (moments.tells_contents ∙ tells) layout (has_store mid layout initial_state.table (held mid layout (holds tells))));
+            refused_disk = λ wrong. absurd (wrong fit.0);
             damaged = no_damage_then;
             no_usage = done.no_usage;
             spent = λ tells. new_spent (far tells) tells;

@@ -22,6 +22,7 @@ with_source done = record {
   write_fault = done.write_fault;
   disk_fault = done.disk_fault;
   no_store = done.no_store;
+  refused_disk = done.refused_disk;
   damaged = done.damaged;
   no_usage = done.no_usage;
   spent = done.spent;

@@ -1,5 +1,5 @@
 -- what the program writes for a script, and what becomes of the disk
-use Rattle.std.specs.Prelude.{◌≡◌, ◌≢◌, ◌⊎◌, ℕ, IsTrue, List, Option, Ok, Err}
+use Rattle.std.specs.Prelude.{◌≡◌, ◌≢◌, ◌⊎◌, ℕ, ◌<◌, IsTrue, List, length, Option, Ok, Err}
 use Rattle.block_model.specs.DatabaseState.{initial_state}
 use Rattle.block_model.specs.TableState.{TableState}
 use Rattle.disk_trait.specs.Told.{Told}
@@ -7,7 +7,7 @@ use Rattle.disk_trait.specs.Throughout.{Throughout}
 use Rattle.store_layout.specs.DiskLayout.{DiskLayout, disk_size}
 use Rattle.page_store.specs.PageMap.{PageMap}
 use Rattle.store_opening.specs.Opens.{OpensAs}
-use Rattle.fresh_store.specs.FreshPages.{IsNoStore, fresh_pages}
+use Rattle.fresh_store.specs.FreshPages.{IsNoStore, IsOldOrFresh, fresh_pages}
 use Rattle.line_texts.specs.LineTexts.{IsLineText}
 use Rattle.line_texts.specs.Place.{Place, database_at}
 use Rattle.line_texts.specs.Starts.{IsOpening, IsStart}
@@ -17,7 +17,7 @@ use Rattle.script_run.specs.declared.engine.AnswerFault.TheVariants.{Memory, Ful
 use Rattle.script_run.specs.declared.fault.RunFault.TheVariants as faults
 use Rattle.script_run.specs.Runs.{Ran, RunEnd}
 use Rattle.store_starts.specs.StopRule.{IsImageWith}
-use Rattle.store_starts.specs.StoreImage.{IsStoreImage, database_with}
+use Rattle.store_starts.specs.StoreImage.{IsStoreImage, IsTableOn, database_with}
 use Rattle.brin_app.specs.declared.status.TheConstants.{SCRIPT_LIMIT}
 use Rattle.brin_app.specs.CrashRule.{HasTableOf, IsFurther, IsOfStop}
 
@@ -59,9 +59,10 @@ pub record HoldsFresh (disk : Told) (layout : DiskLayout) : Type 0 where
   pub opens : OpensAs layout disk.contents (fresh_pages layout)
   pub image : IsStoreImage layout (fresh_pages layout) initial_state.table
 
--- a script over a store with that next number and the table starts there
-abbrev pub StartsOver : DiskLayout → ℕ → TableState → Place → Type 0
-StartsOver layout next table p = IsOpening layout (database_with next table) p
+-- a script over a store with these pages, that next number and the table starts there: its tables are those of the pages
+pub record StartsOver (layout : DiskLayout) (pages : PageMap) (next : ℕ) (table : TableState) (p : Place) : Type 0 where
+  pub opening : IsOpening layout (database_with next table) p
+  pub tables : (n : ℕ) → n < length layout.schema.tables → IsTableOn layout pages n (p.tables n)
 
 -- the image was there before, or is no store
 abbrev pub IsOldOrNone : Told → List ℕ → Type 0
@@ -114,11 +115,15 @@ pub record IsUnmade (status : ℕ) (layout : DiskLayout) (old new : Told) (left 
   pub idle : IsIdle left left' taken taken'
   pub any_moment : Throughout old new (IsOldOrEmpty layout old)
 
--- a store is made where the status is 0
+-- each image that a stop may leave opens to the pages of a new store
+abbrev pub EachImageIsFresh : Told → DiskLayout → Type 0
+EachImageIsFresh disk layout = (image : List ℕ) → IsTrue (disk.now image) → OpensAs layout image (fresh_pages layout)
+
+-- A new store is made where the status is 0. At every moment each image was there before, or is no store, or is the new one.
 pub record IsMade (status : ℕ) (layout : DiskLayout) (old new : Told) : Type 0 where
-  pub any_moment : Throughout old new (IsOldOrEmpty layout old)
-  pub made : status ≡ 0 → EachImageHas new layout initial_state.table
-  pub holds : status ≡ 0 → IsTrue old.tells_contents → HoldsTable new layout initial_state.table
+  pub any_moment : Throughout old new (IsOldOrFresh layout old)
+  pub made : status ≡ 0 → EachImageIsFresh new layout
+  pub holds : status ≡ 0 → IsTrue old.tells_contents → HoldsFresh new layout
 
 -- what a run writes over new tables, and over those that stand there, where the disk tells its contents
 abbrev pub IsNewOutput : ℕ → DiskLayout → (old new : Told) → (left left' taken taken' : Option (List ℕ)) → Type 0
@@ -130,7 +135,7 @@ abbrev pub IsStoredOutput : ℕ → (old new : Told) → (left left' taken taken
 IsStoredOutput status old new left left' taken taken' =
     IsTrue old.tells_contents → (layout : DiskLayout) (table : TableState) (holds : HoldsTable old layout table)
     → IsUnopened status layout table old new left left' taken taken'
-    ⊎ ((start : Place) × StartsOver layout holds.image.next table start × IsScriptRun status layout (StopsOfRun old new) new left left' taken taken' start)
+    ⊎ ((start : Place) × StartsOver layout holds.pages holds.image.next table start × IsScriptRun status layout (StopsOfRun old new) new left left' taken taken' start)
 
 -- the same over a store that was just made
 abbrev pub IsFreshOutput : ℕ → (old new : Told) → (left left' taken taken' : Option (List ℕ)) → Type 0

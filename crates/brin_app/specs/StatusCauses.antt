@@ -6,6 +6,7 @@ use Rattle.block_model.specs.TableState.{TableState}
 use Rattle.disk_trait.specs.Told.{Told}
 use Rattle.store_layout.specs.DiskLayout.{DiskLayout, disk_size}
 use Rattle.store_opening.specs.StartCauses.{HasNoStore, IsDamagedStore}
+use Rattle.store_opening.specs.Untouched.{IsUntouched}
 use Rattle.line_texts.specs.Place.{Place}
 use Rattle.line_texts.specs.Starts.{IsStart}
 use Rattle.script_run.specs.declared.engine.AnswerFault.TheVariants.{Full}
@@ -15,7 +16,7 @@ use Rattle.brin_app.specs.declared.status.TheConstants.{SCRIPT_LIMIT}
 use Rattle.brin_app.specs.declared.top.Task.{Task}
 use Rattle.brin_app.specs.declared.top.Task.TheVariants.{Demo, Init, Run, RunStored}
 use Rattle.brin_app.specs.DemoOutput.{IsCompleteDemo, IsSpentByDemo}
-use Rattle.brin_app.specs.ScriptOutput.{HoldsTable, StartsOver, Stops, Texts}
+use Rattle.brin_app.specs.ScriptOutput.{HoldsTable, IsIdle, StartsOver, Stops, Texts}
 use Rattle.brin_app.specs.TaskOutputs.{IsOutputOf}
 
 -- ---- no store, and a damaged one
@@ -33,6 +34,30 @@ HasDamage RunStored disk = IsTrue disk.tells_contents → (at : ℕ) × IsDamage
 HasDamage (Run layout) disk = IsTrue disk.tells_contents → ⊥
 HasDamage (Demo layout seed rows) disk = IsTrue disk.tells_contents → ⊥
 HasDamage (Init layout) disk = ⊥
+
+-- ---- a disk over which nothing can be done
+
+-- it hasn't the size of the store that is to be made: nothing is read, nothing written, and it stays as it was
+pub record IsRefusedBySize (status : ℕ) (old new : Told) (left left' taken taken' : Option (List ℕ)) : Type 0 where
+  pub why : (status ≡ 7) ⊎ (status ≡ 9)
+  pub disk : new ≡ old
+  pub idle : IsIdle left left' taken taken'
+
+-- its contents are told, and are no store's: nothing is read and nothing written
+pub record IsRefusedByBytes (status : ℕ) (left left' taken taken' : Option (List ℕ)) : Type 0 where
+  pub why : (status ≡ 6) ⊎ ((status ≡ 7) ⊎ ((status ≡ 9) ⊎ (status ≡ 11)))
+  pub idle : IsIdle left left' taken taken'
+
+-- no store is there to run a script over; and where the status says so, none was written to
+pub record IsRefusedStored (status : ℕ) (old new : Told) (left left' taken taken' : Option (List ℕ)) : Type 0 where
+  pub none : IsTrue old.tells_contents → ((layout : DiskLayout) (table : TableState) → HoldsTable old layout table → ⊥) → IsRefusedByBytes status left left' taken taken'
+  pub untouched : status ≡ 9 → IsUntouched old new
+
+abbrev pub IsRefusedSo : Task → ℕ → (old new : Told) → (left left' taken taken' : Option (List ℕ)) → Type 0
+IsRefusedSo (Init layout) status old new left left' taken taken' = old.size ≢ disk_size layout → IsRefusedBySize status old new left left' taken taken'
+IsRefusedSo (Run layout) status old new left left' taken taken' = old.size ≢ disk_size layout → IsRefusedBySize status old new left left' taken taken'
+IsRefusedSo (Demo layout seed rows) status old new left left' taken taken' = old.size ≢ disk_size layout → IsRefusedBySize status old new left left' taken taken'
+IsRefusedSo RunStored status old new left left' taken taken' = IsRefusedStored status old new left left' taken taken'
 
 -- ---- a full journal, and too long a script
 
@@ -69,7 +94,7 @@ IsSpentOf (Init layout) status disk left left' = status ≢ 8
 IsSpentOf (Run layout) status disk left left' = IsTrue disk.tells_contents → HasSpentCauses status (IsStart layout) layout left left'
 IsSpentOf (Demo layout seed rows) status disk left left' = IsSpentByDemo status layout seed rows disk
 IsSpentOf RunStored status disk left left' =
-    IsTrue disk.tells_contents → (layout : DiskLayout) (table : TableState) (holds : HoldsTable disk layout table) → HasSpentCauses status (StartsOver layout holds.image.next table) layout left left'
+    IsTrue disk.tells_contents → (layout : DiskLayout) (table : TableState) (holds : HoldsTable disk layout table) → HasSpentCauses status (StartsOver layout holds.pages holds.image.next table) layout left left'
 
 -- ---- no other status
 
@@ -91,7 +116,7 @@ IsCompleteOf (Init layout) status disk left = disk.size ≡ disk_size layout →
 IsCompleteOf (Run layout) status disk left = IsTrue disk.tells_contents → disk.size ≡ disk_size layout → IsComplete status (IsStart layout) layout left
 IsCompleteOf (Demo layout seed rows) status disk left = IsCompleteDemo status layout seed rows disk
 IsCompleteOf RunStored status disk left =
-    IsTrue disk.tells_contents → (layout : DiskLayout) (table : TableState) (holds : HoldsTable disk layout table) → IsComplete status (StartsOver layout holds.image.next table) layout left
+    IsTrue disk.tells_contents → (layout : DiskLayout) (table : TableState) (holds : HoldsTable disk layout table) → IsComplete status (StartsOver layout holds.pages holds.image.next table) layout left
 
 -- ---- all of it
 
@@ -102,6 +127,7 @@ pub record IsDoneSo (task : Task) (status : ℕ) (old new : Told) (left left' ta
   pub write_fault : status ≡ 5 → write_rose
   pub disk_fault : status ≡ 6 → Rose old.faults new.faults
   pub no_store : status ≡ 9 → LacksStore task old
+  pub refused_disk : IsRefusedSo task status old new left left' taken taken'
   pub damaged : status ≡ 11 → HasDamage task old
   pub no_usage : status ≢ 2
   pub spent : IsSpentOf task status old left left'

@@ -25,6 +25,6 @@ start_status starts.Memory = 7
 abbrev pub IsFit : DiskLayout → (old new : Told) → Type 0
 IsFit layout old new = (old.size ≡ disk_size layout) × (old.faults ≤ new.faults)
 
--- it isn't: the disk failed, or hasn't the size
+-- it isn't: the disk, of that size, failed; or it hasn't the size, and stays as it was
 abbrev pub IsUnfit : ℕ → DiskLayout → (old new : Told) → Type 0
-IsUnfit status layout old new = ((status ≡ 6) × Rose old.faults new.faults) ⊎ ((status ≡ 9) × (old.size ≢ disk_size layout))
+IsUnfit status layout old new = ((status ≡ 6) × Rose old.faults new.faults × (old.size ≡ disk_size layout)) ⊎ ((status ≡ 9) × (old.size ≢ disk_size layout) × (new ≡ old))

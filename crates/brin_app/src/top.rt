@@ -14,8 +14,9 @@ ghost use Rattle.line_texts.specs.Place.{Place};
 ghost use Rattle.store_parts.specs.ShowsPlace.{ShowsPlace};
 ghost use Rattle.store_starts.specs.StopRule.{AllHaveTable};
 ghost use Rattle.store_starts.specs.Started.{HoldsImage};
-ghost use Rattle.brin_app.specs.ScriptOutput.{EachImageHas, HoldsFresh, IsFreshOutput, IsMade, IsOldOrEmpty, IsScriptRun, RunsThrough, exit_status};
-ghost use Rattle.brin_app.specs.StatusCauses.{HasDamage, IsCompleteOf, IsDoneSo, IsSpentOf, LacksStore};
+ghost use Rattle.fresh_store.specs.FreshPages.{IsOldOrFresh};
+ghost use Rattle.brin_app.specs.ScriptOutput.{EachImageHas, EachImageIsFresh, HoldsFresh, IsFreshOutput, IsMade, IsOldOrEmpty, IsScriptRun, RunsThrough, exit_status};
+ghost use Rattle.brin_app.specs.StatusCauses.{HasDamage, IsCompleteOf, IsDoneSo, IsRefusedSo, IsSpentOf, LacksStore};
 ghost use Rattle.brin_app.specs.Statuses.{IsFit, IsUnfit, format_status, start_status};
 ghost use Rattle.command_words.specs.Laws.{AreDemoNumbers};
 ghost use Rattle.brin_app.specs.Tasks.{Asks, HasDemoNumbers, HasNoLayout, HasNumbers, IsLayoutFor, IsTaskOf, IsUsage, IsWrong};
@@ -60,7 +61,8 @@ pub fn brin_main<D: Disk + Drop, S: Source, K: Sink>(
     source: &mut S,
     sink: &mut K,
 ) -> (u8, D)
-    requires { HoldsImage (D.told disk) }
+    // A run over the store that stands there needs one that a stop of a store left, or bytes that are none; other tasks need nothing of the disk.
+    requires { Asks words.now tasks.RunStored → HoldsImage (D.told disk) }
     // What is written, and which table a stop at any moment leaves.
     ensures script_output { (task : Task) → Asks words.now task → IsOutputOf task result.0 (D.told disk) (D.told result.1) (S.left source.old) (S.left source.new) (K.taken sink.old) (K.taken sink.new) }
 
@@ -73,6 +75,8 @@ pub fn brin_main<D: Disk + Drop, S: Source, K: Sink>(
     ensures disk_fault { result.0 ≡ 6 → Rose (D.told disk).faults (D.told result.1).faults }
     ensures no_store { result.0 ≡ 9 → (task : Task) → Asks words.now task → LacksStore task (D.told disk) }
     ensures damaged { result.0 ≡ 11 → (task : Task) → Asks words.now task → HasDamage task (D.told disk) }
+    // What is done over a disk that hasn't the size, or holds no store.
+    ensures refused_disk { (task : Task) → Asks words.now task → IsRefusedSo task result.0 (D.told disk) (D.told result.1) (S.left source.old) (S.left source.new) (K.taken sink.old) (K.taken sink.new) }
     ensures spent { (task : Task) → Asks words.now task → IsSpentOf task result.0 (D.told disk) (S.left source.old) (S.left source.new) }
     ensures complete { (task : Task) → Asks words.now task → ¬ (Rose (S.faults source.old) (S.faults source.new)) → ¬ (Rose (K.faults sink.old) (K.faults sink.new)) → ¬ (Rose (D.told disk).faults (D.told result.1).faults)
         → IsCompleteOf task result.0 (D.told disk) (S.left source.old) }
@@ -236,7 +240,7 @@ fn perform<D: Disk + Drop, S: Source, K: Sink>(
     source: &mut S,
     sink: &mut K,
 ) -> (u8, D)
-    requires image { HoldsImage (D.told disk) }
+    requires image { task ≡ tasks.RunStored → HoldsImage (D.told disk) }
     requires numbers { HasNumbers task }
     ensures done { IsDoneSo task result.0 (D.told disk) (D.told result.1) (S.left source.old) (S.left source.new) (K.taken sink.old) (K.taken sink.new) (Rose (S.faults source.old) (S.faults source.new)) (Rose (K.faults sink.old) (K.faults sink.new)) }
 {
@@ -265,6 +269,9 @@ fn init<D: Disk + Drop>(layout: &Layout, mut disk: D) -> (u8, D)
 pub(crate) fn make<D: Disk + Drop>(layout: &Layout, disk: &mut D) -> Result<(), u8>
     ensures any_moment { Throughout (D.told disk.old) (D.told disk.new) (IsOldOrEmpty layout.now (D.told disk.old)) }
     ensures made { OnOk result (EachImageHas (D.told disk.new) layout.now initial_state.table) }
+    // As a new store, whose pages are those of one.
+    ensures fresh_moment { Throughout (D.told disk.old) (D.told disk.new) (IsOldOrFresh layout.now (D.told disk.old)) }
+    ensures fresh { OnOk result (EachImageIsFresh (D.told disk.new) layout.now) }
     ensures holds { OnOk result (IsTrue (D.told disk.old).tells_contents → HoldsFresh (D.told disk.new) layout.now) }
     ensures fit { OnOk result (IsFit layout.now (D.told disk.old) (D.told disk.new)) }
     ensures unfit { IfErr result (λ status. IsUnfit status layout.now (D.told disk.old) (D.told disk.new)) }

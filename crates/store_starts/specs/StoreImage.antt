@@ -15,7 +15,8 @@ use Rattle.heap_rows.specs.HeapBlocks.{HasBlocks}
 use Rattle.transactions.specs.CountedRows.{counts}
 use Rattle.transactions.specs.ShowsDatabase.{ShowsDatabase}
 use Rattle.transactions.specs.TransactionsState.{TransactionsState}
-use Rattle.table_coverage.specs.Machines.{table_state}
+use Rattle.table_coverage.specs.Machines.{Unseen, table_state}
+use Rattle.table_coverage.specs.Table as protocol
 use Rattle.table_coverage.specs.TableCovered.{IsTableAtRest, IsTableCovered}
 use Rattle.index_steps.specs.ShownRows.{shown_by}
 use Rattle.store_parts.specs.OpeningLaws.{unseen_at_rest}
@@ -40,6 +41,15 @@ pub record IsRestingTable (layout : DiskLayout) (pages : PageMap) (counted : ℕ
   pub unnamed : ℕ → Spot → Bool
   pub rest : (locks : LockState) → IsUnlocked locks → IsTableAtRest (table_state (shown_by layout pages locks table blocks) (unseen_at_rest counted unnamed))
   pub covered : (locks : LockState) → IsUnlocked locks → IsTableCovered (table_state (shown_by layout pages locks table blocks) (unseen_at_rest counted unnamed))
+
+-- The table of that number is the one that these pages hold: its rows, the entries and tuples of its indexes, and the kinds and room of their pages. Who holds
+-- locks, what sessions are at, whose rows count and which tuples were left unnamed no page shows.
+pub record IsTableOn (layout : DiskLayout) (pages : PageMap) (table : ℕ) (w : protocol.TableState) : Type 0 where
+  pub blocks : List (List Slot)
+  pub has : HasBlocks layout pages table blocks
+  pub locks : LockState
+  pub unseen : Unseen
+  pub is : w ≡ table_state (shown_by layout pages locks table blocks) unseen
 
 -- The pages are those of a store with this table: the rows that a commit put and no commit deleted. Each row's id is its own and of a number that isn't
 -- unused; each table rests; and the pages stand in their order.

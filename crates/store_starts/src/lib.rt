@@ -8,12 +8,12 @@
 //! stands on store_parts, stop_laws, fresh_tables and transactions; the store of sessions stands on it.
 #![tactic(auto)]
 
-mod images;
+mod image_laws;
 mod laws;
 mod parts;
 mod start;
 
-pub use images::{
+pub use image_laws::{
     a_commit_makes_its_table, a_new_store_is_an_image, a_shown_store_is_an_image,
     a_step_leaves_the_table, a_step_stops_whole, a_stopped_commit_is_an_image, an_image_is_shown,
 };

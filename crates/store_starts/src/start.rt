@@ -13,7 +13,7 @@ ghost use Rattle.store_parts.specs.StoreStates.{store_of};
 ghost use Rattle.store_starts.specs.OpenedParts.{AreOpened, ShowsStart};
 ghost use Rattle.store_starts.specs.Started.{ImagesStay, IsOfStart, OpensTable, start_fault};
 
-use crate::images::an_image_is_shown;
+use crate::image_laws::an_image_is_shown;
 use crate::parts::open_parts;
 use control_page::one_layout;
 use disk_trait::Disk;

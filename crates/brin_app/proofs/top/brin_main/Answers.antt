@@ -1,7 +1,11 @@
-use Rattle.std.proofs.Common.{Err, ap}
-use Rattle.brin_app.proofs.Doing.{idle_complete_of, idle_output, idle_spent_of}
+use Rattle.std.proofs.Common.{Err, ap, subst}
+use Rattle.brin_app.specs.Tasks.{Asks}
+use Rattle.brin_app.proofs.Doing.{idle_complete_of, idle_output, idle_refused_of, idle_spent_of}
 use Rattle.brin_app.proofs.Performed.{performed}
 use Rattle.brin_app.proofs.top.brin_main.Goals as goal
+
+pub perform-requires-clause-image : goal.perform-requires-clause-image
+perform-requires-clause-image g c = λ is. c.requires (subst (Asks c.args.words.now) is c.in-Ok.ensures.asked)
 
 pub returns-in-Ok-clause-script_output : goal.returns-in-Ok-clause-script_output
 returns-in-Ok-clause-script_output g c = λ task asked. (performed c.args.words.now c.in-Ok.task c.in-Ok.ensures.alone c.perform.ensures.done task asked).output
@@ -30,6 +34,9 @@ returns-in-Ok-clause-no_store g c = λ nine task asked. (performed c.args.words.
 pub returns-in-Ok-clause-damaged : goal.returns-in-Ok-clause-damaged
 returns-in-Ok-clause-damaged g c = λ eleven task asked. (performed c.args.words.now c.in-Ok.task c.in-Ok.ensures.alone c.perform.ensures.done task asked).damaged eleven
 
+pub returns-in-Ok-clause-refused_disk : goal.returns-in-Ok-clause-refused_disk
+returns-in-Ok-clause-refused_disk g c = λ task asked. (performed c.args.words.now c.in-Ok.task c.in-Ok.ensures.alone c.perform.ensures.done task asked).refused_disk
+
 pub returns-in-Ok-clause-spent : goal.returns-in-Ok-clause-spent
 returns-in-Ok-clause-spent g c = λ task asked. (performed c.args.words.now c.in-Ok.task c.in-Ok.ensures.alone c.perform.ensures.done task asked).spent
 
@@ -42,6 +49,9 @@ returns-in-Err-Usage-clause-script_output g c = λ task asked. absurd (c.in-Err-
 pub returns-in-Err-Usage-clause-usage : goal.returns-in-Err-Usage-clause-usage
 returns-in-Err-Usage-clause-usage g c = λ _. c.in-Err-Usage.ensures.usage (ap Err c.in-Err-Usage.field-0-is)
 
+pub returns-in-Err-Usage-clause-refused_disk : goal.returns-in-Err-Usage-clause-refused_disk
+returns-in-Err-Usage-clause-refused_disk g c = λ task asked. absurd (c.in-Err-Usage.ensures.nothing (ap Err c.in-Err-Usage.field-0-is) task asked)
+
 pub returns-in-Err-Usage-clause-spent : goal.returns-in-Err-Usage-clause-spent
 returns-in-Err-Usage-clause-spent g c = λ task asked. absurd (c.in-Err-Usage.ensures.nothing (ap Err c.in-Err-Usage.field-0-is) task asked)
 
@@ -50,6 +60,9 @@ returns-in-Err-Usage-clause-complete g c = λ task asked. absurd (c.in-Err-Usage
 
 pub returns-in-Err-Memory-clause-script_output : goal.returns-in-Err-Memory-clause-script_output
 returns-in-Err-Memory-clause-script_output g c = λ task _. idle_output (g.D.Disk.told c.args.disk) _ _ (g.met.D.Disk.since_now_is_now c.args.disk) task
+
+pub returns-in-Err-Memory-clause-refused_disk : goal.returns-in-Err-Memory-clause-refused_disk
+returns-in-Err-Memory-clause-refused_disk g c = λ task _. idle_refused_of (g.D.Disk.told c.args.disk) _ _ (g.met.D.Disk.since_now_is_now c.args.disk) task
 
 pub returns-in-Err-Memory-clause-spent : goal.returns-in-Err-Memory-clause-spent
 returns-in-Err-Memory-clause-spent g c = λ task _. idle_spent_of (g.D.Disk.told c.args.disk) _ (g.K.Sink.taken c.args.sink.now) (g.met.D.Disk.since_now_is_now c.args.disk) task

@@ -12,6 +12,9 @@ returns-in-Init g c = record {
 pub returns-in-Run : goal.returns-in-Run
 returns-in-Run g c = record { done = as_task _ c.args.task c.in-Run.is c.run_new.ensures.done }
 
+pub run_stored-requires : goal.run_stored-requires
+run_stored-requires g c = c.requires.image c.in-RunStored.is
+
 pub returns-in-RunStored : goal.returns-in-RunStored
 returns-in-RunStored g c = record { done = as_task _ c.args.task c.in-RunStored.is c.run_stored.ensures.done }
 

@@ -5,7 +5,7 @@ use Rattle.brin_app.proofs.top.run_stored.Goals as goal
 pub returns-in-Ok-clause-done : goal.returns-in-Ok-clause-done
 returns-in-Ok-clause-done g c =
     stored_done g.D.Disk.told c.one_layout.ensures (g.D.Disk.told c.args.disk) c.in-Ok.store c.run_opened.ensures.one_map c.in-Ok.ensures.there c.in-Ok.ensures.pages c.in-Ok.ensures.tells
-    c.in-Ok.ensures.ready c.in-Ok.ensures.opens c.in-Ok.ensures.any_moment (g.D.Disk.told c.run_opened.result.1) c.run_opened.result.0 _ _ _ _ c.run_opened.ensures.runs _ _
+    c.in-Ok.ensures.ready c.in-Ok.ensures.opens c.in-Ok.ensures.any_moment (g.D.Disk.told c.run_opened.result.1) c.run_opened.result.0 _ _ _ _ c.run_opened.ensures.runs c.requires _ _
     c.run_opened.ensures.read_fault c.run_opened.ensures.write_fault c.in-Ok.ensures.later c.run_opened.ensures.disk_fault c.run_opened.ensures.damaged c.run_opened.ensures.others
 
 pub returns-in-Ok-clause-fresh : goal.returns-in-Ok-clause-fresh
@@ -17,7 +17,7 @@ pub returns-in-Err-clause-done : goal.returns-in-Err-clause-done
 returns-in-Err-clause-done g c =
     answered_done g.D.Disk.told (g.D.Disk.told c.args.disk) _ _ _ _ c.refused.ensures.status c.refused.ensures.disk
     (refused_done c.one_layout.ensures c.a_stored_table_is_not_damaged.ensures (g.D.Disk.told c.args.disk) (g.D.Disk.told c.in-Err.refusal.1) _ _ c.in-Err.ensures.any_moment c.in-Err.refusal.0 _ _
-    c.in-Err.ensures.refused)
+    c.in-Err.ensures.untouched c.in-Err.ensures.refused)
 
 pub returns-in-Err-clause-fresh : goal.returns-in-Err-clause-fresh
 returns-in-Err-clause-fresh g c =

@@ -1,5 +1,5 @@
 use Rattle.store_starts.proofs.Opening.{image_is_shown}
-use Rattle.store_starts.proofs.images.an_image_is_shown.Goals as goal
+use Rattle.store_starts.proofs.image_laws.an_image_is_shown.Goals as goal
 
 pub returns : goal.returns
 returns c = λ s table at opened image.

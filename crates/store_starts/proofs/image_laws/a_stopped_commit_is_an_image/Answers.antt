@@ -1,5 +1,5 @@
 use Rattle.store_starts.proofs.Images.{commit_is_image}
-use Rattle.store_starts.proofs.images.a_stopped_commit_is_an_image.Goals as goal
+use Rattle.store_starts.proofs.image_laws.a_stopped_commit_is_an_image.Goals as goal
 
 pub returns : goal.returns
 returns c =

@@ -5,7 +5,7 @@ use Rattle.tx_table.specs.Statuses.{number_limit}
 use Rattle.fresh_store.specs.FreshPages.{fresh_pages}
 use Rattle.store_starts.specs.StoreImage.{opened_at}
 use Rattle.store_starts.proofs.NewImage.{first_is_next, new_is_image}
-use Rattle.store_starts.proofs.images.a_new_store_is_an_image.Goals as goal
+use Rattle.store_starts.proofs.image_laws.a_new_store_is_an_image.Goals as goal
 
 pub returns : goal.returns
 returns c =
