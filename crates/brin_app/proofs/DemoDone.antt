@@ -30,9 +30,10 @@ use Rattle.brin_app.specs.DemoOutput.{DemoFillsJournal, DemoWrites, IsDemoOutput
 use Rattle.brin_app.specs.DemoSums.{SumsFresh}
 use Rattle.brin_app.specs.ScriptOutput.{EachImageHas, HoldsFresh, IsOldOrEmpty, IsOldOrNone, RunsThrough, StopsOfNewRun, StopsOfRun, exit_status}
 use Rattle.brin_app.specs.StatusCauses.{IsDoneSo}
-use Rattle.brin_app.specs.Statuses.{IsFit, IsUnfit, start_status}
+use Rattle.brin_app.specs.Statuses.{IsFit, IsStatus, IsUnfit, start_status}
 use Rattle.brin_app.proofs.Crash.{image_as, run_of}
 use Rattle.brin_app.proofs.Doing.{AreNotDamaged, HaveOneLayout, OpenToOneMap, fresh_start, has_store, held, idle, table_at, undamaged}
+use Rattle.brin_app.proofs.Known.{is_6, is_9, same_status, start_known}
 
 -- ---- how it ends
 
@@ -107,10 +108,11 @@ module _ {D : Type 0} (told : D → Told) (one : HaveOneLayout) (old : Told) (s 
             (earlier_demo status s.pages.layout seed rows old (told s.pages.disk) new k k' start.0 stay (runs start.0 (same_tells ∙ tells) ready start.3 start.4)),
       )
 
-  pub opened_sums : (w : Type 0) → (Tells told s.pages → s.pages.pages ≡ fresh_pages s.pages.layout → ShowsStart s.pages.layout s) → (status ≡ 5 → w) → (old.faults ≤ (told s.pages.disk).faults)
+  pub opened_sums : IsStatus status → (w : Type 0) → (Tells told s.pages → s.pages.pages ≡ fresh_pages s.pages.layout → ShowsStart s.pages.layout s) → (status ≡ 5 → w) → (old.faults ≤ (told s.pages.disk).faults)
       → (status ≡ 6 → s.pages.failed ≡ None → Rose (told s.pages.disk).faults new.faults) → (status ≡ 11 → Tells told s.pages → s.pages.failed ≡ None → ⊥) → (status ≢ 2) × ((status ≢ 4) × (status ≢ 9))
       → SumsFresh status seed rows old new k k' w
-  opened_sums w begins write later disk_ damage others = record {
+  opened_sums known w begins write later disk_ damage others = record {
+    known = known;
     run = fresh_demo begins;
     write_fault = write;
     disk_fault = λ six. rose_earlier old.faults (told s.pages.disk).faults new.faults later (disk_ six ready);
@@ -124,6 +126,7 @@ module _ {D : Type 0} (told : D → Told) (one : HaveOneLayout) (old : Told) (s 
 module _ (one : HaveOneLayout) (law : AreNotDamaged) (old new : Told) (k : Option (List ℕ)) (stay : ImagesStay old new) (seed rows : ℕ) where
   pub refused_sums : (fault : StartFault) (w : Type 0) → IsRefused old new fault → SumsFresh (start_status fault) seed rows old new k k w
   refused_sums starts.NoStore w cause = record {
+    known = start_known starts.NoStore;
     run = λ tells layout fresh left. absurd (cause.0 tells layout (has_store old layout initial_state.table (held old layout fresh)));
     write_fault = λ e. absurd (omega (arith, e));
     disk_fault = λ e. absurd (omega (arith, e));
@@ -132,6 +135,7 @@ module _ (one : HaveOneLayout) (law : AreNotDamaged) (old new : Told) (k : Optio
     others = (λ e. omega (arith, e), λ e. omega (arith, e));
   }
   refused_sums (starts.Damaged at) w cause = record {
+    known = start_known (starts.Damaged at);
     run = λ tells layout fresh left. absurd (undamaged one law old layout initial_state.table at (held old layout fresh) (cause.0 tells));
     write_fault = λ e. absurd (omega (arith, e));
     disk_fault = λ e. absurd (omega (arith, e));
@@ -140,6 +144,7 @@ module _ (one : HaveOneLayout) (law : AreNotDamaged) (old new : Told) (k : Optio
     others = (λ e. omega (arith, e), λ e. omega (arith, e));
   }
   refused_sums starts.Disk w cause = record {
+    known = start_known starts.Disk;
     run = λ tells layout fresh left. inl (record { why = inl refl; idle = idle left k; any_moment = stay layout initial_state.table });
     write_fault = λ e. absurd (omega (arith, e));
     disk_fault = λ _. cause.1;
@@ -148,6 +153,7 @@ module _ (one : HaveOneLayout) (law : AreNotDamaged) (old new : Told) (k : Optio
     others = (λ e. omega (arith, e), λ e. omega (arith, e));
   }
   refused_sums starts.Memory w cause = record {
+    known = start_known starts.Memory;
     run = λ tells layout fresh left. inl (record { why = inr refl; idle = idle left k; any_moment = stay layout initial_state.table });
     write_fault = λ e. absurd (omega (arith, e));
     disk_fault = λ e. absurd (omega (arith, e));
@@ -170,6 +176,7 @@ module _ (one : HaveOneLayout) (law : AreNotDamaged) (layout : DiskLayout) (seed
 
   pub unfit_demo : (status : ℕ) (l k : Option (List ℕ)) (r w : Type 0) → IsUnfit status layout old mid → IsDoneSo (Demo layout seed rows) status old mid l l k k r w
   unfit_demo status l k r w (inl six) = record {
+    known = same_status status 6 six.0 is_6;
     output = unfit_output status l k (inl six.0);
     read_fault = λ e. absurd (omega (arith, six.0, e));
     write_fault = λ e. absurd (omega (arith, six.0, e));
@@ -182,6 +189,7 @@ module _ (one : HaveOneLayout) (law : AreNotDamaged) (layout : DiskLayout) (seed
     complete = λ _ _ not. absurd (not six.1);
   }
   unfit_demo status l k r w (inr nine) = record {
+    known = same_status status 9 nine.0 is_9;
     output = unfit_output status l k (inr (inr nine.0));
     read_fault = λ e. absurd (omega (arith, nine.0, e));
     write_fault = λ e. absurd (omega (arith, nine.0, e));
@@ -261,6 +269,7 @@ module _ (one : HaveOneLayout) (law : AreNotDamaged) (layout : DiskLayout) (seed
       new_demo fit l =
           let rose = λ (six : status ≡ 6). rose_earlier old.faults mid.faults new.faults fit.1 (sums.disk_fault six) in
           record {
+            known = sums.known;
             output = record { source = refl; run = λ tells. (new_output l (far tells l)).run tells };
             read_fault = λ four. absurd (sums.others.1 four);
             write_fault = sums.write_fault;

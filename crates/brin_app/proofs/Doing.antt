@@ -36,9 +36,10 @@ use Rattle.brin_app.specs.declared.top.Task.TheVariants.{Demo, Init, Run, RunSto
 use Rattle.brin_app.specs.CrashRule.{IsOfStop}
 use Rattle.brin_app.specs.ScriptOutput.{EachImageHas, HoldsFresh, HoldsTable, IsFreshOutput, IsIdle, IsMade, IsOldOrEmpty, IsOldOrNone, IsScriptRun, IsUnopened, RunsThrough, StartsOver, StopsOfNewRun, StopsOfRun}
 use Rattle.brin_app.specs.StatusCauses.{HasSpentCauses, IsCompleteOf, IsDoneSo, IsRefusedSo, IsSpentOf}
-use Rattle.brin_app.specs.Statuses.{IsFit, IsUnfit, start_status}
+use Rattle.brin_app.specs.Statuses.{IsFit, IsStatus, IsUnfit, start_status}
 use Rattle.brin_app.specs.TaskOutputs.{IsOutputOf}
 use Rattle.brin_app.proofs.Crash.{image_as, run_of}
+use Rattle.brin_app.proofs.Known.{is_0, is_6, is_9, same_status, start_known}
 use Rattle.brin_app.proofs.Outputs.{idle_spent, run_complete, run_spent}
 
 -- ---- laws of the layers below
@@ -82,6 +83,7 @@ idle l k = record { source = refl; sink = refl }
 pub init_done : (layout : DiskLayout) (status : ℕ) (old new : Told) (l k : Option (List ℕ)) (r w : Type 0) → IsMade status layout old new → ((status ≡ 0) × IsFit layout old new) ⊎ IsUnfit status layout old new
     → IsDoneSo (Init layout) status old new l l k k r w
 init_done layout status old new l k r w made (inl fit) = record {
+  known = same_status status 0 fit.0 is_0;
   output = (idle l k, made);
   read_fault = λ e. absurd (omega (arith, fit.0, e));
   write_fault = λ e. absurd (omega (arith, fit.0, e));
@@ -94,6 +96,7 @@ init_done layout status old new l k r w made (inl fit) = record {
   complete = λ _ _ _ _. inl fit.0;
 }
 init_done layout status old new l k r w made (inr (inl six)) = record {
+  known = same_status status 6 six.0 is_6;
   output = (idle l k, made);
   read_fault = λ e. absurd (omega (arith, six.0, e));
   write_fault = λ e. absurd (omega (arith, six.0, e));
@@ -106,6 +109,7 @@ init_done layout status old new l k r w made (inr (inl six)) = record {
   complete = λ _ _ not _. absurd (not six.1);
 }
 init_done layout status old new l k r w made (inr (inr nine)) = record {
+  known = same_status status 9 nine.0 is_9;
   output = (idle l k, made);
   read_fault = λ e. absurd (omega (arith, nine.0, e));
   write_fault = λ e. absurd (omega (arith, nine.0, e));
@@ -166,6 +170,7 @@ module _ (old : Told) (l k : Option (List ℕ)) (only : (image : List ℕ) → I
 module _ (one : HaveOneLayout) (law : AreNotDamaged) (old new : Told) (l k : Option (List ℕ)) (stay : ImagesStay old new) where
   pub refused_done : (fault : StartFault) (r w : Type 0) → (fault ≡ starts.NoStore → IsUntouched old new) → IsRefused old new fault → IsDoneSo RunStored (start_status fault) old new l l k k r w
   refused_done starts.NoStore r w untouched cause = record {
+    known = start_known starts.NoStore;
     output = λ tells layout table holds. absurd (cause.0 tells layout (has_store old layout table holds));
     read_fault = λ e. absurd (omega (arith, e));
     write_fault = λ e. absurd (omega (arith, e));
@@ -178,6 +183,7 @@ module _ (one : HaveOneLayout) (law : AreNotDamaged) (old new : Told) (l k : Opt
     complete = λ _ _ _ tells layout table holds. absurd (cause.0 tells layout (has_store old layout table holds));
   }
   refused_done (starts.Damaged at) r w untouched cause = record {
+    known = start_known (starts.Damaged at);
     output = λ tells layout table holds. absurd (undamaged one law old layout table at holds (cause.0 tells));
     read_fault = λ e. absurd (omega (arith, e));
     write_fault = λ e. absurd (omega (arith, e));
@@ -190,6 +196,7 @@ module _ (one : HaveOneLayout) (law : AreNotDamaged) (old new : Told) (l k : Opt
     complete = λ _ _ _ tells layout table holds. absurd (undamaged one law old layout table at holds (cause.0 tells));
   }
   refused_done starts.Disk r w untouched cause = record {
+    known = start_known starts.Disk;
     output = λ tells layout table holds. inl (record { why = inl refl; idle = idle l k; any_moment = stay layout table });
     read_fault = λ e. absurd (omega (arith, e));
     write_fault = λ e. absurd (omega (arith, e));
@@ -202,6 +209,7 @@ module _ (one : HaveOneLayout) (law : AreNotDamaged) (old new : Told) (l k : Opt
     complete = λ _ _ not. absurd (not cause.1);
   }
   refused_done starts.Memory r w untouched cause = record {
+    known = start_known starts.Memory;
     output = λ tells layout table holds. inl (record { why = inr refl; idle = idle l k; any_moment = stay layout table });
     read_fault = λ e. absurd (omega (arith, e));
     write_fault = λ e. absurd (omega (arith, e));
@@ -327,11 +335,12 @@ module _ {D : Type 0} (told : D → Told) (one : HaveOneLayout) (old : Told) (s 
         let found = image tells s.pages.layout s.pages.pages (pages tells) in
         none s.pages.layout found.0 (record { sized = (there tells).sized; pages = s.pages.pages; opens = pages tells; image = found.1 })
 
-    pub stored_done : HoldsImage old → (r w : Type 0) → (status ≡ 4 → r) → (status ≡ 5 → w) → (old.faults ≤ (told s.pages.disk).faults) → (status ≡ 6 → s.pages.failed ≡ None → Rose (told s.pages.disk).faults new.faults)
+    pub stored_done : HoldsImage old → IsStatus status → (r w : Type 0) → (status ≡ 4 → r) → (status ≡ 5 → w) → (old.faults ≤ (told s.pages.disk).faults) → (status ≡ 6 → s.pages.failed ≡ None → Rose (told s.pages.disk).faults new.faults)
         → (status ≡ 11 → Tells told s.pages → s.pages.failed ≡ None → ⊥) → (status ≢ 2) × (status ≢ 9) → IsDoneSo RunStored status old new l l' k k' r w
-    stored_done image r w read write later disk_ damage others =
+    stored_done image known r w read write later disk_ damage others =
         let rose = λ (six : status ≡ 6). rose_earlier old.faults (told s.pages.disk).faults new.faults later (disk_ six ready) in
         record {
+          known = known;
           output = λ tells layout table holds. inr (stored_run tells layout table holds);
           read_fault = read;
           write_fault = write;
@@ -357,6 +366,7 @@ module _ (one : HaveOneLayout) (law : AreNotDamaged) (layout : DiskLayout) (old 
 
   pub unfit_done : (status : ℕ) (l k : Option (List ℕ)) (r w : Type 0) → IsUnfit status layout old mid → IsDoneSo (Run layout) status old mid l l k k r w
   unfit_done status l k r w (inl six) = record {
+    known = same_status status 6 six.0 is_6;
     output = unfit_output status l k (inl six.0);
     read_fault = λ e. absurd (omega (arith, six.0, e));
     write_fault = λ e. absurd (omega (arith, six.0, e));
@@ -369,6 +379,7 @@ module _ (one : HaveOneLayout) (law : AreNotDamaged) (layout : DiskLayout) (old 
     complete = λ _ _ not. absurd (not six.1);
   }
   unfit_done status l k r w (inr nine) = record {
+    known = same_status status 9 nine.0 is_9;
     output = unfit_output status l k (inr (inr nine.0));
     read_fault = λ e. absurd (omega (arith, nine.0, e));
     write_fault = λ e. absurd (omega (arith, nine.0, e));
@@ -449,6 +460,7 @@ module _ (one : HaveOneLayout) (law : AreNotDamaged) (layout : DiskLayout) (old 
       new_done fit fresh =
           let far = λ (tells : IsTrue old.tells_contents). fresh (moments.tells_contents ∙ tells) layout (holds tells) in
           record {
+            known = done.known;
             output = λ tells. new_output tells (far tells) tells;
             read_fault = done.read_fault;
             write_fault = done.write_fault;

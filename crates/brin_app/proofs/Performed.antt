@@ -17,6 +17,7 @@ performed words task alone done other asks = as_task task other (alone other ask
 -- no fault of the source was met
 pub with_source : {status : ℕ} {old new : Told} {l l' k k' : Option (List ℕ)} {r w : Type 0} {task : Task} → IsDoneSo task status old new l l' k k' ⊥ w → IsDoneSo task status old new l l' k k' r w
 with_source done = record {
+  known = done.known;
   output = done.output;
   read_fault = λ e. absurd (done.read_fault e);
   write_fault = done.write_fault;

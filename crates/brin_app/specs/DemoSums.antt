@@ -20,6 +20,7 @@ use Rattle.brin_app.specs.Asking.{AsksLine}
 use Rattle.brin_app.specs.DemoOutput.{IsFreshDemo}
 use Rattle.brin_app.specs.ScriptOutput.{HoldsFresh}
 use Rattle.brin_app.specs.SessionPlaces.{StopsLine}
+use Rattle.brin_app.specs.Statuses.{IsStatus}
 
 -- the whole demo was said to the sessions, with these counts, and its table has so many blocks then
 pub record IsCounted {D : Type 0} (told : D → Told) (seed rows : ℕ) (a b : Sessions D) (text : List ℕ) : Type 0 where
@@ -39,6 +40,7 @@ HasSummed told seed rows a b taken taken' end = ⊥
 
 -- What comes of the demo over the disk of a new store, where it tells its contents, and when each status comes. No source is read.
 pub record SumsFresh (status seed rows : ℕ) (old new : Told) (taken taken' : Option (List ℕ)) (write_rose : Type 0) : Type 0 where
+  pub known : IsStatus status
   pub run : IsTrue old.tells_contents → (layout : DiskLayout) → HoldsFresh old layout → (left : Option (List ℕ)) → IsFreshDemo status seed rows old new layout left left taken taken'
   pub write_fault : status ≡ 5 → write_rose
   pub disk_fault : status ≡ 6 → Rose old.faults new.faults

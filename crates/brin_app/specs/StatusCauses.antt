@@ -17,6 +17,7 @@ use Rattle.brin_app.specs.declared.top.Task.{Task}
 use Rattle.brin_app.specs.declared.top.Task.TheVariants.{Demo, Init, Run, RunStored}
 use Rattle.brin_app.specs.DemoOutput.{IsCompleteDemo, IsSpentByDemo}
 use Rattle.brin_app.specs.ScriptOutput.{HoldsTable, IsIdle, StartsOver, Stops, Texts}
+use Rattle.brin_app.specs.Statuses.{IsStatus}
 use Rattle.brin_app.specs.TaskOutputs.{IsOutputOf}
 
 -- ---- no store, and a damaged one
@@ -122,6 +123,7 @@ IsCompleteOf RunStored status disk left =
 
 -- What is done for a task, by the status and the disk; the counts of source and sink rose where these say so.
 pub record IsDoneSo (task : Task) (status : ℕ) (old new : Told) (left left' taken taken' : Option (List ℕ)) (read_rose write_rose : Type 0) : Type 0 where
+  pub known : IsStatus status
   pub output : IsOutputOf task status old new left left' taken taken'
   pub read_fault : status ≡ 4 → read_rose
   pub write_fault : status ≡ 5 → write_rose

@@ -1,4 +1,4 @@
--- the status of each refusal of a disk
+-- the statuses of the program, and those of each refusal of a disk
 use Rattle.std.specs.Prelude.{◌≡◌, ◌≢◌, ◌⊎◌, ◌≤◌, ℕ}
 use Rattle.block_model.specs.Causes.{Rose}
 use Rattle.disk_trait.specs.Told.{Told}
@@ -7,6 +7,13 @@ use Rattle.store_format.specs.declared.fault.FormatFault.{FormatFault}
 use Rattle.store_format.specs.declared.fault.FormatFault.TheVariants as formats
 use Rattle.store_opening.specs.declared.fault.StartFault.{StartFault}
 use Rattle.store_opening.specs.declared.fault.StartFault.TheVariants as starts
+
+-- one of the program's: 0, 2, 4 to 9, and 11
+pub record IsStatus (status : ℕ) : Type 0 where
+  pub most : status ≤ 11
+  pub not_one : status ≢ 1
+  pub not_three : status ≢ 3
+  pub not_ten : status ≢ 10
 
 -- where no store is made
 abbrev pub format_status : FormatFault → ℕ

@@ -15,6 +15,7 @@ ghost use Rattle.brin_app.specs.DemoOutput.{IsDemoRun};
 ghost use Rattle.brin_app.specs.DemoSums.{HasSummed, SumsFresh};
 ghost use Rattle.brin_app.specs.ScriptOutput.{RunsThrough};
 ghost use Rattle.brin_app.specs.StatusCauses.{IsDoneSo};
+ghost use Rattle.brin_app.specs.Statuses.{IsStatus};
 
 use crate::laws::a_stored_table_is_not_damaged;
 use crate::sessions::Sessions;
@@ -89,6 +90,7 @@ fn demo_over<D: Disk + Drop, K: Sink>(
     sink: &mut K,
 ) -> (u8, D)
     requires { AreDemoNumbers numbers.seed numbers.rows }
+    ensures known { IsStatus result.0 }
     ensures one_map { (image : List ℕ) (a b : PageMap) → Opens store.pages.layout image a → Opens store.pages.layout image b → a ≡ b }
     ensures runs { (start : Place) → Tells D.told store.pages → store.pages.failed ≡ None → ShowsPlace store start → AllHaveTable D.told store.pages start
         → IsDemoRun result.0 store.pages.layout numbers.seed numbers.rows (RunsThrough (D.told store.pages.disk) (D.told result.1)) (D.told result.1) (K.taken sink.old) (K.taken sink.new) start }

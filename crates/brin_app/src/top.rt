@@ -17,7 +17,7 @@ ghost use Rattle.store_starts.specs.Started.{HoldsImage};
 ghost use Rattle.fresh_store.specs.FreshPages.{IsOldOrFresh};
 ghost use Rattle.brin_app.specs.ScriptOutput.{EachImageHas, EachImageIsFresh, HoldsFresh, IsFreshOutput, IsMade, IsOldOrEmpty, IsScriptRun, RunsThrough, exit_status};
 ghost use Rattle.brin_app.specs.StatusCauses.{HasDamage, IsCompleteOf, IsDoneSo, IsRefusedSo, IsSpentOf, LacksStore};
-ghost use Rattle.brin_app.specs.Statuses.{IsFit, IsUnfit, format_status, start_status};
+ghost use Rattle.brin_app.specs.Statuses.{IsFit, IsStatus, IsUnfit, format_status, start_status};
 ghost use Rattle.command_words.specs.Laws.{AreDemoNumbers};
 ghost use Rattle.brin_app.specs.Tasks.{Asks, HasDemoNumbers, HasNoLayout, HasNumbers, IsLayoutFor, IsTaskOf, IsUsage, IsWrong};
 ghost use Rattle.command_words.specs.declared.command.Command.TheVariants as commands;
@@ -66,7 +66,8 @@ pub fn brin_main<D: Disk + Drop, S: Source, K: Sink>(
     // What is written, and which table a stop at any moment leaves.
     ensures script_output { (task : Task) → Asks words.now task → IsOutputOf task result.0 (D.told disk) (D.told result.1) (S.left source.old) (S.left source.new) (K.taken sink.old) (K.taken sink.new) }
 
-    // When each status comes. Want of memory, 7, is free.
+    // Which statuses there are, and when each comes. Want of memory, 7, is free.
+    ensures known { IsStatus result.0 }
     ensures usage { result.0 ≡ 2 → IsUsage words.now }
     ensures refused { IsUsage words.now → (result.0 ≡ 2) ⊎ (result.0 ≡ 7) }
     ensures untouched { IsUsage words.now → (source.new ≡ source.old) × (sink.new ≡ sink.old) × (result.1 ≡ disk) }
@@ -341,6 +342,7 @@ fn run_opened<D: Disk + Drop, S: Source, K: Sink>(
     source: &mut S,
     sink: &mut K,
 ) -> (u8, D)
+    ensures known { IsStatus result.0 }
     // The law of its layout, for the caller.
     ensures one_map { (image : List ℕ) (a b : PageMap) → Opens store.pages.layout image a → Opens store.pages.layout image b → a ≡ b }
     ensures runs { (start : Place) → Tells D.told store.pages → store.pages.failed ≡ None → ShowsPlace store start → AllHaveTable D.told store.pages start

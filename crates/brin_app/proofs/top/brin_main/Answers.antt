@@ -1,11 +1,15 @@
 use Rattle.std.proofs.Common.{Err, ap, subst}
 use Rattle.brin_app.specs.Tasks.{Asks}
 use Rattle.brin_app.proofs.Doing.{idle_complete_of, idle_output, idle_refused_of, idle_spent_of}
+use Rattle.brin_app.proofs.Known.{is_2, is_7}
 use Rattle.brin_app.proofs.Performed.{performed}
 use Rattle.brin_app.proofs.top.brin_main.Goals as goal
 
 pub perform-requires-clause-image : goal.perform-requires-clause-image
 perform-requires-clause-image g c = λ is. c.requires (subst (Asks c.args.words.now) is c.in-Ok.ensures.asked)
+
+pub returns-in-Ok-clause-known : goal.returns-in-Ok-clause-known
+returns-in-Ok-clause-known g c = c.perform.ensures.done.known
 
 pub returns-in-Ok-clause-script_output : goal.returns-in-Ok-clause-script_output
 returns-in-Ok-clause-script_output g c = λ task asked. (performed c.args.words.now c.in-Ok.task c.in-Ok.ensures.alone c.perform.ensures.done task asked).output
@@ -43,6 +47,9 @@ returns-in-Ok-clause-spent g c = λ task asked. (performed c.args.words.now c.in
 pub returns-in-Ok-clause-complete : goal.returns-in-Ok-clause-complete
 returns-in-Ok-clause-complete g c = λ task asked. (performed c.args.words.now c.in-Ok.task c.in-Ok.ensures.alone c.perform.ensures.done task asked).complete
 
+pub returns-in-Err-Usage-clause-known : goal.returns-in-Err-Usage-clause-known
+returns-in-Err-Usage-clause-known g c = is_2
+
 pub returns-in-Err-Usage-clause-script_output : goal.returns-in-Err-Usage-clause-script_output
 returns-in-Err-Usage-clause-script_output g c = λ task asked. absurd (c.in-Err-Usage.ensures.nothing (ap Err c.in-Err-Usage.field-0-is) task asked)
 
@@ -57,6 +64,9 @@ returns-in-Err-Usage-clause-spent g c = λ task asked. absurd (c.in-Err-Usage.en
 
 pub returns-in-Err-Usage-clause-complete : goal.returns-in-Err-Usage-clause-complete
 returns-in-Err-Usage-clause-complete g c = λ task asked. absurd (c.in-Err-Usage.ensures.nothing (ap Err c.in-Err-Usage.field-0-is) task asked)
+
+pub returns-in-Err-Memory-clause-known : goal.returns-in-Err-Memory-clause-known
+returns-in-Err-Memory-clause-known g c = is_7
 
 pub returns-in-Err-Memory-clause-script_output : goal.returns-in-Err-Memory-clause-script_output
 returns-in-Err-Memory-clause-script_output g c = λ task _. idle_output (g.D.Disk.told c.args.disk) _ _ (g.met.D.Disk.since_now_is_now c.args.disk) task

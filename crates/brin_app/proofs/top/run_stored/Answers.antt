@@ -5,7 +5,7 @@ use Rattle.brin_app.proofs.top.run_stored.Goals as goal
 pub returns-in-Ok-clause-done : goal.returns-in-Ok-clause-done
 returns-in-Ok-clause-done g c =
     stored_done g.D.Disk.told c.one_layout.ensures (g.D.Disk.told c.args.disk) c.in-Ok.store c.run_opened.ensures.one_map c.in-Ok.ensures.there c.in-Ok.ensures.pages c.in-Ok.ensures.tells
-    c.in-Ok.ensures.ready c.in-Ok.ensures.opens c.in-Ok.ensures.any_moment (g.D.Disk.told c.run_opened.result.1) c.run_opened.result.0 _ _ _ _ c.run_opened.ensures.runs c.requires _ _
+    c.in-Ok.ensures.ready c.in-Ok.ensures.opens c.in-Ok.ensures.any_moment (g.D.Disk.told c.run_opened.result.1) c.run_opened.result.0 _ _ _ _ c.run_opened.ensures.runs c.requires c.run_opened.ensures.known _ _
     c.run_opened.ensures.read_fault c.run_opened.ensures.write_fault c.in-Ok.ensures.later c.run_opened.ensures.disk_fault c.run_opened.ensures.damaged c.run_opened.ensures.others
 
 pub returns-in-Ok-clause-fresh : goal.returns-in-Ok-clause-fresh
