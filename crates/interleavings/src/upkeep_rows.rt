@@ -1,6 +1,7 @@
 //! Scripts of vacuum, and of the summaries that inserts ask for.
 
 use script_rows::{Script, first_wrong, holds_either_way, parted, written};
+use std::alloc::Global;
 use std::string::String;
 use std::test::Fail;
 
@@ -162,18 +163,64 @@ s1 finish -> s1 inserted 3.0
 s1 commit -> s1 committed
 s1 explain t where a = -7 -> s1 blocks 0-1";
 
-#[test]
-fn a_map_grows_over_a_full_page(rt: HostRuntime) -> Result<(), Fail> {
-    let alloc = rt.alloc();
+/// What comes behind 2,039 rows of a page each, where the last of their ranges alone has a summary: an insert has copied it when the growth
+/// moves it, and waits; then it takes the one that was moved.
+const MOVED: &str = "
+s1 commit -> s1 committed
+m summarize i 2038 -> m summarized 1
+s1 begin -> s1 begun 2
+s1 start insert t 5000 -> s1 started
+s1 step -> s1 moved row
+s1 step -> s1 moved map
+s1 step -> s1 moved copy
+s2 begin -> s2 begun 3
+s2 insert t 7 -> s2 inserted 3.0
+m start summarize i 2040 -> m started
+m step -> m moved right
+m step -> m moved map
+m step -> m moved flag
+m step -> m moved put
+s1 step -> s1 error 11 page i 2 m
+m finish -> m summarized 1
+s1 step -> s1 moved again
+s1 finish -> s1 inserted 2.0
+s1 explain t where a = 5000 -> s1 blocks 0-2039
+s1 explain t where a = 7 -> s1 blocks 0-2037 2040";
+
+/// Sizes for these, with pages of one row and ranges of two pages.
+const WIDE: &str =
+    "run|--heap-blocks|2100|--index-blocks|16|--status-blocks|1|--log-pages|16|table t(a int8) rows_per_page 1|index i on t(a minmax) pages_per_range 2";
+
+/// The same with the fewest frames.
+const FEW_FRAMES: &str =
+    "run|--heap-blocks|2100|--index-blocks|16|--status-blocks|1|--log-pages|16|--frames|16|table t(a int8) rows_per_page 1|index i on t(a minmax) pages_per_range 2";
+
+/// Whether a run inserts so many rows, of the numbers from 0 on, and then answers the lines behind them.
+fn answers(alloc: Global, words: &str, rows: u32, behind: &str) -> Result<bool, Fail> {
     let mut lines = String::from_str(alloc, "s1 begin -> s1 begun 1")?;
-    for n in 0..2040 {
+    for n in 0..rows {
         lines.push_str(&format!(in alloc; "\ns1 insert t {n} -> s1 inserted 1.{n}")?)?;
     }
-    lines.push_str(GROWTH)?;
-    let words =
-        "run|--heap-blocks|2100|--index-blocks|16|--status-blocks|1|--log-pages|16|table t(a int8) rows_per_page 1|index i on t(a minmax) pages_per_range 2";
+    lines.push_str(behind)?;
     let (script, output) = parted(alloc, lines.as_str())?;
     let (status, sink) = written(alloc, words, script, 65536)?;
-    assert!(rt; status == 0 && sink.bytes() == output.as_slice());
+    Ok(status == 0 && sink.bytes() == output.as_slice())
+}
+
+#[test]
+fn a_map_grows_over_a_full_page(rt: HostRuntime) -> Result<(), Fail> {
+    assert!(rt; answers(rt.alloc(), WIDE, 2040, GROWTH)?);
+    Ok(())
+}
+
+#[test]
+fn a_map_grows_with_few_frames(rt: HostRuntime) -> Result<(), Fail> {
+    assert!(rt; answers(rt.alloc(), FEW_FRAMES, 2040, GROWTH)?);
+    Ok(())
+}
+
+#[test]
+fn a_moved_tuple_makes_an_insert_retry(rt: HostRuntime) -> Result<(), Fail> {
+    assert!(rt; answers(rt.alloc(), WIDE, 2039, MOVED)?);
     Ok(())
 }

@@ -7,6 +7,10 @@ use std::test::Fail;
 const WORDS: &str =
     "run|--heap-blocks|8|--index-blocks|4|--status-blocks|1|--log-pages|16|table t(a int8)";
 
+/// The words of a run over one with pages of two rows and an index of them.
+const PAIRS: &str =
+    "run|--heap-blocks|8|--index-blocks|4|--status-blocks|1|--log-pages|16|table t(a int8) rows_per_page 2|index i on t(a minmax) pages_per_range 1";
+
 /// Tables without a free slot.
 const FULL_TABLES: [Script; 4] = [
     (
@@ -145,10 +149,9 @@ fn transaction_numbers_run_out(rt: HostRuntime) -> Result<(), Fail> {
     for _ in 0..32_639 {
         script.extend_from_slice(b"s1 begin\ns1 rollback\n")?;
     }
-    script.extend_from_slice(b"s1 begin\ns1 commit\n")?;
-    let words = "run|--heap-blocks=1|--status-blocks=1|table t(a int8)";
-    let (status, sink) = written(rt.alloc(), words, script, 1 << 20)?;
-    let last = b"\ns1 begun 32639\ns1 rolled back\ns1 error 8 status 32640\ns1 error 4\n";
+    script.extend_from_slice(b"s1 begin\n")?;
+    let (status, sink) = written(rt.alloc(), PAIRS, script, 1 << 20)?;
+    let last = b"\ns1 begun 32639\ns1 rolled back\ns1 error 8 status 32640\n";
     assert_eq!(rt; (status, sink.bytes().ends_with(last)), (0, true));
     Ok(())
 }
@@ -190,7 +193,7 @@ fn begins_and_rollbacks_fill_the_journal(rt: HostRuntime) -> Result<(), Fail> {
 
 #[test]
 fn missing_line_feed_and_long_line(rt: HostRuntime) -> Result<(), Fail> {
-    assert!(rt; holds_either_way(rt.alloc(), WORDS, b"", b"")?, "no line");
+    assert!(rt; holds_either_way(rt.alloc(), PAIRS, b"", b"")?, "no line");
     assert!(rt;
         holds_either_way(rt.alloc(), WORDS, b"s1 begin", b"s1 begun 1\n")?,
         "no line feed"

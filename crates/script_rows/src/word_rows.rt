@@ -37,6 +37,7 @@ run|table abcdefghijklmnop(a int8)";
 
 /// Command lines that ask for nothing, or pass a limit.
 const REFUSED: &str = "
+runn
 runn|table t(a int8)
 Run|table t(a int8)
 run |table t(a int8)
@@ -89,6 +90,7 @@ run|--|-x|table t(a int8)
 run|table t(a int8)|--|--
 run|--frames|16|17|table t(a int8)
 run|table t(a int8)|run
+run|--heap-blocks|0|table t(a int8)
 run|--heap-blocks=0|table t(a int8)
 run|--heap-blocks=131073|table t(a int8)
 run|--heap-blocks=4294967297|table t(a int8)
