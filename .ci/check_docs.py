@@ -1,5 +1,6 @@
 #!/usr/bin/env python3
-"""Checks the documents: the README's example is the stored run of crates/brin, links resolve, and every crate is in the map."""
+"""Checks the documents: the README's example is the stored run of crates/brin, links resolve, every crate is in the map, every entry of the definitions is in
+their index, no sentence of the pages for users is long, and no measured figure stands in two pages."""
 import os
 import re
 import shlex
@@ -66,10 +67,73 @@ def map_faults():
         yield from (f"docs/{page}: no crate {name}" for name in crates if f"crates/{name}/" not in text)
 
 
+def index_faults():
+    """The entries of the definitions that their index lacks, and the names in it that have none."""
+    index, _, entries = read("docs", "definitions.md").partition("## Index")[2].partition("\n## ")
+    names = {name for line in re.findall(r"^\*\*([^*]+)\*\*", entries, re.M) for name in line.split(", ")}
+    for name in sorted(names ^ set(re.findall(r"\[([^]]+)\]", index))):
+        yield f"docs/definitions.md: {name} is an entry or in the index, and not both"
+
+
+SHORT = ("README.md", "docs/reference.md", "docs/durability.md", "docs/promise.md", "docs/tour.md")
+MOST_WORDS = 30
+
+
+def prose(text):
+    """The paragraphs and list items of a page, each as one line: no code, table, heading, quotation or comment; a link is its text, and code in a line one word."""
+    text = re.sub(r"```.*?```|<!-- example:begin -->.*?<!-- example:end -->|<!--.*?-->", "", text, flags=re.S)
+    text = re.sub(r"`[^`\n]*`", "code", re.sub(r"\[([^]]*)\]\([^)]*\)", r"\1", text))
+    text = re.sub(r"^( {4}|\||#|>).*$", "", text, flags=re.M)
+    text = re.sub(r"^(- |\d+\. )", r"\n", text, flags=re.M)
+    return [" ".join(part.split()) for part in re.split(r"\n\s*\n", text) if part.strip()]
+
+
+def long_sentences(text):
+    for sentence in (s for part in prose(text) for s in re.split(r"(?<=[.!?])\s+", part)):
+        if len(sentence.split()) > MOST_WORDS:
+            yield sentence
+
+
+def sentence_faults():
+    for page in (page for page in SHORT if os.path.exists(os.path.join(TOP, page))):
+        for sentence in long_sentences(read(page)):
+            yield f"{page}: {len(sentence.split())} words: {sentence[:60]}.."
+
+
+UNITS = r"(?:ns|µs|ms|s|sec(?:onds?)?|min(?:utes?)?|hours?|rows a second|[kKMG]i?B)"
+
+
+def figures(text, bare=False):
+    """The figures with a unit of time, rate or bytes; `bare` gives numbers with a comma or a point too, whose unit a table's head may say. A figure has two
+    significant digits or more, a bare one three: fewer would meet by chance."""
+    for number, unit in re.findall(rf"(?<![\w.,-])(\d[\d,]*(?:\.\d+)?)(?: ?({UNITS})\b)?(?![\w-])", text):
+        number = number.rstrip(",")
+        digits = len(number.replace(",", "").replace(".", "").strip("0"))
+        if digits >= 2 and unit or bare and digits >= 3 and re.search(r"[.,]", number):
+            yield number.replace(",", ""), unit
+
+
+def figure_faults():
+    """Figures that stand in two pages. What the reference says is a limit, which others may repeat."""
+    measured = ("docs/speed.md", "docs/gate.md")
+    texts = {os.path.relpath(page, TOP): read(page) for page in pages()}
+    limits = set(re.findall(r"\d+", texts.pop("docs/reference.md", "").replace(",", "")))
+    known = {number for page in measured for number, _ in figures(texts.get(page, ""), bare=True)}
+    found = {}
+    for page, text in texts.items():
+        for number, unit in set(figures(text, bare=True)):
+            if number not in limits and (unit or number in known):
+                found.setdefault(number, set()).add(page)
+    for number, places in sorted(found.items()):
+        if len(places) > 1:
+            yield f"{', '.join(sorted(places))}: the figure {number} stands in each"
+
+
 def main():
-    faults = [*example_faults(), *link_faults(), *map_faults()]
+    faults = [*example_faults(), *link_faults(), *map_faults(), *index_faults(), *sentence_faults(), *figure_faults()]
     print("\n".join(faults) or "documents: ok")
     sys.exit(bool(faults))
 
 
-main()
+if __name__ == "__main__":
+    main()
