@@ -71,7 +71,7 @@ def index_faults():
     """The entries of the definitions that their index lacks, and the names in it that have none."""
     index, _, entries = read("docs", "definitions.md").partition("## Index")[2].partition("\n## ")
     names = {name for line in re.findall(r"^\*\*([^*]+)\*\*", entries, re.M) for name in line.split(", ")}
-    for name in sorted(names ^ set(re.findall(r"\[([^]]+)\]", index))):
+    for name in sorted(names ^ {" ".join(name.split()) for name in re.findall(r"\[([^]]+)\]", index)}):
         yield f"docs/definitions.md: {name} is an entry or in the index, and not both"
 
 
@@ -83,7 +83,7 @@ def prose(text):
     """The paragraphs and list items of a page, each as one line: no code, table, heading, quotation or comment; a link is its text, and code in a line one word."""
     text = re.sub(r"```.*?```|<!-- example:begin -->.*?<!-- example:end -->|<!--.*?-->", "", text, flags=re.S)
     text = re.sub(r"`[^`\n]*`", "code", re.sub(r"\[([^]]*)\]\([^)]*\)", r"\1", text))
-    text = re.sub(r"^( {4}|\||#|>).*$", "", text, flags=re.M)
+    text = re.sub(r"\*|^( {4}|\||#|>).*$", "", text, flags=re.M)
     text = re.sub(r"^(- |\d+\. )", r"\n", text, flags=re.M)
     return [" ".join(part.split()) for part in re.split(r"\n\s*\n", text) if part.strip()]
 
