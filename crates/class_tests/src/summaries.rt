@@ -1,41 +1,15 @@
-//! Summaries of the classes: what values leave, the bytes of it, and unions.
+//! Summaries of multi, whose elements are told, and of bloom, and what values may match.
 
 ghost use Rattle.std.specs.Prelude.{◌≡◌, IfOk};
 ghost use Rattle.opclass_multi.specs.Kept.{IsSummary};
 ghost use Rattle.opclass_bloom.specs.Includes.{HasWords};
 
-use block_model::{Cond, Net, NoMemory, Op, Span8, Value};
+use block_model::{Cond, Net, NoMemory, Op, Value};
 use opclass_api::{OpClass, may_match};
 use opclass_bloom::Bloom;
-use opclass_inclusion::{NetHull, SpanHull, net_exact_summary, span_exact_summary};
-use opclass_minmax::{MinMax, exact_summary};
+use opclass_minmax::MinMax;
 use opclass_multi::{Element, Multi, Summary};
 use std::alloc::Global;
-
-#[test]
-fn minmax_has_the_least_and_the_greatest(rt: HostRuntime) {
-    let class = MinMax::new();
-    let values = [Value::Int(256), Value::Int(-2)];
-    let mut summary = exact_summary(&values);
-    let mut out = [7u8; 17];
-    let size = class.encode(&summary, &mut out);
-    let changes = [
-        class.add(&mut summary, &Value::Int(256)),
-        class.add(&mut summary, &Value::Int(257)),
-        class.union(&mut summary, &exact_summary(&values)),
-    ];
-    let wanted = [
-        255, 255, 255, 255, 255, 255, 255, 254, 0, 0, 0, 0, 0, 0, 1, 0, 7,
-    ];
-    assert_eq!(rt; (size, out, changes), (16, wanted, [false, true, false]));
-    let cond = Cond {
-        column: 0,
-        op: Op::Lt,
-        key: Value::Int(-2),
-    };
-    let found = may_match(&class, rt.alloc(), &values, &[cond]);
-    assert_eq!(rt; (found, class.greatest_size()), (Ok(false), 16));
-}
 
 /// The summary of the numbers, added one after the other.
 fn added(class: &Multi, alloc: Global, numbers: &[i64]) -> Result<Summary, NoMemory>
@@ -191,35 +165,17 @@ fn multi_merges_the_least_gaps(rt: HostRuntime) {
     assert_eq!(rt; found, [Ok(true); 3]);
 }
 
-/// At limit 8: the interval from 1 to 5 and the point 7; and the interval from 5 to 7.
-const APART: [u8; 28] = [
-    0, 2, 1, 0, 0, 0, 0, 0, 0, 0, 1, 0, 0, 0, 0, 0, 0, 0, 5, 0, 0, 0, 0, 0, 0, 0, 0, 7,
-];
-
-const BETWEEN: [u8; 19] = [0, 1, 1, 0, 0, 0, 0, 0, 0, 0, 5, 0, 0, 0, 0, 0, 0, 0, 7];
-
-const JOINED: [Element; 1] = [Element {
-    least: 1,
-    greatest: 7,
-}];
-
+/// No program asks this: a scan asks summaries that stand.
 #[test]
-fn multi_writes_points_and_intervals_and_joins_them(rt: HostRuntime) {
-    let class = Multi::new(8).expect(&rt, "a limit");
-    let mut summary = class.empty(rt.alloc()).expect(&rt, "room");
-    let mut other = class.empty(rt.alloc()).expect(&rt, "room");
-    let mut out = [9u8; 74];
-    let sizes = (class.greatest_size(), class.encode(&summary, &mut out));
-    let read = class.decode(&APART, &mut summary).is_ok();
-    let size = class.encode(&summary, &mut out);
-    assert_eq!(rt; (sizes, read, size), ((74, 2), true, 28));
-    assert_eq!(rt; out.split_at(28), (APART.as_slice(), [9; 46].as_slice()));
-    let read = class.decode(&BETWEEN, &mut other).is_ok();
-    let grew = class.union(&mut summary, &other);
-    assert_eq!(rt;
-        (read, grew, summary.elements()),
-        (true, true, JOINED.as_slice())
-    );
+fn values_may_match(rt: HostRuntime) {
+    let values = [Value::Int(256), Value::Int(-2)];
+    let below = Cond {
+        column: 0,
+        op: Op::Lt,
+        key: Value::Int(-2),
+    };
+    let found = may_match(&MinMax::new(), rt.alloc(), &values, &[below]);
+    assert_eq!(rt; found, Ok(false));
 }
 
 /// The bytes of a bloom of 64 bits that a value makes, and whether it changes the summary once alone.
@@ -252,52 +208,4 @@ fn bloom_sets_the_positions_of_a_value(rt: HostRuntime) {
         Ok(([0, 0, 10, 0, 0, 0, 4, 0], true)),
     ];
     assert_eq!(rt; found, wanted);
-}
-
-#[test]
-fn inclusion_of_ranges_has_a_flag_and_a_hull(rt: HostRuntime) {
-    let class = SpanHull::new();
-    let below = Span8::from_bounds(None, Some((-2, false))).expect(&rt, "bounds");
-    let summary = span_exact_summary(&[Value::Span(Span8::empty()), Value::Span(below)]);
-    let mut again = class.empty(rt.alloc()).expect(&rt, "room");
-    let mut out = [9u8; 20];
-    let nothing = (
-        class.greatest_size(),
-        class.encode(&again, &mut out),
-        out[0],
-    );
-    let grew = class.union(&mut again, &summary);
-    let same = class.add(&mut again, &Value::Span(below));
-    let size = class.encode(&again, &mut out);
-    let wanted = [
-        3, 2, 0, 0, 0, 0, 0, 0, 0, 0, 255, 255, 255, 255, 255, 255, 255, 254, 9, 9,
-    ];
-    assert_eq!(rt;
-        (nothing, grew, same, size, out),
-        ((18, 18, 0), true, false, 18, wanted)
-    );
-}
-
-/// 10.0.0.1/24 and 10.0.1.0/24 are in 10.0.0.0/23.
-#[test]
-fn inclusion_of_networks_has_the_smallest_network(rt: HostRuntime) {
-    let class = NetHull::new();
-    let host = Net::v4(0x0A00_0001, 24).expect(&rt, "a prefix");
-    let other = Net::v4(0x0A00_0100, 24).expect(&rt, "a prefix");
-    let summary = net_exact_summary(&[Value::Net(host), Value::Net(other)]);
-    let mut again = class.empty(rt.alloc()).expect(&rt, "room");
-    let mut out = [9u8; 8];
-    let nothing = (
-        class.greatest_size(),
-        class.encode(&again, &mut out),
-        out[0],
-    );
-    let grew = class.union(&mut again, &summary);
-    let same = class.add(&mut again, &Value::Net(host));
-    let size = class.encode(&again, &mut out);
-    let wanted = [2, 4, 23, 10, 0, 0, 0, 9];
-    assert_eq!(rt;
-        (nothing, grew, same, size, out),
-        ((7, 7, 0), true, false, 7, wanted)
-    );
 }

@@ -13,8 +13,6 @@ mod layout;
 mod lines;
 mod round;
 mod row;
-#[cfg(test)]
-mod tests;
 
 pub use answer::{Answer, Answerer};
 pub use counts::{Counts, render_summary};

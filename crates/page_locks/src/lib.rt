@@ -16,6 +16,3 @@ pub use held::Held;
 pub use laws::{a_taken_lock_is_given_back, few_locks_are_held};
 pub use locks::Locks;
 pub use rights::Rights;
-
-#[cfg(test)]
-mod tests;

@@ -1,11 +1,12 @@
-//! What changes, as their bytes in the log, do to pages. Each is of the first block of relation 1.
+//! What changes, as their bytes in the log, do to pages, and that each is written as these bytes. Each is of the first block of relation 1.
 
 ghost use Rattle.page_layout.specs.PageContents.{IsForm};
 
-use crate::rows::{ROW, heap};
-use page_layout::{Form, Page, check};
-use page_redo::{Misfit, fits, redo, redo_checked};
-use wal_record::{Change, decode};
+use crate::rows::heap;
+use block_model::Place;
+use page_layout::{Form, Page};
+use page_redo::{Misfit, redo};
+use wal_record::{Change, decode, encode};
 
 /// The row 1.0 of 5, which transaction 258 deleted.
 const MARKED: [u8; 30] = [
@@ -28,12 +29,31 @@ fn answer_to(page: &mut Page, form: &Form, bytes: &[u8]) -> Option<u8>
     }
 }
 
-/// Makes the changes one after the other, each where it fits, and answers the place in the list of the first that isn't answered so.
+/// Whether the change that the bytes are is written as these bytes.
+fn is_written_so(bytes: &[u8], out: &mut [u8]) -> bool {
+    match decode(bytes) {
+        Ok((change, long)) => {
+            if long > out.len() {
+                return false;
+            }
+            let size = encode(&change, out);
+            let written: &[u8] = out;
+            size == long && &written[..size] == bytes
+        }
+        Err(_) => false,
+    }
+}
+
+/// Makes the changes one after the other, each where it fits, and answers the place in the list of the first that isn't answered or
+/// written so.
 fn first_other(page: &mut Page, form: &Form, redos: &[Redo<'_>]) -> Option<usize>
     requires { IsForm form.now }
 {
     for (at, (bytes, answer)) in redos.iter().enumerate() {
         if answer_to(page, form, bytes) != Some(*answer) {
+            return Some(at);
+        }
+        if !is_written_so(bytes, &mut [9; 8198]) {
             return Some(at);
         }
     }
@@ -211,60 +231,19 @@ fn pages_of_the_map_take_entries_and_their_number(rt: HostRuntime) {
     assert_eq!(rt; found, [(None, true); 2]);
 }
 
-/// What an empty page of tuples refuses.
-const REFUSED: [Redo<'static>; 7] = [
-    (PUT_SECOND, 6),
-    (REPLACE_FIRST, 7),
-    (DROP_FIRST, 8),
-    (b"\x02\x01\0\0\0\0\x02", 2),
-    (TURN, 10),
-    (b"\x0b\x01\0\0\0\0\0\0\0\0\0\x11\0\x02", 11),
-    (MAPS, 12),
-];
-
-/// A put of a tuple of 8157 bytes, of which an empty page takes one less.
-fn long_put() -> [u8; 8167] {
-    let mut change = [1; 8167];
-    change[..10].copy_from_slice(b"\x06\x01\0\0\0\0\0\0\x1f\xdd");
-    change
-}
-
-#[test]
-fn an_empty_page_of_tuples_takes_no_tuple_but_the_first(rt: HostRuntime) {
-    let mut page = Page::from_bytes(&page_of(5));
-    let found = [
-        made_on(&mut page, &Form::Index, &REFUSED, &page_of(5)),
-        made_on(&mut page, &Form::Index, &[(&long_put(), 6)], &page_of(5)),
-    ];
-    assert_eq!(rt; found, [(None, true); 2]);
-}
-
-/// What `fits` tells and `redo_checked` answers on a page that passes its check.
-fn redone(page: &mut Page, change: &Change<'_>, form: &Form) -> Option<(bool, Result<(), Misfit>)>
-    requires { IsForm form.now }
-{
-    match check(page, *form) {
-        Ok(()) => {
-            let fitting = fits(page, change, *form);
-            Some((fitting, redo_checked(page, change, *form)))
-        }
-        Err(_) => None,
-    }
-}
-
-/// The row is put twice into a page of two empty slots.
-fn put_twice(page: &mut Page) -> [Option<(bool, Result<(), Misfit>)>; 2] {
-    match decode(PUT) {
-        Ok((put, _)) => [redone(page, &put, &heap()), redone(page, &put, &heap())],
-        Err(_) => [None; 2],
+/// The place of the change, if it is an evacuation.
+fn evacuated(bytes: &[u8]) -> Option<Place> {
+    match decode(bytes) {
+        Ok((Change::Evacuate { place }, _)) => Some(place),
+        _ => None,
     }
 }
 
 #[test]
-fn checked_pages_take_what_fits(rt: HostRuntime) {
-    let mut page = Page::from_bytes(&page_of(2));
-    let found = put_twice(&mut page);
-    let is_put = page.as_bytes().get(62..92) == Some(ROW.as_slice());
-    let wanted = [Some((true, Ok(()))), Some((false, Err(Misfit { tag: 3 })))];
-    assert_eq!(rt; (found, is_put), (wanted, true));
+fn a_change_begins_with_its_tag_and_its_place(rt: HostRuntime) {
+    let place = Place {
+        relation: 5,
+        block: 0x0102_0304,
+    };
+    assert_eq!(rt; evacuated(b"\x09\x05\x01\x02\x03\x04"), Some(place));
 }

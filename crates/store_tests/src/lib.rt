@@ -1,19 +1,16 @@
-//! Tests of the store of pages over log and pool, and of the table of transactions, over the public calls of logged_pages and tx_table.
-//! Nothing stands on it.
+//! Tests of the store of pages over log and pool, and of the table of transactions, over the public calls of logged_pages and tx_table:
+//! which calls of a disk are made, in which order, and the numbers of statuses on the disk. And a run of the serial model, which no
+//! program makes. Nothing stands on it.
 #![tactic(auto)]
 
-#[cfg(test)]
-mod openings;
 #[cfg(test)]
 mod orders;
 #[cfg(test)]
 mod reads;
 #[cfg(test)]
-mod rooms;
+mod serial;
 #[cfg(test)]
 mod status_pages;
-#[cfg(test)]
-mod steps;
 #[cfg(test)]
 mod stores;
 #[cfg(test)]

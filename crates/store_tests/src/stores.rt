@@ -16,7 +16,7 @@ use store_opening::is_place;
 use wal_record::Change;
 
 /// More writes and syncs than a test makes, and more bytes than they write.
-pub const MANY: u64 = 100;
+const MANY: u64 = 100;
 
 const BYTES: u64 = 1_000_000;
 
@@ -27,23 +27,18 @@ const STATUSES: Place = Place {
 };
 
 /// A block of the table.
-pub fn heap_block(block: u32) -> Place {
+fn heap_block(block: u32) -> Place {
     Place { relation: 1, block }
 }
 
-/// The layout of the table `t(a int8)` of so many rows a page and so many blocks. An area of the log has 131072 bytes, the pages begin
-/// at byte 270336 with that of the statuses, and the pool has 16 frames.
-pub fn layout_of(alloc: Global, rows_per_page: u16, heap_blocks: u32) -> Option<Layout> {
+/// The layout of the table `t(a int8)` of one row a page and so many blocks. An area of the log has 131072 bytes, the pages begin at byte
+/// 270336 with that of the statuses, and the pool has 16 frames.
+pub fn layout(alloc: Global, heap_blocks: u32) -> Option<Layout> {
     let sizes = Sizes {
         heap_blocks,
         ..LEAST
     };
-    table_layout(alloc, rows_per_page, sizes)
-}
-
-/// The same of one row a page.
-pub fn layout(alloc: Global, heap_blocks: u32) -> Option<Layout> {
-    layout_of(alloc, 1, heap_blocks)
+    table_layout(alloc, 1, sizes)
 }
 
 /// A disk of this image that makes so many writes and syncs, and then fails.
@@ -63,7 +58,7 @@ pub fn formatted(alloc: Global, layout: &Layout) -> Option<Vec<u8>> {
 
 /// Makes the change of the page at the place. `None` where there is no such page, where the change doesn't fit it, or where the
 /// store refuses.
-pub fn make(store: &mut PageStore<MemoryDisk>, place: Place, change: &Change<'_>) -> Option<()>
+fn make(store: &mut PageStore<MemoryDisk>, place: Place, change: &Change<'_>) -> Option<()>
     requires own { place_of (logged change.now) ≡ place }
 {
     if !is_place(store.layout(), place) {

@@ -11,7 +11,6 @@ ghost use Rattle.tx_table.specs.TxState.{IsOver, IsOwn};
 use block_model::Place;
 use disk_trait::Disk;
 use logged_pages::PageStore;
-use page_layout::STATUS_ENTRIES;
 use page_store::StoreError;
 use snapshot_core::Status;
 use std::alloc::Global;
@@ -60,11 +59,6 @@ fn over<D: Disk + Drop>(store: PageStore<D>) -> Option<Trial<D>>
 }
 
 impl<D: Disk + Drop> Trial<D> {
-    /// Opens the disk again.
-    pub fn opened_again(self, alloc: Global) -> Option<Trial<D>> {
-        opened(alloc, self.store.into_disk())
-    }
-
     pub fn begin(&mut self) -> Result<u64, BeginFault> {
         self.table.begin(&mut self.store)
     }
@@ -77,37 +71,12 @@ impl<D: Disk + Drop> Trial<D> {
         self.table.commit(&mut self.store, t).is_ok()
     }
 
-    /// Commits two transactions of the first block that are begun, and says whether it did.
-    pub fn commit_two(&mut self, t: u64, u: u64) -> bool {
-        if t >= u64::from(STATUS_ENTRIES) {
-            return false;
-        }
-        if u >= u64::from(STATUS_ENTRIES) {
-            return false;
-        }
-        if !is_begun(&self.table, &mut self.store, t) {
-            return false;
-        }
-        if !is_begun(&self.table, &mut self.store, u) {
-            return false;
-        }
-        self.table.commit_all(&mut self.store, &[t, u]).is_ok()
-    }
-
     /// Rolls a transaction back that is begun, and says whether it did.
     pub fn rollback(&mut self, t: u64) -> bool {
         if !is_begun(&self.table, &mut self.store, t) {
             return false;
         }
         self.table.rollback(&mut self.store, t).is_ok()
-    }
-
-    pub fn status(&mut self, t: u64) -> Result<Status, StoreError> {
-        told_status(&self.table, &mut self.store, t)
-    }
-
-    pub fn next(&self) -> u64 {
-        self.table.next()
     }
 
     /// The byte of the page of the first block.

@@ -1,17 +1,9 @@
-//! Tests of values, layouts, and the crates of texts, over their public calls: worked texts with their values, printed lines,
-//! and faults with their places. The layers below prove what a clause says; these tests show that the definitions say what was
-//! meant. Expected values are those of PostgreSQL 16 or worked out by hand. Nothing stands on it.
+//! Tests of lines that are printed, and of the run of a script: how many calls of the sink it makes, and where it ends. Over the public
+//! calls of query_words, io_traits and script_run. How lines, values and declarations are read, and what values and replies are printed
+//! as, rows of scripts show. Nothing stands on it.
 #![tactic(auto)]
 
 #[cfg(test)]
-mod declarations;
-#[cfg(test)]
-mod layouts;
-#[cfg(test)]
 mod lines;
 #[cfg(test)]
-mod replies;
-#[cfg(test)]
-mod texts;
-#[cfg(test)]
-mod values;
+mod runs;

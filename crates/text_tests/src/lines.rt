@@ -1,87 +1,32 @@
-//! Lines that are read and printed, and refusals with their places.
+//! Lines that are printed; the program prints none.
 
-use crate::declarations::declared;
-use block_model::{Refusal, Sizes};
-use query_words::{Line, LineFault, Verb, print_line, read_line, read_line_in};
+use query_words::{print_line, read_line};
+use small_layouts::{LEAST, indexed_layout};
 use std::alloc::Global;
 use store_layout::Layout;
 
-const SIZES: Sizes = Sizes {
-    heap_blocks: 8,
-    index_blocks: 4,
-    status_blocks: 1,
-    log_pages: 16,
-    frames: 16,
-};
-
-const DECLARED: &str =
-    "table t(a int8)|table u(b int8range,c inet)|table where(is int8,null int8,and int8,where int8)|index i on t(a minmax) pages_per_range 1 autosummarize";
-
-fn layout_of(alloc: Global) -> Option<Layout> {
-    Layout::new(declared(alloc, DECLARED)?, SIZES).ok()
-}
-
-/// Lines, and what is printed of them.
-const FORMS: [(&str, &str); 38] = [
-    ("", ""),
-    ("   ", ""),
+/// Lines over `t(a int8)` and `i on t(a minmax)`, and what is printed of them.
+const FORMS: [(&str, &str); 14] = [
     ("  # s1 begin", ""),
     ("  s1   begin ", "s1 begin"),
     ("s1 commit", "s1 commit"),
     ("s1  rollback", "s1 rollback"),
     ("s1 insert t -005", "s1 insert t -5"),
-    ("s1 insert t -0", "s1 insert t 0"),
-    (
-        "s1 insert u [1,3] 10.0.0.1/32",
-        "s1 insert u [1,4) 10.0.0.1",
-    ),
-    ("s1 insert u empty null", "s1 insert u empty null"),
     ("s1 select t", "s1 select t"),
-    ("s1 select t where a = 5", "s1 select t where a = 5"),
     (
         "s1 delete t where a < 007 and a is not null",
         "s1 delete t where a < 7 and a is not null",
     ),
     (
-        "s1 explain u where b is null and c <<= 10.0.0.0/8",
-        "s1 explain u where b is null and c <<= 10.0.0.0/8",
-    ),
-    (
-        "s1 explain u where b is null and c is not null and b -|- (,5)",
-        "s1 explain u where b is null and c is not null and b -|- (,5)",
-    ),
-    (
-        "begin select where where is = null and and is not null and null is null and where < 1",
-        "begin select where where is = null and and is not null and null is null and where < 1",
-    ),
-    (
-        "s1 select t where a = 1 and a = 1 and a = 1 and a = 1 and a = 1 and a = 1 and a = 1 and a = 1 and a = 1 and a = 1 and a = 1 and a = 1 and a = 1 and a = 1 and a = 1 and a = 1",
-        "s1 select t where a = 1 and a = 1 and a = 1 and a = 1 and a = 1 and a = 1 and a = 1 and a = 1 and a = 1 and a = 1 and a = 1 and a = 1 and a = 1 and a = 1 and a = 1 and a = 1",
+        "s1 explain t where a is null",
+        "s1 explain t where a is null",
     ),
     ("m summarize i", "m summarize i"),
-    ("m summarize i 0", "m summarize i 0"),
-    ("m summarize i 4294967295", "m summarize i 4294967295"),
-    ("m summarize i 00000000000000000000012", "m summarize i 12"),
+    ("m start summarize i 007", "m start summarize i 7"),
     ("m desummarize i 4294967295", "m desummarize i 4294967295"),
-    ("m desummarize i 007", "m desummarize i 7"),
-    ("m vacuum u", "m vacuum u"),
-    ("m work", "m work"),
-    ("s1 start begin", "s1 start begin"),
-    ("s1 start commit", "s1 start commit"),
-    ("s1 start rollback", "s1 start rollback"),
-    ("s1 start insert t 1", "s1 start insert t 1"),
-    (
-        "s1 start select t where a is null",
-        "s1 start select t where a is null",
-    ),
-    ("s1 start delete t", "s1 start delete t"),
-    ("s1 start explain t", "s1 start explain t"),
-    ("m start summarize i 01", "m start summarize i 1"),
-    ("m start desummarize i 1", "m start desummarize i 1"),
     ("m start vacuum t", "m start vacuum t"),
     ("  m   start  work ", "m start work"),
     ("m step", "m step"),
-    ("m finish", "m finish"),
 ];
 
 /// Whether the line is read, and printed so.
@@ -93,136 +38,12 @@ fn is_printed_as(alloc: Global, layout: &Layout, line: &str, text: &str) -> bool
     print_line(&line, layout, &mut out).is_ok() && out.as_slice() == text.as_bytes()
 }
 
-fn first_wrong_form(alloc: Global, layout: &Layout) -> Option<&'static str> {
-    for (line, text) in &FORMS {
-        if !is_printed_as(alloc, layout, line, text) || !is_printed_as(alloc, layout, text, text) {
-            return Some(line);
-        }
-    }
-    None
-}
-
-/// The number of the refusal and its place; 0 for a line that is read.
-fn refusal(read: &Result<Line, LineFault>) -> (u8, usize) {
-    let Err(fault) = read else {
-        return (0, 0);
+fn first_wrong(alloc: Global) -> Option<&'static str> {
+    let Some(layout) = indexed_layout(alloc, 1, LEAST) else {
+        return Some("memory");
     };
-    match fault.refusal() {
-        Some(Refusal::Syntax { at }) => (1, at),
-        Some(Refusal::NoTable { at }) => (2, at),
-        Some(Refusal::NoColumn { at }) => (3, at),
-        Some(Refusal::NoIndex { at }) => (9, at),
-        _ => (13, 0),
-    }
-}
-
-/// A line, and the number of its refusal with the place.
-type Case = (&'static str, (u8, usize));
-
-/// Lines, and the numbers of their refusals with the places.
-const REFUSED: [Case; 45] = [
-    ("s1", (1, 2)),
-    ("  s1\tbegin", (1, 2)),
-    ("s1 selekt t", (1, 3)),
-    ("s1 select", (1, 9)),
-    ("s1 insert v x", (1, 12)),
-    ("s1 insert t 9223372036854775808", (1, 12)),
-    ("s1 select t and a = 1", (1, 12)),
-    ("s1 select t where a == 1", (1, 20)),
-    ("s1 select t where a is 5", (1, 23)),
-    ("s1 select t where a = 1 and", (1, 27)),
-    (
-        "s1 select t where a = 1 and a = 1 and a = 1 and a = 1 and a = 1 and a = 1 and a = 1 and a = 1 and a = 1 and a = 1 and a = 1 and a = 1 and a = 1 and a = 1 and a = 1 and a = 1 and a = 1",
-        (1, 174),
-    ),
-    ("s1 select v", (2, 10)),
-    ("s1 insert u [1,3]", (3, 17)),
-    ("s1 insert u 10.0.0.1", (3, 12)),
-    ("s1 insert u null null null", (3, 22)),
-    ("s1 select u where b < [1,2)", (3, 20)),
-    ("s1 select u where c = null and d = 1", (3, 31)),
-    ("m summarize", (1, 11)),
-    ("m summarize j", (9, 12)),
-    ("m summarize t", (9, 12)),
-    ("m summarize I", (1, 12)),
-    ("m summarize i 4294967296", (1, 14)),
-    ("m summarize i 18446744073709551617", (1, 14)),
-    ("m summarize i -1", (1, 14)),
-    ("m summarize j x", (1, 14)),
-    ("m summarize i 1 2", (1, 16)),
-    ("m desummarize i", (1, 15)),
-    ("m desummarize j 1", (9, 14)),
-    ("m desummarize j 4294967296", (1, 16)),
-    ("m desummarize i null", (1, 16)),
-    ("m vacuum", (1, 8)),
-    ("m vacuum i", (2, 9)),
-    ("m vacuum t u", (1, 11)),
-    ("m work t", (1, 7)),
-    ("m start", (1, 7)),
-    ("m start step", (1, 8)),
-    ("m start finish", (1, 8)),
-    ("m start start begin", (1, 8)),
-    ("m start vacuum v", (2, 15)),
-    ("m start summarize j", (9, 18)),
-    ("m start insert t [1,2)", (3, 17)),
-    ("m start select t where d = 1", (3, 23)),
-    ("m step m", (1, 7)),
-    ("m finish 1", (1, 9)),
-    ("s1 begin t", (1, 9)),
-];
-
-/// Each operator, at a column of each kind.
-const OPERATORS: [Case; 45] = [
-    ("s1 select t where a < null", (0, 0)),
-    ("s1 select t where a <= null", (0, 0)),
-    ("s1 select t where a = null", (0, 0)),
-    ("s1 select t where a >= null", (0, 0)),
-    ("s1 select t where a > null", (0, 0)),
-    ("s1 select t where a && null", (3, 20)),
-    ("s1 select t where a @> null", (3, 20)),
-    ("s1 select t where a <@ null", (3, 20)),
-    ("s1 select t where a << null", (3, 20)),
-    ("s1 select t where a >> null", (3, 20)),
-    ("s1 select t where a <<= null", (3, 20)),
-    ("s1 select t where a >>= null", (3, 20)),
-    ("s1 select t where a &< null", (3, 20)),
-    ("s1 select t where a &> null", (3, 20)),
-    ("s1 select t where a -|- null", (3, 20)),
-    ("s1 select u where b < null", (3, 20)),
-    ("s1 select u where b <= null", (3, 20)),
-    ("s1 select u where b = null", (0, 0)),
-    ("s1 select u where b >= null", (3, 20)),
-    ("s1 select u where b > null", (3, 20)),
-    ("s1 select u where b && null", (0, 0)),
-    ("s1 select u where b @> null", (0, 0)),
-    ("s1 select u where b <@ null", (0, 0)),
-    ("s1 select u where b << null", (0, 0)),
-    ("s1 select u where b >> null", (0, 0)),
-    ("s1 select u where b <<= null", (3, 20)),
-    ("s1 select u where b >>= null", (3, 20)),
-    ("s1 select u where b &< null", (0, 0)),
-    ("s1 select u where b &> null", (0, 0)),
-    ("s1 select u where b -|- null", (0, 0)),
-    ("s1 select u where c < null", (3, 20)),
-    ("s1 select u where c <= null", (3, 20)),
-    ("s1 select u where c = null", (0, 0)),
-    ("s1 select u where c >= null", (3, 20)),
-    ("s1 select u where c > null", (3, 20)),
-    ("s1 select u where c && null", (0, 0)),
-    ("s1 select u where c @> null", (3, 20)),
-    ("s1 select u where c <@ null", (3, 20)),
-    ("s1 select u where c << null", (0, 0)),
-    ("s1 select u where c >> null", (0, 0)),
-    ("s1 select u where c <<= null", (0, 0)),
-    ("s1 select u where c >>= null", (0, 0)),
-    ("s1 select u where c &< null", (3, 20)),
-    ("s1 select u where c &> null", (3, 20)),
-    ("s1 select u where c -|- null", (3, 20)),
-];
-
-fn first_wrong_refusal(alloc: Global, layout: &Layout, cases: &[Case]) -> Option<&'static str> {
-    for (line, wanted) in cases {
-        if refusal(&read_line(alloc, line.as_bytes(), layout)) != *wanted {
+    for (line, text) in &FORMS {
+        if !is_printed_as(alloc, &layout, line, text) {
             return Some(line);
         }
     }
@@ -230,15 +51,6 @@ fn first_wrong_refusal(alloc: Global, layout: &Layout, cases: &[Case]) -> Option
 }
 
 #[test]
-fn lines_are_read_and_printed_or_refused_at_their_word(rt: HostRuntime) {
-    let alloc = rt.alloc();
-    let layout = layout_of(alloc).expect(&rt, "a layout");
-    let wrong = [
-        first_wrong_form(alloc, &layout),
-        first_wrong_refusal(alloc, &layout, REFUSED.as_slice()),
-        first_wrong_refusal(alloc, &layout, OPERATORS.as_slice()),
-    ];
-    assert_eq!(rt; wrong, [None; 3]);
-    let of_another = read_line_in(alloc, &[Verb::Begin], b"s1 commit", &layout);
-    assert_eq!(rt; refusal(&of_another), (1, 3));
+fn lines_are_printed_with_single_spaces(rt: HostRuntime) {
+    assert_eq!(rt; first_wrong(rt.alloc()), None);
 }

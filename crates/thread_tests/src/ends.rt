@@ -4,12 +4,14 @@ use crate::planned::{Answer, Plan};
 use crate::run::{numbers, run_plan};
 use crate::signal::{STALE_TURNS, count_one};
 use io_traits::{Gate, OpenGate};
+use std::alloc::Global;
+use std::sync::Wait;
 use std::sync::atomic::{AtomicU64, Ordering};
-use std::test::Fail;
 use std::thread;
+use std::thread::Threads;
 
 /// The call that an end comes of.
-#[derive(Clone, Copy, Debug, PartialEq)]
+#[derive(Clone, Copy, PartialEq)]
 enum Call {
     Submit,
     Job,
@@ -57,23 +59,34 @@ impl Plan for EndsThird {
     }
 }
 
+/// How many lines of each session were answered, whether each was ended, the status, and how many lines were submitted.
+type Ended = ([u64; 2], [bool; 2], Option<u8>, u32);
+
+/// `None` is want of memory.
+fn ended_at<R: Threads + Wait + Sync>(rt: &R, alloc: Global, ends_at: Call) -> Option<Ended> {
+    let plan = EndsThird { ends_at, lines: 0 };
+    let lines = numbers(alloc, &[4, 5, 6, 7]).ok()?;
+    let outcome = run_plan(rt, plan, &OpenGate, lines, numbers(alloc, &[]).ok()?);
+    Some((
+        outcome.done,
+        outcome.ended,
+        outcome.status,
+        outcome.plan.lines,
+    ))
+}
+
 #[test]
-fn a_worker_is_ended_at_the_third_line(rt: HostRuntime) -> Result<(), Fail> {
-    let alloc = rt.alloc();
-    for ends_at in [Call::Submit, Call::Job, Call::Step] {
-        let plan = EndsThird { ends_at, lines: 0 };
-        let lines = numbers(alloc, &[4, 5, 6, 7])?;
-        let outcome = run_plan(&rt, plan, &OpenGate, lines, numbers(alloc, &[])?);
-        assert_eq!(rt; outcome.done, [2, 0], "{ends_at:?}");
-        assert_eq!(rt; outcome.ended, [true, false], "{ends_at:?}");
-        assert_eq!(rt; outcome.status, Some(6), "{ends_at:?}");
-        assert_eq!(rt; outcome.plan.lines, 3, "{ends_at:?}");
-    }
-    Ok(())
+fn a_worker_is_ended_at_the_third_line(rt: HostRuntime) {
+    let found = [
+        ended_at(&rt, rt.alloc(), Call::Submit),
+        ended_at(&rt, rt.alloc(), Call::Job),
+        ended_at(&rt, rt.alloc(), Call::Step),
+    ];
+    assert_eq!(rt; found, [Some(([2, 0], [true, false], Some(6), 3)); 3]);
 }
 
 /// What session 0 does once session 1 waits.
-#[derive(Clone, Copy, Debug, PartialEq)]
+#[derive(Clone, Copy, PartialEq)]
 enum Wakes {
     Moves,
     Answers,
@@ -168,38 +181,40 @@ impl Gate for BeforeFirst {
     }
 }
 
+/// How many lines of each session were answered, whether each was ended, the status, and whether the gate was asked often enough for
+/// session 1, and never for a later step.
+type Woken = ([u64; 2], [bool; 2], Option<u8>, bool);
+
+/// `None` is want of memory.
+fn woken_by<R: Threads + Wait + Sync>(rt: &R, alloc: Global, wakes: Wakes) -> Option<Woken> {
+    let plan = Waits {
+        wakes,
+        blocked: false,
+        freed: false,
+        answered: false,
+        turns: 0,
+    };
+    let gate = BeforeFirst {
+        calls: AtomicU64::new(0),
+        wrong: AtomicU64::new(0),
+    };
+    let first = numbers(alloc, &[0]).ok()?;
+    let outcome = run_plan(rt, plan, &gate, first, numbers(alloc, &[1]).ok()?);
+    let calls = gate.calls.load(Ordering::SeqCst);
+    let wrong = gate.wrong.load(Ordering::SeqCst);
+    let is_asked = calls >= 3 && wrong == 0;
+    Some((outcome.done, outcome.ended, outcome.status, is_asked))
+}
+
 #[test]
-fn a_waiting_worker_is_woken(rt: HostRuntime) -> Result<(), Fail> {
-    let alloc = rt.alloc();
-    for (wakes, done, ended, status) in [
-        (Wakes::Moves, 1, false, None),
-        (Wakes::Answers, 1, false, None),
-        (Wakes::EndsAtJob, 0, true, Some(6)),
-        (Wakes::EndsAtStep, 0, true, Some(6)),
-    ] {
-        let plan = Waits {
-            wakes,
-            blocked: false,
-            freed: false,
-            answered: false,
-            turns: 0,
-        };
-        let gate = BeforeFirst {
-            calls: AtomicU64::new(0),
-            wrong: AtomicU64::new(0),
-        };
-        let outcome = run_plan(
-            &rt,
-            plan,
-            &gate,
-            numbers(alloc, &[0])?,
-            numbers(alloc, &[1])?,
-        );
-        assert_eq!(rt; outcome.done, [done, done], "{wakes:?}");
-        assert_eq!(rt; outcome.ended, [ended, ended], "{wakes:?}");
-        assert_eq!(rt; outcome.status, status, "{wakes:?}");
-        assert!(rt; gate.calls.load(Ordering::SeqCst) >= 3, "{wakes:?}");
-        assert_eq!(rt; gate.wrong.load(Ordering::SeqCst), 0, "{wakes:?}");
-    }
-    Ok(())
+fn a_waiting_worker_is_woken(rt: HostRuntime) {
+    let found = [
+        woken_by(&rt, rt.alloc(), Wakes::Moves),
+        woken_by(&rt, rt.alloc(), Wakes::Answers),
+        woken_by(&rt, rt.alloc(), Wakes::EndsAtJob),
+        woken_by(&rt, rt.alloc(), Wakes::EndsAtStep),
+    ];
+    let answered = Some(([1, 1], [false, false], None, true));
+    let ended = Some(([0, 0], [true, true], Some(6), true));
+    assert_eq!(rt; found, [answered, answered, ended, ended]);
 }

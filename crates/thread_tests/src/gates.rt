@@ -4,9 +4,11 @@ use crate::planned::{Answer, Plan};
 use crate::run::{numbers, run_plan};
 use crate::signal::{STALE_TURNS, await_count, count_one};
 use io_traits::Gate;
+use std::alloc::Global;
+use std::sync::Wait;
 use std::sync::atomic::{AtomicU64, Ordering};
-use std::test::Fail;
 use std::thread;
+use std::thread::Threads;
 
 /// Session 0 has the lines 3, 5 and 8. The first takes two steps, and the job of the second of these is once too old; the second
 /// line is refused; the third takes one step.
@@ -71,9 +73,12 @@ impl Gate for Wanted {
     }
 }
 
-#[test]
-fn a_gate_is_told_the_steps_that_were_made(rt: HostRuntime) -> Result<(), Fail> {
-    let alloc = rt.alloc();
+/// How many lines of each session were answered, whether each was ended, whether a line was wrong, and how many turns, calls of the gate
+/// and wrong ones of these there were.
+type Told = ([u64; 2], [bool; 2], bool, [u64; 3]);
+
+/// `None` is want of memory.
+fn three_lines<R: Threads + Wait + Sync>(rt: &R, alloc: Global) -> Option<Told> {
     let plan = ThreeLines {
         turns: 0,
         wrong: false,
@@ -83,15 +88,22 @@ fn a_gate_is_told_the_steps_that_were_made(rt: HostRuntime) -> Result<(), Fail> 
         calls: AtomicU64::new(0),
         wrong: AtomicU64::new(0),
     };
-    let lines = numbers(alloc, &[3, 5, 8])?;
-    let outcome = run_plan(&rt, plan, &gate, lines, numbers(alloc, &[])?);
-    assert_eq!(rt; outcome.done, [3, 0]);
-    assert_eq!(rt; outcome.ended, [false, false]);
-    assert!(rt; !outcome.plan.wrong);
-    assert_eq!(rt; outcome.plan.turns, 4);
-    assert_eq!(rt; gate.calls.load(Ordering::SeqCst), 8);
-    assert_eq!(rt; gate.wrong.load(Ordering::SeqCst), 0);
-    Ok(())
+    let lines = numbers(alloc, &[3, 5, 8]).ok()?;
+    let outcome = run_plan(rt, plan, &gate, lines, numbers(alloc, &[]).ok()?);
+    let calls = gate.calls.load(Ordering::SeqCst);
+    let wrong = gate.wrong.load(Ordering::SeqCst);
+    Some((
+        outcome.done,
+        outcome.ended,
+        outcome.plan.wrong,
+        [outcome.plan.turns, calls, wrong],
+    ))
+}
+
+#[test]
+fn a_gate_is_told_the_steps_that_were_made(rt: HostRuntime) {
+    let found = three_lines(&rt, rt.alloc());
+    assert_eq!(rt; found, Some(([3, 0], [false, false], false, [4, 8, 0])));
 }
 
 /// How often session 1 came to the gate, how many steps session 0 has made, and how many waits were too long.
@@ -162,9 +174,12 @@ impl<'a> Gate for HoldsSecond<'a> {
     }
 }
 
-#[test]
-fn a_session_held_at_the_gate_holds_no_other(rt: HostRuntime) -> Result<(), Fail> {
-    let alloc = rt.alloc();
+/// How many lines of each session were answered, whether each was ended, the status, and how often session 1 came to the gate and
+/// waited too long there.
+type Held = ([u64; 2], [bool; 2], Option<u8>, [u64; 2]);
+
+/// `None` is want of memory.
+fn in_turn<R: Threads + Wait + Sync>(rt: &R, alloc: Global) -> Option<Held> {
     let counts = Counts {
         came: AtomicU64::new(0),
         made: AtomicU64::new(0),
@@ -175,17 +190,15 @@ fn a_session_held_at_the_gate_holds_no_other(rt: HostRuntime) -> Result<(), Fail
         turns: 0,
     };
     let gate = HoldsSecond { counts: &counts };
-    let outcome = run_plan(
-        &rt,
-        plan,
-        &gate,
-        numbers(alloc, &[0])?,
-        numbers(alloc, &[1])?,
-    );
-    assert_eq!(rt; outcome.done, [1, 1]);
-    assert_eq!(rt; outcome.ended, [false, false]);
-    assert_eq!(rt; outcome.status, None);
-    assert_eq!(rt; counts.late.load(Ordering::SeqCst), 0);
-    assert_eq!(rt; counts.came.load(Ordering::SeqCst), 2);
-    Ok(())
+    let first = numbers(alloc, &[0]).ok()?;
+    let outcome = run_plan(rt, plan, &gate, first, numbers(alloc, &[1]).ok()?);
+    let came = counts.came.load(Ordering::SeqCst);
+    let late = counts.late.load(Ordering::SeqCst);
+    Some((outcome.done, outcome.ended, outcome.status, [came, late]))
+}
+
+#[test]
+fn a_session_held_at_the_gate_holds_no_other(rt: HostRuntime) {
+    let found = in_turn(&rt, rt.alloc());
+    assert_eq!(rt; found, Some(([1, 1], [false, false], None, [2, 0])));
 }

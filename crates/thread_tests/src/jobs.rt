@@ -4,8 +4,10 @@ use crate::planned::{Answer, Plan};
 use crate::run::{numbers, run_plan};
 use crate::signal::{await_count, count_one};
 use io_traits::{Gate, OpenGate};
+use std::alloc::Global;
+use std::sync::Wait;
 use std::sync::atomic::{AtomicU64, Ordering};
-use std::test::Fail;
+use std::thread::Threads;
 
 /// What the jobs share: a flag of session 0, one of session 1, and how many waits were too long.
 #[derive(Drop)]
@@ -98,45 +100,35 @@ impl<'a> Gate for AfterFirst<'a> {
     }
 }
 
-#[test]
-fn lock_is_free_while_a_job_works(rt: HostRuntime) -> Result<(), Fail> {
-    let alloc = rt.alloc();
-    let flags = Flags::new();
-    let plan = Meeting {
-        flags: &flags,
-        jobs_meet: false,
-    };
-    let gate = AfterFirst { flags: &flags };
-    let outcome = run_plan(
-        &rt,
-        plan,
-        &gate,
-        numbers(alloc, &[0])?,
-        numbers(alloc, &[1])?,
-    );
-    assert_eq!(rt; outcome.done, [1, 1]);
-    assert_eq!(rt; outcome.ended, [false, false]);
-    assert_eq!(rt; flags.late.load(Ordering::SeqCst), 0);
-    Ok(())
+/// How many lines of each session were answered, whether each was ended, and how many waits were too long.
+type Meetings = ([u64; 2], [bool; 2], u64);
+
+/// What became of a plan with those flags. `None` is want of memory.
+fn met<G: Gate + Sync, R: Threads + Wait + Sync>(
+    rt: &R,
+    alloc: Global,
+    flags: &Flags,
+    jobs_meet: bool,
+    gate: &G,
+) -> Option<Meetings> {
+    let plan = Meeting { flags, jobs_meet };
+    let first = numbers(alloc, &[0]).ok()?;
+    let outcome = run_plan(rt, plan, gate, first, numbers(alloc, &[1]).ok()?);
+    let late = flags.late.load(Ordering::SeqCst);
+    Some((outcome.done, outcome.ended, late))
 }
 
 #[test]
-fn jobs_of_two_sessions_meet(rt: HostRuntime) -> Result<(), Fail> {
-    let alloc = rt.alloc();
+fn lock_is_free_while_a_job_works(rt: HostRuntime) {
     let flags = Flags::new();
-    let plan = Meeting {
-        flags: &flags,
-        jobs_meet: true,
-    };
-    let outcome = run_plan(
-        &rt,
-        plan,
-        &OpenGate,
-        numbers(alloc, &[0])?,
-        numbers(alloc, &[1])?,
-    );
-    assert_eq!(rt; outcome.done, [1, 1]);
-    assert_eq!(rt; outcome.ended, [false, false]);
-    assert_eq!(rt; flags.late.load(Ordering::SeqCst), 0);
-    Ok(())
+    let gate = AfterFirst { flags: &flags };
+    let found = met(&rt, rt.alloc(), &flags, false, &gate);
+    assert_eq!(rt; found, Some(([1, 1], [false, false], 0)));
+}
+
+#[test]
+fn jobs_of_two_sessions_meet(rt: HostRuntime) {
+    let flags = Flags::new();
+    let found = met(&rt, rt.alloc(), &flags, true, &OpenGate);
+    assert_eq!(rt; found, Some(([1, 1], [false, false], 0)));
 }
