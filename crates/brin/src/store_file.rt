@@ -55,9 +55,9 @@ fn new_disk(
     words: &Words,
     size: u64,
 ) -> Result<FileDisk, u8> {
-    let log_pages = log_pages(rt, words)?;
+    let pages = log_pages(rt, words)?;
     sync_folder(rt, folder_of(path)).map_err(|_| DISK_FAULT)?;
-    match grow(&file, size, log_pages) {
+    match grow(&file, size, pages) {
         Ok(()) => Ok(FileDisk::on(file, size)),
         Err(_) => {
             let _ = file.set_len(0);
