@@ -1,6 +1,6 @@
 //! The file of a store.
 
-use crate::{disk_on, open};
+use crate::store_file::{disk_on, folder_of, open};
 use block_model::Words;
 use disk_trait::Disk;
 use std::fs;
@@ -9,7 +9,7 @@ use std::test::Fail;
 /// The size of the disk over the file of that path, or the status where there is none.
 fn size_at(rt: &HostRuntime, path: &str, words: &Words) -> Result<u64, u8> {
     let file = open(rt, path)?;
-    Ok(disk_on(rt, file, words)?.size())
+    Ok(disk_on(rt, path, file, words)?.size())
 }
 
 #[test]
@@ -33,4 +33,22 @@ fn an_absent_file_is_made_of_the_wanted_size(rt: HostRuntime) -> Result<(), Fail
 fn a_folder_is_no_file(rt: HostRuntime) {
     let none = Words::new(rt.alloc());
     assert_eq!(rt; size_at(&rt, ".", &none), Err(6));
+}
+
+#[test]
+fn a_file_that_is_open_is_refused(rt: HostRuntime) -> Result<(), Fail> {
+    let none = Words::new(rt.alloc());
+    let held = open(&rt, "held");
+    assert_eq!(rt; size_at(&rt, "held", &none), Err(6));
+    drop(held);
+    assert_eq!(rt; size_at(&rt, "held", &none), Ok(0));
+    fs::remove_file(&rt, "held")?;
+    Ok(())
+}
+
+#[test]
+fn a_bare_name_stands_in_this_folder(rt: HostRuntime) {
+    assert_eq!(rt; folder_of("store.brin").as_str(), ".");
+    assert_eq!(rt; folder_of("/store.brin").as_str(), "/");
+    assert_eq!(rt; folder_of("../stores/store.brin").as_str(), "../stores");
 }

@@ -1,24 +1,27 @@
 //! The program: runs a script of session lines over the tables of a store, which stands in a file. The first word of the command line is the file's
-//! path. A file that is absent or empty is made as large as the store that the other words make; where they make none, it stays empty. These words,
-//! the file, standard input and standard output are handed to `brin_main`, which does all else; its status is the program's, and a status that isn't 0
-//! has a text on standard error. Nobody knows what a file holds, so the clauses of `brin_main` on contents and images say nothing here.
+//! path. A file that is absent or empty is made as large as the store that the other words make; where they make none, it stays empty. It is locked, so
+//! that one run has it at a time. These words, the file, standard input and standard output are handed to `brin_main`, which does all else; its status is
+//! the program's, and a status that isn't 0 has a text on standard error. Nobody knows what a file holds, so the clauses of `brin_main` on contents and
+//! images say nothing here.
 #![tactic(auto)]
 
 #[cfg(test)]
 mod file_rows;
+mod standard;
+mod store_file;
 
 ghost use Rattle.std.specs.Prelude.{◌≡◌, ◌↔◌, None};
 ghost use Rattle.std.specs.IoError.{error_kind};
 ghost use Rattle.brin_app.specs.declared.status.TheConstants.{DONE, MEMORY, USAGE};
 
+use crate::standard::stand_ins;
+use crate::store_file::{disk_on, open};
 use block_model::Words;
 use brin_app::{
     DAMAGED, DISK_FAULT, DONE, MEMORY, NO_STORE, READ_FAULT, USAGE, WRITE_FAULT, brin_main,
-    wanted_size,
 };
 use disk_trait::FileDisk;
 use io_traits::{ReaderSource, WriterSink};
-use std::fs::{File, OpenOptions};
 use std::io::ErrorKind;
 use std::process::ExitCode;
 use std::{env, io};
@@ -54,39 +57,13 @@ fn unread(error: &io::Error) -> u8
     }
 }
 
-/// The store's file. It is made empty where it is absent.
-fn open(rt: &HostRuntime, path: &str) -> Result<File, u8> {
-    OpenOptions::new()
-        .read(true)
-        .write(true)
-        .create(true)
-        .open(rt, path)
-        .map_err(|_| DISK_FAULT)
-}
-
-/// The file as a disk. An empty one is first made as large as the store that the words make.
-fn disk_on(rt: &HostRuntime, file: File, words: &Words) -> Result<FileDisk, u8> {
-    let size = file.metadata().map_err(|_| DISK_FAULT)?.len();
-    if size > 0 {
-        return Ok(FileDisk::on(file, size));
-    }
-    match wanted_size(rt.alloc(), words).map_err(|_| MEMORY)? {
-        Some(wanted) => extended(file, wanted),
-        None => Ok(FileDisk::on(file, 0)),
-    }
-}
-
-/// The empty file as a disk of so many zero bytes.
-fn extended(file: File, size: u64) -> Result<FileDisk, u8> {
-    file.set_len(size).map_err(|_| DISK_FAULT)?;
-    Ok(FileDisk::on(file, size))
-}
-
-/// Runs the words behind the path over the file, and answers the status.
+/// Runs the words behind the path over the file, and answers the status. Before it opens the file each standard stream is an open one.
 fn ran(rt: &HostRuntime) -> Result<u8, u8> {
+    let _stand_ins = stand_ins(rt)?;
     let given = read_args(rt)?;
-    let file = open(rt, given.path.as_str())?;
-    let disk = disk_on(rt, file, &given.words)?;
+    let path = given.path.as_str();
+    let file = open(rt, path)?;
+    let disk = disk_on(rt, path, file, &given.words)?;
     Ok(run_over(rt, &given.words, disk))
 }
 
