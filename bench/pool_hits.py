@@ -14,7 +14,7 @@ import subprocess
 import sys
 import tempfile
 
-from range_tuples import KIT, TRY, toolchain
+from unproved import KIT, TRY, toolchain
 
 TOP = os.path.dirname(os.path.dirname(os.path.abspath(__file__)))
 HITS = 5_000_000

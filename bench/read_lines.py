@@ -15,26 +15,13 @@ import subprocess
 import sys
 import tempfile
 
-from range_tuples import KIT, TRY, toolchain
+import unproved
 
 HERE = os.path.dirname(os.path.dirname(os.path.abspath(__file__)))
 NEEDED = "line_bench: block_model statements store_layout query_words\n"
 LINES = 1_000
 ROUNDS = 5
 RUNS = 150
-
-# `rt try` links the sanitizer too, and throws its program away; this stands in for its linker.
-LINKER = """#!/bin/bash
-words=() sanitizer=
-for word in "$@"; do
-    case "$word" in
-        --whole-archive) sanitizer=1 ;;
-        --no-whole-archive) sanitizer= ;;
-        *) [ $sanitizer ] || words+=("$word") ;;
-    esac
-done
-LINKER "${words[@]}" && /bin/cp program PROGRAM
-"""
 
 MAIN = """//! Times the reading of lines.
 #![tactic(auto)]
@@ -172,16 +159,7 @@ def put_files(checkout, folder):
 def build(checkout, program):
     """The program over the crates of the checkout, which nothing proves."""
     with tempfile.TemporaryDirectory() as folder:
-        crate = put_files(checkout, folder)
-        tools = toolchain(pathlib.Path(folder, "toolchain"))
-        linker = tools / "bin" / "ld.lld"
-        linker.unlink()
-        linker.write_text(LINKER.replace("LINKER", str(KIT / "toolchain" / "bin" / "ld.lld")).replace("PROGRAM", program))
-        linker.chmod(0o755)
-        words = [sys.executable, "-c", TRY, str(tools), str(KIT / "bin")]
-        told = subprocess.run(words, cwd=crate, input="", capture_output=True, text=True)
-        if not os.path.exists(program):
-            sys.exit(told.stdout + told.stderr)
+        unproved.build(pathlib.Path(put_files(checkout, folder)), pathlib.Path(folder), pathlib.Path(program))
 
 
 def run(program, script, rounds):

@@ -21,12 +21,11 @@ the line of the summarise, and one that has no steps refuses theirs: what it can
 import argparse
 import os
 import pathlib
-import shutil
 import subprocess
 import sys
 import tempfile
 
-from range_tuples import HERE, KIT, TRY, toolchain
+from unproved import HERE, built
 
 TABLE = "table t(a int8)"
 WIDE = "index i on t(a minmax)"
@@ -36,38 +35,6 @@ SLOTS = 272
 
 # How many selects a run makes: of one row by ranges of 128 pages and of one page, and of no row without an index.
 SELECTS, NARROW_SELECTS, SCANS = 1_000, 2_000, 20
-
-# Links the program without the sanitizer, whose allocator would be measured too, and keeps it.
-LINKER = """#!/bin/bash
-words=()
-while [ $# -gt 0 ]; do
-    case "$1" in
-        --whole-archive) while [ "$1" != --no-whole-archive ]; do shift; done ;;
-        -o) out="$2"; words+=("$1") ;;
-        *) words+=("$1") ;;
-    esac
-    shift
-done
-{real} "${{words[@]}}" && cp "$out" {kept}
-"""
-
-
-def built(checkout, scratch, name):
-    """The program of the checkout, without proof."""
-    folder = scratch / name
-    shutil.copytree(checkout / "crates", folder / "crates", ignore=shutil.ignore_patterns("out"))
-    for file in ("HANDLES", "crates.txt"):
-        shutil.copy(checkout / file, folder)
-    tools = toolchain(folder / "toolchain")
-    linker, kept = tools / "bin" / "ld.lld", folder / "brin"
-    linker.unlink()
-    linker.write_text(LINKER.format(real=KIT / "toolchain" / "bin" / "ld.lld", kept=kept))
-    linker.chmod(0o755)
-    words = [sys.executable, "-c", TRY, str(tools), str(KIT / "bin")]
-    run = subprocess.run(words, cwd=folder / "crates" / "brin", capture_output=True, text=True)
-    if not kept.exists():
-        sys.exit(run.stdout + run.stderr)
-    return kept
 
 
 def inserts(rows):
@@ -216,7 +183,7 @@ def main():
     with tempfile.TemporaryDirectory(prefix="row_costs.") as name:
         scratch = pathlib.Path(name)
         named = enumerate(path.resolve() for path in given.program)
-        programs = [path if path.is_file() else built(path, scratch, str(at)) for at, path in named]
+        programs = [path if path.is_file() else built(path, scratch / str(at)) for at, path in named]
         columns = [costs(Runs(program, given.rounds, scratch), given.rows) for program in programs]
     print("| |", " | ".join(str(path) for path in given.program), "|")
     print("|---" * (len(columns) + 1) + "|")
