@@ -1,16 +1,19 @@
 #!/usr/bin/env python3
-"""What the gate costs: processor minutes of each crate's proofs, tests and must-fail edits.
+"""What the gate costs: processor minutes of each crate's proofs, tests and must-fail edits, as the page docs/gate.md.
 
-    python3 bench/gate_costs.py [COMMAND ..]
+    python3 bench/gate_costs.py [COMMAND ..] > docs/gate.md
+    python3 bench/gate_costs.py --beside PROCESS
 
-Runs the command at the top of the repository (by default `rt ci --anew`, which proves all from nothing), looks once a second at the
-checks that it started, and prints a table at its end. A check that begins and ends between two looks isn't counted; the last line tells
-all processor time of the command's processes beside the sum of the table.
+The first form runs the command at the top of the repository (by default `rt ci`, which proves all from nothing); what that prints goes to standard
+error. The second form watches the checks below a process until it gets a SIGTERM: `.ci/run` has one beside it. Both look once a second. A check that
+begins and ends between two looks isn't counted.
 """
+import datetime
 import os
-import resource
+import signal
 import subprocess
 import sys
+import threading
 import time
 
 TICKS = os.sysconf("SC_CLK_TCK")
@@ -54,12 +57,13 @@ def check_of(number, words):
     return crate, "tests" if "--test" in words else "proofs"
 
 
-def watch(child):
+def watch(root, ended):
+    """Processor seconds of each check below the root, up to its end."""
     seconds = {}
-    while child.poll() is None:
+    while not ended():
         found = processes()
         for number, (_, used, words) in found.items():
-            if descends(number, child.pid, found):
+            if descends(number, root, found):
                 check = check_of(number, words)
                 if check:
                     seconds[number, check] = used
@@ -67,25 +71,31 @@ def watch(child):
     return seconds
 
 
-def table(seconds):
+def page(seconds, minutes):
+    """The page: what the run took in all, and each crate's row, dearest first."""
     costs = {}
     for (_, (crate, kind)), used in seconds.items():
         costs.setdefault(crate, dict.fromkeys(KINDS, 0.0))[kind] += used / 60
-    print(f"{'crate':<20}" + "".join(f"{kind:>9}" for kind in KINDS) + f"{'all':>9}")
-    for crate, row in sorted(costs.items(), key=lambda item: -sum(item[1].values())):
-        print(f"{crate:<20}" + "".join(f"{row[kind]:>9.1f}" for kind in KINDS) + f"{sum(row.values()):>9.1f}")
     sums = [sum(row[kind] for row in costs.values()) for kind in KINDS]
-    print(f"{'all':<20}" + "".join(f"{one:>9.1f}" for one in sums) + f"{sum(sums):>9.1f}")
+    rows = [("all", sums)] + [(crate, [row[kind] for kind in KINDS]) for crate, row in sorted(costs.items(), key=lambda it: -sum(it[1].values()))]
+    print("# What the gate costs\n")
+    print(f"Processor minutes, from nothing, on {len(os.sched_getaffinity(0))} processors, by `bench/gate_costs.py` on {datetime.date.today():%-d %B %Y}.")
+    print(f"The run took {minutes:.0f} minutes.\n")
+    print("| crate | proofs | tests | edits | all |\n|---|---|---|---|---|")
+    for crate, row in rows:
+        print(f"| {crate} | " + " | ".join(f"{it:.1f}" if it else "" for it in row) + f" | {sum(row):.1f} |")
 
 
 def main():
-    command = sys.argv[1:] or ["rt", "ci", "--anew"]
-    began = time.time()
-    child = subprocess.Popen(command)
-    table(watch(child))
-    used = resource.getrusage(resource.RUSAGE_CHILDREN)
-    print(f"all processes: {(used.ru_utime + used.ru_stime) / 60:.1f} processor minutes in {(time.time() - began) / 60:.1f} minutes")
-    sys.exit(child.returncode)
+    began, words = time.time(), sys.argv[1:]
+    if words[:1] == ["--beside"]:
+        stopped = threading.Event()
+        signal.signal(signal.SIGTERM, lambda *_: stopped.set())
+        page(watch(int(words[1]), stopped.is_set), (time.time() - began) / 60)
+        return 0
+    child = subprocess.Popen(words or ["rt", "ci"], stdout=sys.stderr)
+    page(watch(child.pid, lambda: child.poll() is not None), (time.time() - began) / 60)
+    return child.returncode
 
 
-main()
+sys.exit(main())
