@@ -89,7 +89,7 @@ class Check:
         return shutil.copy(self.stored, self.path())
 
     def words(self, path, command):
-        return [self.program, path, *COMMANDS.get(command, [command])]
+        return [self.program, *([] if path is None else [path, *COMMANDS.get(command, [command])])]
 
     def end(self, path, command, script="", **more):
         """The status, output and text of a run that reads the script."""
@@ -160,6 +160,11 @@ def locked_files(check):
             check.same(f"{command} of a locked empty file", check.end(empty, command), failed(6))
         check.same(f"{command} of a locked empty file: its size", empty.stat().st_size, 0)
     path = check.copy()
+    os.link(path, other := check.path())
+    held = check.holder(path, "run")
+    check.same("run of a held file by another name", check.end(other, "run"), failed(6))
+    held.communicate()
+    path = check.copy()
     held = check.holder(path, "run")
     held.send_signal(signal.SIGKILL)
     held.communicate()
@@ -167,6 +172,7 @@ def locked_files(check):
 
 
 def odd_files(check):
+    check.same("no word", check.end(None, ""), failed(2))
     absent = check.path()
     check.same("run of an absent file", (check.end(absent, "run"), absent.stat().st_size), (failed(9), 0))
     absent = check.path()
@@ -191,6 +197,11 @@ def odd_files(check):
 def unprivileged(check):
     """What a user without rights is answered."""
     user = {"user": NOBODY, "group": NOBODY, "extra_groups": []} if os.geteuid() == 0 else {}
+    try:
+        check.same("no word of such a user", check.end(None, "", **user), failed(2))
+    except OSError as error:
+        print(f"left out: a user without rights, as {error}")
+        return
     path = check.copy()
     path.chmod(0o444)
     for command in COMMANDS:
@@ -227,6 +238,7 @@ def limit(size, ignored):
     """Sets a limit to the size of files."""
     if ignored:
         signal.signal(signal.SIGXFSZ, signal.SIG_IGN)
+    resource.setrlimit(resource.RLIMIT_CORE, (0, 0))
     resource.setrlimit(resource.RLIMIT_FSIZE, (size, size))
 
 
