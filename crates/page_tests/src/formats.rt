@@ -20,12 +20,15 @@ const MARKS: [(usize, u8, u8); 9] = [
     (303104, 0, b'u'),
 ];
 
-/// What is sure and what was written when each call fails that makes a store of a disk with a closed gate.
-const CLOSED: [(&[u8], &[u8]); 13] = [
+/// What is sure and what was written when each call fails that makes a store of a disk with an open gate.
+const OPEN: [(&[u8], &[u8]); 15] = [
     // All is made sure, and the gate is read.
-    (b"", b""),
-    (b"", b""),
-    // It is closed and isn't written. All else is written, in ascending places of the relations, and made sure.
+    (b"g", b"g"),
+    (b"g", b"g"),
+    // The gate is closed, and that is made sure.
+    (b"g", b""),
+    (b"g", b""),
+    // All else is written, in ascending places of the relations, and made sure.
     (b"", b"c"),
     (b"", b"ca"),
     (b"", b"cab"),
@@ -36,26 +39,6 @@ const CLOSED: [(&[u8], &[u8]); 13] = [
     (b"", b"cabstmpu"),
     (b"", b"cabstmpu"),
     // The gate is opened, and that is made sure.
-    (b"cabstmpu", b"gcabstmpu"),
-    (b"cabstmpu", b"gcabstmpu"),
-];
-
-/// The same, of a disk with an open gate.
-const OPEN: [(&[u8], &[u8]); 15] = [
-    (b"g", b"g"),
-    (b"g", b"g"),
-    // The gate is closed, and that is made sure.
-    (b"g", b""),
-    (b"g", b""),
-    (b"", b"c"),
-    (b"", b"ca"),
-    (b"", b"cab"),
-    (b"", b"cabs"),
-    (b"", b"cabst"),
-    (b"", b"cabstm"),
-    (b"", b"cabstmp"),
-    (b"", b"cabstmpu"),
-    (b"", b"cabstmpu"),
     (b"cabstmpu", b"gcabstmpu"),
     (b"cabstmpu", b"gcabstmpu"),
 ];
@@ -91,9 +74,9 @@ fn shows(alloc: Global, disk: &MemoryDisk, sure: &[u8], written: &[u8]) -> Optio
     Some(old_marks.as_slice() == sure && new_marks.as_slice() == written)
 }
 
-/// A disk with this gate of which a store was made up to a call that failed.
-fn stopped_at(alloc: Global, layout: &Layout, gate: u8, call: u64) -> Option<MemoryDisk> {
-    let mut disk = used_disk(alloc, layout.disk_size(), gate, 100, 100000)?;
+/// A disk with an open gate of which a store was made up to a call that failed.
+fn stopped_at(alloc: Global, layout: &Layout, call: u64) -> Option<MemoryDisk> {
+    let mut disk = used_disk(alloc, layout.disk_size(), 1, 100, 100000)?;
     disk.stop_at(call);
     match format(&mut disk, layout) {
         Err(FormatFault::Disk) => Some(disk),
@@ -102,27 +85,24 @@ fn stopped_at(alloc: Global, layout: &Layout, gate: u8, call: u64) -> Option<Mem
 }
 
 /// How many calls at the front of the list, each of which fails, leave what the list says.
-fn calls_shown(alloc: Global, gate: u8, calls: &[(&[u8], &[u8])]) -> Option<usize> {
+fn calls_shown(alloc: Global) -> Option<usize> {
     let layout = indexed_layout(alloc, 1, LEAST)?;
-    for (at, (sure, written)) in calls.iter().enumerate() {
-        let disk = stopped_at(alloc, &layout, gate, at as u64 + 1)?;
+    for (at, (sure, written)) in OPEN.iter().enumerate() {
+        let disk = stopped_at(alloc, &layout, at as u64 + 1)?;
         if !shows(alloc, &disk, sure, written)? {
             return Some(at);
         }
     }
-    Some(calls.len())
+    Some(OPEN.len())
 }
 
 #[test]
 fn a_store_is_made_in_order_behind_a_closed_gate(rt: HostRuntime) {
-    let found = [
-        calls_shown(rt.alloc(), 7, &CLOSED),
-        calls_shown(rt.alloc(), 1, &OPEN),
-    ];
-    assert_eq!(rt; found, [Some(13), Some(15)]);
+    assert_eq!(rt; calls_shown(rt.alloc()), Some(15));
 }
 
-/// Whether a store is made on a disk on which so many calls may be made that write so many bytes, and whether it stands then.
+/// Whether a store is made on a disk with a closed gate, on which so many writes and syncs may be made and so many bytes written, and whether
+/// it stands then.
 fn made(alloc: Global, calls: u64, bytes: u64) -> Option<(bool, bool)> {
     let layout = indexed_layout(alloc, 1, LEAST)?;
     let mut disk = used_disk(alloc, layout.disk_size(), 7, calls, bytes)?;
