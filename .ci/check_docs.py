@@ -1,5 +1,5 @@
 #!/usr/bin/env python3
-"""Checks the documents: the README's example is the stored run of crates/brin, links resolve, and every crate is in the map."""
+"""Checks the documents: the README's example is a worked row, links resolve, and every crate is in the map."""
 import os
 import re
 import shlex
@@ -13,8 +13,17 @@ def read(*path):
         return file.read()
 
 
+def worked_row(name):
+    """The words of a worked row's command line, and its lines with their replies."""
+    text = read("crates", "worked_rows", "data", "readme.rows")
+    lines = text[text.index(f"row {name}\n") :].split("\n\n")[0].splitlines()
+    words = next(line for line in lines if line.startswith("words ")).removeprefix("words ").split("|")
+    said = [line[4:].split(" -> ", 1) for line in lines if line.startswith("    ")]
+    return words, [line for line, *_ in said], [reply for _, *told in said for reply in " | ".join(told).split(" | ") if told]
+
+
 def example_faults():
-    """The README's example against crates/brin/args, stdin and stdout."""
+    """The README's example against the worked row that runs it."""
     text = re.search(r"<!-- example:begin -->\n(.*?)<!-- example:end -->", read("README.md"), re.S).group(1)
     lines = [line[4:] for line in text.splitlines()]
     start, end = lines.index("$ cat > script <<END") + 1, lines.index("END")
@@ -24,11 +33,10 @@ def example_faults():
         command = command.removesuffix("\\") + lines[rest].removeprefix("$ ").strip()
         rest += 1
     words = shlex.split(command)
-    words = words[1 : words.index("<")]
-    parts = {"args": words, "stdin": lines[start:end], "stdout": lines[rest:]}
-    for name, shown in parts.items():
-        if read("crates", "brin", name).splitlines() != shown:
-            yield f"README.md: the example differs from crates/brin/{name}"
+    shown = words[2 : words.index("<")], lines[start:end], lines[rest:]
+    for part, there, here in zip(("words", "lines", "replies"), worked_row("the_example_of_the_readme"), shown):
+        if there != here:
+            yield f"README.md: the {part} of the example differ from crates/worked_rows/data/readme.rows"
 
 
 def pages():
