@@ -1,4 +1,4 @@
-//! Lines that are read and printed, and refusals with their places.
+//! Lines that are read and printed, and one that is refused with its place.
 
 use crate::declarations::declared;
 use block_model::{Refusal, Sizes};
@@ -116,129 +116,11 @@ fn refusal(read: &Result<Line, LineFault>) -> (u8, usize) {
     }
 }
 
-/// A line, and the number of its refusal with the place.
-type Case = (&'static str, (u8, usize));
-
-/// Lines, and the numbers of their refusals with the places.
-const REFUSED: [Case; 45] = [
-    ("s1", (1, 2)),
-    ("  s1\tbegin", (1, 2)),
-    ("s1 selekt t", (1, 3)),
-    ("s1 select", (1, 9)),
-    ("s1 insert v x", (1, 12)),
-    ("s1 insert t 9223372036854775808", (1, 12)),
-    ("s1 select t and a = 1", (1, 12)),
-    ("s1 select t where a == 1", (1, 20)),
-    ("s1 select t where a is 5", (1, 23)),
-    ("s1 select t where a = 1 and", (1, 27)),
-    (
-        "s1 select t where a = 1 and a = 1 and a = 1 and a = 1 and a = 1 and a = 1 and a = 1 and a = 1 and a = 1 and a = 1 and a = 1 and a = 1 and a = 1 and a = 1 and a = 1 and a = 1 and a = 1",
-        (1, 174),
-    ),
-    ("s1 select v", (2, 10)),
-    ("s1 insert u [1,3]", (3, 17)),
-    ("s1 insert u 10.0.0.1", (3, 12)),
-    ("s1 insert u null null null", (3, 22)),
-    ("s1 select u where b < [1,2)", (3, 20)),
-    ("s1 select u where c = null and d = 1", (3, 31)),
-    ("m summarize", (1, 11)),
-    ("m summarize j", (9, 12)),
-    ("m summarize t", (9, 12)),
-    ("m summarize I", (1, 12)),
-    ("m summarize i 4294967296", (1, 14)),
-    ("m summarize i 18446744073709551617", (1, 14)),
-    ("m summarize i -1", (1, 14)),
-    ("m summarize j x", (1, 14)),
-    ("m summarize i 1 2", (1, 16)),
-    ("m desummarize i", (1, 15)),
-    ("m desummarize j 1", (9, 14)),
-    ("m desummarize j 4294967296", (1, 16)),
-    ("m desummarize i null", (1, 16)),
-    ("m vacuum", (1, 8)),
-    ("m vacuum i", (2, 9)),
-    ("m vacuum t u", (1, 11)),
-    ("m work t", (1, 7)),
-    ("m start", (1, 7)),
-    ("m start step", (1, 8)),
-    ("m start finish", (1, 8)),
-    ("m start start begin", (1, 8)),
-    ("m start vacuum v", (2, 15)),
-    ("m start summarize j", (9, 18)),
-    ("m start insert t [1,2)", (3, 17)),
-    ("m start select t where d = 1", (3, 23)),
-    ("m step m", (1, 7)),
-    ("m finish 1", (1, 9)),
-    ("s1 begin t", (1, 9)),
-];
-
-/// Each operator, at a column of each kind.
-const OPERATORS: [Case; 45] = [
-    ("s1 select t where a < null", (0, 0)),
-    ("s1 select t where a <= null", (0, 0)),
-    ("s1 select t where a = null", (0, 0)),
-    ("s1 select t where a >= null", (0, 0)),
-    ("s1 select t where a > null", (0, 0)),
-    ("s1 select t where a && null", (3, 20)),
-    ("s1 select t where a @> null", (3, 20)),
-    ("s1 select t where a <@ null", (3, 20)),
-    ("s1 select t where a << null", (3, 20)),
-    ("s1 select t where a >> null", (3, 20)),
-    ("s1 select t where a <<= null", (3, 20)),
-    ("s1 select t where a >>= null", (3, 20)),
-    ("s1 select t where a &< null", (3, 20)),
-    ("s1 select t where a &> null", (3, 20)),
-    ("s1 select t where a -|- null", (3, 20)),
-    ("s1 select u where b < null", (3, 20)),
-    ("s1 select u where b <= null", (3, 20)),
-    ("s1 select u where b = null", (0, 0)),
-    ("s1 select u where b >= null", (3, 20)),
-    ("s1 select u where b > null", (3, 20)),
-    ("s1 select u where b && null", (0, 0)),
-    ("s1 select u where b @> null", (0, 0)),
-    ("s1 select u where b <@ null", (0, 0)),
-    ("s1 select u where b << null", (0, 0)),
-    ("s1 select u where b >> null", (0, 0)),
-    ("s1 select u where b <<= null", (3, 20)),
-    ("s1 select u where b >>= null", (3, 20)),
-    ("s1 select u where b &< null", (0, 0)),
-    ("s1 select u where b &> null", (0, 0)),
-    ("s1 select u where b -|- null", (0, 0)),
-    ("s1 select u where c < null", (3, 20)),
-    ("s1 select u where c <= null", (3, 20)),
-    ("s1 select u where c = null", (0, 0)),
-    ("s1 select u where c >= null", (3, 20)),
-    ("s1 select u where c > null", (3, 20)),
-    ("s1 select u where c && null", (0, 0)),
-    ("s1 select u where c @> null", (3, 20)),
-    ("s1 select u where c <@ null", (3, 20)),
-    ("s1 select u where c << null", (0, 0)),
-    ("s1 select u where c >> null", (0, 0)),
-    ("s1 select u where c <<= null", (0, 0)),
-    ("s1 select u where c >>= null", (0, 0)),
-    ("s1 select u where c &< null", (3, 20)),
-    ("s1 select u where c &> null", (3, 20)),
-    ("s1 select u where c -|- null", (3, 20)),
-];
-
-fn first_wrong_refusal(alloc: Global, layout: &Layout, cases: &[Case]) -> Option<&'static str> {
-    for (line, wanted) in cases {
-        if refusal(&read_line(alloc, line.as_bytes(), layout)) != *wanted {
-            return Some(line);
-        }
-    }
-    None
-}
-
 #[test]
-fn lines_are_read_and_printed_or_refused_at_their_word(rt: HostRuntime) {
+fn lines_are_read_and_printed(rt: HostRuntime) {
     let alloc = rt.alloc();
     let layout = layout_of(alloc).expect(&rt, "a layout");
-    let wrong = [
-        first_wrong_form(alloc, &layout),
-        first_wrong_refusal(alloc, &layout, REFUSED.as_slice()),
-        first_wrong_refusal(alloc, &layout, OPERATORS.as_slice()),
-    ];
-    assert_eq!(rt; wrong, [None; 3]);
+    assert_eq!(rt; first_wrong_form(alloc, &layout), None);
     let of_another = read_line_in(alloc, &[Verb::Begin], b"s1 commit", &layout);
     assert_eq!(rt; refusal(&of_another), (1, 3));
 }

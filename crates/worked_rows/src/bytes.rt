@@ -7,7 +7,7 @@ use crate::row::{Command, Run, Stretch};
 use crate::rows::Outcome;
 use block_model::NoMemory;
 use brin_app::{DAMAGED, DONE, NO_STORE};
-use disk_trait::SteadyDisk;
+use disk_trait::{Disk, SteadyDisk};
 use std::alloc::Global;
 
 /// Makes a run for each byte of the stretch. It is answered something, and its status is that of a store, of none, or of a damaged one.
@@ -18,6 +18,10 @@ pub fn check_bytes(
     mut disk: SteadyDisk,
     stretch: Stretch,
 ) -> Result<Outcome, NoMemory> {
+    if stretch.to < stretch.from || disk.size() <= stretch.to {
+        let difference = Difference::new(alloc, "bytes", "places of the disk", "others")?;
+        return Ok((Some(difference), disk));
+    }
     let bytes = bytes_of(alloc, &mut disk)?;
     for at in stretch.from..=stretch.to {
         let mut turned = SteadyDisk::from_image(Vec::from_slice(alloc, bytes.as_slice())?);

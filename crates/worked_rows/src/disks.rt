@@ -69,10 +69,13 @@ pub fn disk_differs(
     disk: &mut SteadyDisk,
     change: Change,
 ) -> Result<Option<Difference>, NoMemory> {
-    let Change::Is { at, value } = change else {
+    let (Change::Is { at, value } | Change::Becomes { at, value }) = change else {
         return Ok(None);
     };
-    let got = byte_at(disk, at).map_or(256, u64::from);
+    let got = match byte_at(disk, at) {
+        Some(byte) => u64::from(byte),
+        None => 256,
+    };
     let place = format!(in alloc; "byte {at}")?;
     numbers_differ(alloc, place.as_str(), u64::from(value), got)
 }

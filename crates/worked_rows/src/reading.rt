@@ -116,8 +116,18 @@ impl<'a> Reader<'a> {
     }
 
     fn obey(&mut self, directive: Directive<'a>) -> Result<(), FormFault> {
+        if let Directive::Row(name) = directive {
+            return self.begin_row(name);
+        }
+        if self.name.is_none() {
+            return Err(FormFault::Form);
+        }
+        self.obey_in_row(directive)
+    }
+
+    fn obey_in_row(&mut self, directive: Directive<'a>) -> Result<(), FormFault> {
         match directive {
-            Directive::Row(name) => self.begin_row(name),
+            Directive::Row(_) => Err(FormFault::Form),
             Directive::Next(start) => self.end_run(start),
             Directive::Repeat(times) => self.begin_repeat(times),
             Directive::EndRepeat => self.end_repeat(),
@@ -143,9 +153,9 @@ impl<'a> Reader<'a> {
         Ok(())
     }
 
-    /// Ends the run that goes on, which has its words, and begins another one.
+    /// Ends the run that goes on, and begins another one.
     fn end_run(&mut self, next: Start) -> Result<(), FormFault> {
-        if self.run.commands.is_empty() || self.repeat.is_some() {
+        if !self.run.is_whole() || self.repeat.is_some() {
             return Err(FormFault::Form);
         }
         let run = mem::replace(&mut self.run, Run::new(self.alloc, next));
@@ -231,6 +241,16 @@ fn add_word(alloc: Global, words: &mut Words, word: &str) -> Result<(), FormFaul
 }
 
 impl<'a> Run<'a> {
+    /// Whether it has words, and all that its way wants, and nothing that its way doesn't ask for.
+    fn is_whole(&self) -> bool {
+        let fits = match self.way {
+            Way::EachCall => !self.found.is_empty() && self.told.is_empty(),
+            Way::EachOrder => self.found.is_empty() && self.sides.is_some(),
+            _ => self.found.is_empty() && self.told.is_empty(),
+        };
+        fits && !self.commands.is_empty()
+    }
+
     /// Takes a line of the script: behind the steps, where these come in each order.
     fn say(&mut self, line: &str, turn: u64) -> Result<(), FormFault> {
         match self.way {
