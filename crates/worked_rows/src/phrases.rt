@@ -43,6 +43,7 @@ fn whole_phrase<'a>(line: &str) -> Option<Directive<'a>> {
         "also" => Some(Directive::Next(Start::Before)),
         "end" => Some(Directive::EndRepeat),
         "no last line feed" => Some(Directive::Setting(Setting::NoLastLineFeed)),
+        "in large pieces alone" => Some(way(Way::Large)),
         "every stop and fault" => Some(way(Way::EachCall)),
         "wants no disk" => Some(way(Way::Wants(None))),
         _ => None,

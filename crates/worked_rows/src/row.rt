@@ -61,6 +61,8 @@ pub enum Trouble {
 #[derive(Clone, Copy, Debug)]
 pub enum Way {
     Plain,
+    /// As a plain one, but in large pieces alone.
+    Large,
     /// A read of the script fails, or a write of the replies.
     Read(u64),
     Write(u64),

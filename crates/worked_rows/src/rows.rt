@@ -28,19 +28,21 @@ pub fn check_row(alloc: Global, row: &Row<'_>) -> Result<Option<Difference>, NoM
     Ok(None)
 }
 
-/// Whether the row's runs are made by such pieces: plain ones by both, those in which a read or a write fails by single bytes, and others by large pieces.
+/// Whether the row's runs are made by such pieces: where a read or a write fails by single bytes, where all are plain by both, and else by large pieces.
 fn is_made_by(row: &Row<'_>, piece: Piece) -> bool {
-    for run in row.runs.iter() {
-        let is_made = match run.way {
-            Way::Plain => true,
-            Way::Read(_) | Way::Write(_) => piece == Piece::Byte,
-            _ => piece == Piece::Large,
-        };
-        if !is_made {
-            return false;
-        }
+    let has_fault = row.runs.iter().any(|run| is_stream_fault(run.way));
+    match piece {
+        Piece::Byte => has_fault || row.runs.iter().all(|run| is_plain(run.way)),
+        Piece::Large => !has_fault,
     }
-    true
+}
+
+fn is_stream_fault(way: Way) -> bool {
+    matches!(way, Way::Read(_) | Way::Write(_))
+}
+
+fn is_plain(way: Way) -> bool {
+    matches!(way, Way::Plain)
 }
 
 fn check_runs(
@@ -129,7 +131,9 @@ fn outcome(
     disk: SteadyDisk,
 ) -> Result<Outcome, NoMemory> {
     match run.way {
-        Way::Plain | Way::Read(_) | Way::Write(_) => check_plain(alloc, run, command, piece, disk),
+        Way::Plain | Way::Large | Way::Read(_) | Way::Write(_) => {
+            check_plain(alloc, run, command, piece, disk)
+        }
         Way::Call(trouble, call) => check_trouble(alloc, run, command, disk, trouble, call),
         Way::EachCall => check_calls(alloc, run, command, disk),
         Way::EachOrder => Ok((check_orders(alloc, run, command)?, disk)),
