@@ -43,11 +43,7 @@ fn turn(disk: &mut SteadyDisk, at: u64, value: Option<u8>) {
     }
 }
 
-fn check_answer(
-    alloc: Global,
-    at: u64,
-    answer: &Answer,
-) -> Result<Option<Difference>, NoMemory> {
+fn check_answer(alloc: Global, at: u64, answer: &Answer) -> Result<Option<Difference>, NoMemory> {
     let status = answer.status;
     if status == DONE || status == NO_STORE || status == DAMAGED {
         return Ok(None);

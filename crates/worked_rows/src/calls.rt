@@ -53,10 +53,7 @@ pub fn check_trouble(
     let (answer, disk) = run_on(alloc, &command.words, script, &streams, disk)?;
     let replies = run.lines.replies.as_slice();
     let difference = answer_differs(alloc, command.text, replies, run.status, &answer)?;
-    Ok((
-        difference,
-        SteadyDisk::from_image(disk.image(run.image)?),
-    ))
+    Ok((difference, SteadyDisk::from_image(disk.image(run.image)?)))
 }
 
 /// A run over a disk of these bytes, with one trouble.

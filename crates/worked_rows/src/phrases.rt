@@ -137,10 +137,7 @@ fn order(rest: &str) -> Result<Directive<'_>, FormFault> {
     let Some((first, second)) = rest.split_once(" and ") else {
         return Err(FormFault::Form);
     };
-    Ok(Directive::Setting(Setting::Sides(
-        side(first)?,
-        side(second)?,
-    )))
+    Ok(Directive::Setting(Setting::Sides(side(first)?, side(second)?)))
 }
 
 fn side(text: &str) -> Result<Side<'_>, FormFault> {

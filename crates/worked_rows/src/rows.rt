@@ -45,11 +45,7 @@ fn is_plain(way: Way) -> bool {
     matches!(way, Way::Plain)
 }
 
-fn check_runs(
-    alloc: Global,
-    row: &Row<'_>,
-    piece: Piece,
-) -> Result<Option<Difference>, NoMemory> {
+fn check_runs(alloc: Global, row: &Row<'_>, piece: Piece) -> Result<Option<Difference>, NoMemory> {
     let mut disks = Disks {
         alloc,
         left: SteadyDisk::new(alloc, 0)?,
