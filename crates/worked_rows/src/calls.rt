@@ -70,10 +70,10 @@ struct Case<'a> {
 type Ran = (Answer, MemoryDisk);
 
 /// Makes a run with each trouble at each of its calls, and without it.
-pub fn check_calls(
+pub fn check_calls<'a>(
     alloc: Global,
-    run: &Run<'_>,
-    command: &Command<'_>,
+    run: &'a Run<'a>,
+    command: &'a Command<'a>,
     mut disk: SteadyDisk,
 ) -> Result<Outcome, NoMemory> {
     let bytes = bytes_of(alloc, &mut disk)?;

@@ -21,10 +21,10 @@ struct Pair<'a> {
 }
 
 /// Makes the run in each order of the steps.
-pub fn check_orders(
+pub fn check_orders<'a>(
     alloc: Global,
-    run: &Run<'_>,
-    command: &Command<'_>,
+    run: &'a Run<'a>,
+    command: &'a Command<'a>,
 ) -> Result<Option<Difference>, NoMemory> {
     let Some((first, second)) = run.sides else {
         return Ok(None);
