@@ -58,11 +58,11 @@ pub fn check_trouble(
 
 /// A run over a disk of these bytes, with one trouble.
 #[derive(Clone, Copy)]
-struct Case<'a> {
+struct Case<'a, 'b> {
     alloc: Global,
     run: &'a Run<'a>,
     command: &'a Command<'a>,
-    bytes: &'a [u8],
+    bytes: &'b [u8],
     trouble: Trouble,
 }
 
@@ -92,7 +92,7 @@ pub fn check_calls<'a>(
     Ok((None, disk))
 }
 
-impl Case<'_> {
+impl Case<'_, '_> {
     fn check(&self) -> Result<Option<Difference>, NoMemory> {
         for call in 1..MANY {
             let ran = self.ran(call)?;

@@ -100,7 +100,11 @@ impl Disks {
 
     fn disk_for(&mut self, run: &Run<'_>, command: &Command<'_>) -> Result<SteadyDisk, NoMemory> {
         match run.start {
-            Start::New => new_disk(self.alloc, command),
+            Start::New => {
+                // One disk at a time: some are large.
+                self.left = SteadyDisk::from_image(Vec::new(self.alloc));
+                new_disk(self.alloc, command)
+            }
             Start::Left => {
                 let none = SteadyDisk::from_image(Vec::new(self.alloc));
                 Ok(mem::replace(&mut self.left, none))
