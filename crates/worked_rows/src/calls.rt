@@ -1,0 +1,202 @@
+//! Runs in which calls of the disk fail.
+
+use crate::answer::{Answer, Streams, run_on};
+use crate::difference::{Difference, answer_differs};
+use crate::disks::bytes_of;
+use crate::looks::{NO_STORE, has_rows, look};
+use crate::row::{Command, Run, Trouble};
+use crate::rows::Outcome;
+use block_model::NoMemory;
+use brin_app::{DISK_FAULT, DONE};
+use disk_trait::{MemoryDisk, SteadyDisk};
+use std::alloc::Global;
+
+/// How many images of a disk are looked at.
+const PICKS: u64 = 8;
+
+/// More calls of the disk than a run makes.
+const MANY: u64 = 500;
+
+/// How many calls a disk has room to record, and how many bytes.
+const RECORD: (u64, u64) = (1000, 1 << 20);
+
+/// A disk of these bytes on which there is trouble at that call.
+fn troubled(
+    alloc: Global,
+    bytes: &[u8],
+    trouble: Trouble,
+    call: u64,
+) -> Result<MemoryDisk, NoMemory> {
+    let mut disk = MemoryDisk::from_image(Vec::from_slice(alloc, bytes)?);
+    let (calls, room) = RECORD;
+    disk.room(calls, room)?;
+    match trouble {
+        Trouble::Stop => disk.stop_at(call),
+        Trouble::Fault => disk.fail(call)?,
+    }
+    Ok(disk)
+}
+
+/// Makes a run with trouble at a call, and leaves the image that the row picks.
+pub fn check_trouble(
+    alloc: Global,
+    run: &Run<'_>,
+    command: &Command<'_>,
+    mut disk: SteadyDisk,
+    trouble: Trouble,
+    call: u64,
+) -> Result<Outcome, NoMemory> {
+    let bytes = bytes_of(alloc, &mut disk)?;
+    let disk = troubled(alloc, bytes.as_slice(), trouble, call)?;
+    let streams = Streams::large(run.lines.replies.len());
+    let script = run.lines.script.as_slice();
+    let (answer, disk) = run_on(alloc, &command.words, script, &streams, disk)?;
+    let replies = run.lines.replies.as_slice();
+    let difference = answer_differs(alloc, command.text, replies, run.status, &answer)?;
+    Ok((difference, SteadyDisk::from_image(disk.image(run.image)?)))
+}
+
+/// A run over a disk of these bytes, with one trouble.
+#[derive(Clone, Copy)]
+struct Case<'a, 'b> {
+    alloc: Global,
+    run: &'a Run<'a>,
+    command: &'a Command<'a>,
+    bytes: &'b [u8],
+    trouble: Trouble,
+}
+
+/// What a run with trouble at a call came to, and its disk.
+type Ran = (Answer, MemoryDisk);
+
+/// Makes a run with each trouble at each of its calls, and without it.
+pub fn check_calls<'a>(
+    alloc: Global,
+    run: &'a Run<'a>,
+    command: &'a Command<'a>,
+    mut disk: SteadyDisk,
+) -> Result<Outcome, NoMemory> {
+    let bytes = bytes_of(alloc, &mut disk)?;
+    for trouble in [Trouble::Stop, Trouble::Fault] {
+        let case = Case {
+            alloc,
+            run,
+            command,
+            bytes: bytes.as_slice(),
+            trouble,
+        };
+        if let Some(difference) = case.check()? {
+            return Ok((Some(difference), disk));
+        }
+    }
+    Ok((None, disk))
+}
+
+impl Case<'_, '_> {
+    fn check(&self) -> Result<Option<Difference>, NoMemory> {
+        for call in 1..MANY {
+            let ran = self.ran(call)?;
+            if ran.0.status == DONE {
+                return self.check_end(&ran, call);
+            }
+            if let Some(difference) = self.check_call(&ran, call)? {
+                return Ok(Some(difference));
+            }
+        }
+        self.differs(MANY, 0, "fewer calls", "more")
+    }
+
+    /// Makes the run with the trouble at that call.
+    fn ran(&self, call: u64) -> Result<Ran, NoMemory> {
+        let disk = troubled(self.alloc, self.bytes, self.trouble, call)?;
+        let streams = Streams::large(self.run.lines.replies.len());
+        let script = self.run.lines.script.as_slice();
+        run_on(self.alloc, &self.command.words, script, &streams, disk)
+    }
+
+    /// A run whose call failed has status 6, and writes a front of the replies. Each image of its disk has the rows of the commits that were answered, or
+    /// of one more. Where nothing was answered and the words make a store, it may be none.
+    fn check_call(&self, ran: &Ran, call: u64) -> Result<Option<Difference>, NoMemory> {
+        let (answer, disk) = ran;
+        if answer.status != DISK_FAULT {
+            return self.differs(call, 0, "status 6", "another one");
+        }
+        if !self.run.lines.replies.starts_with(answer.bytes()) {
+            return self.differs(call, 0, "a front of the replies", answer.text());
+        }
+        for pick in 0..count_images(disk)? {
+            let seen = look(self.alloc, disk.image(pick)?)?;
+            if !self.may_see(answer, seen.as_str()) {
+                return self.differs(call, pick, "the rows of its commits", seen.as_str());
+            }
+        }
+        Ok(None)
+    }
+
+    /// Whether this may be seen of an image of the disk that the answer left.
+    fn may_see(&self, answer: &Answer, seen: &str) -> bool {
+        let text = answer.text();
+        if text.is_empty() && seen == NO_STORE && self.command.text != "run" {
+            return true;
+        }
+        let commits = text.matches(" committed\n").count();
+        let found = self.run.found.iter().skip(commits).take(2);
+        for rows in found {
+            if has_rows(seen.as_bytes(), rows.as_slice()) {
+                return true;
+            }
+        }
+        false
+    }
+
+    /// A run without trouble answers its replies, and leaves the rows of all commits. It makes as many calls as the row says.
+    fn check_end(&self, ran: &Ran, call: u64) -> Result<Option<Difference>, NoMemory> {
+        let (answer, disk) = ran;
+        let replies = self.run.lines.replies.as_slice();
+        let text = self.command.text;
+        if let Some(difference) = answer_differs(self.alloc, text, replies, DONE, answer)? {
+            return Ok(Some(difference));
+        }
+        if call <= self.run.calls {
+            return self.differs(call, 0, "more calls", "fewer");
+        }
+        for pick in 0..count_images(disk)? {
+            let seen = look(self.alloc, disk.image(pick)?)?;
+            if !self.is_last(seen.as_str()) {
+                return self.differs(call, pick, "the rows of all commits", seen.as_str());
+            }
+        }
+        Ok(None)
+    }
+
+    /// Whether the rows of all commits are seen.
+    fn is_last(&self, seen: &str) -> bool {
+        match self.run.found.last() {
+            Some(rows) => has_rows(seen.as_bytes(), rows.as_slice()),
+            None => false,
+        }
+    }
+
+    fn differs(
+        &self,
+        call: u64,
+        pick: u64,
+        wanted: &str,
+        got: &str,
+    ) -> Result<Option<Difference>, NoMemory> {
+        let trouble = self.trouble;
+        let place = format!(in self.alloc; "{trouble:?} at call {call}, image by pick {pick}")?;
+        let difference = Difference::new(self.alloc, place.as_str(), wanted, got)?;
+        Ok(Some(difference))
+    }
+}
+
+/// How many images are looked at: one where no write is pending that changed a byte, since all images are the same then.
+fn count_images(disk: &MemoryDisk) -> Result<u64, NoMemory> {
+    let old = disk.image(0)?;
+    let new = disk.image(1)?;
+    if old.as_slice() == new.as_slice() {
+        return Ok(1);
+    }
+    Ok(PICKS)
+}
