@@ -5,8 +5,6 @@
 //! images say nothing here.
 #![tactic(auto)]
 
-#[cfg(test)]
-mod file_rows;
 mod standard;
 mod store_file;
 
@@ -101,17 +99,4 @@ fn main(rt: HostRuntime) -> ExitCode {
         let _ = eprintln!(rt; "{text}");
     }
     ExitCode::from(status)
-}
-
-#[test]
-fn statuses_have_their_texts(rt: HostRuntime) {
-    assert!(rt; text(0) == None);
-    assert!(rt; text(2) == Some("brin: usage"));
-    assert!(rt; text(4) == Some("brin: read fault"));
-    assert!(rt; text(5) == Some("brin: write fault"));
-    assert!(rt; text(6) == Some("brin: disk fault"));
-    assert!(rt; text(7) == Some("brin: out of memory"));
-    assert!(rt; text(8) == Some("brin: spent"));
-    assert!(rt; text(9) == Some("brin: no store"));
-    assert!(rt; text(11) == Some("brin: damaged"));
 }

@@ -98,7 +98,7 @@ fn grow(file: &File, size: u64, log_pages: u32) -> io::Result<()> {
 }
 
 /// The folder of a path.
-pub(crate) fn folder_of(path: &str) -> Path<'_> {
+fn folder_of(path: &str) -> Path<'_> {
     match Path::new(path).parent() {
         Some(folder) if !folder.as_str().is_empty() => folder,
         _ => Path::new("."),
