@@ -6,7 +6,7 @@ use crate::rows::heap;
 use block_model::Place;
 use page_layout::{Form, Page};
 use page_redo::{Misfit, redo};
-use wal_record::{Change, decode, encode};
+use wal_record::{Change, Malformed, decode, encode};
 
 /// The row 1.0 of 5, which transaction 258 deleted.
 const MARKED: [u8; 30] = [
@@ -246,4 +246,36 @@ fn a_change_begins_with_its_tag_and_its_place(rt: HostRuntime) {
         block: 0x0102_0304,
     };
     assert_eq!(rt; evacuated(b"\x09\x05\x01\x02\x03\x04"), Some(place));
+}
+
+/// Bytes that no change goes on past, and the place where none does: of each tag a change that lacks bytes, and tags that there aren't.
+const MALFORMED: [(&[u8], usize); 18] = [
+    (b"", 0),
+    (b"\x01\x05\x01\x02\x03\x04\x07", 7),
+    (b"\x02\x05\x01\x02\x03\x04", 6),
+    (b"\x03\x05\x01\x02\x03\x04\0\x07\0\x02\x61", 11),
+    (
+        b"\x04\x05\x01\x02\x03\x04\0\x07\x01\x02\x03\x04\x05\x06\x07",
+        15,
+    ),
+    (b"\x05\x05\x01\x02\x03\x04\0\x02\0\x01\x01", 11),
+    (b"\x06\x05\x01\x02\x03\x04\0\x01\0", 9),
+    (b"\x07\x05\x01\x02\x03\x04\0", 7),
+    (b"\x08\x05\x01\x02\x03\x04\0\x01", 8),
+    (b"\x09\x05\x01\x02\x03", 5),
+    (b"\x0a", 1),
+    (b"\x0b\x05\x01\x02\x03\x04\0\x03\0\0\0\x11\0", 13),
+    (b"\x0c\x05\x01\x02\x03\x04\0\0\0", 9),
+    (b"\x0d\x05\x01\x02\x03\x04\x0c\x0d", 8),
+    (b"\x0d\x05", 2),
+    (b"\0\x05\x01\x02\x03\x04\0\0\0\0", 0),
+    (b"\x0e\x05\x01\x02\x03\x04\0\0\0\0", 0),
+    (b"\xff\x05\x01\x02\x03\x04\0\0\0\0", 0),
+];
+
+#[test]
+fn no_change_goes_on_past_missing_bytes_or_a_strange_tag(rt: HostRuntime) {
+    for (bytes, at) in MALFORMED {
+        assert_eq!(rt; decode(bytes), Err(Malformed { at }));
+    }
 }

@@ -10,7 +10,8 @@ use brin_app::{DAMAGED, DONE, NO_STORE};
 use disk_trait::{Disk, SteadyDisk};
 use std::alloc::Global;
 
-/// Makes a run for each byte of the stretch. It is answered something, and its status is that of a store, of none, or of a damaged one.
+/// Makes a run for each byte of the stretch. It is answered something, and its status is one of those that the row says, or that of a store, of none, or of
+/// a damaged one.
 pub fn check_bytes(
     alloc: Global,
     run: &Run<'_>,
@@ -29,7 +30,7 @@ pub fn check_bytes(
         let script = run.lines.script.as_slice();
         let streams = Streams::large(65536);
         let (answer, _) = run_on(alloc, &command.words, script, &streams, turned)?;
-        if let Some(difference) = check_answer(alloc, at, &answer)? {
+        if let Some(difference) = check_answer(alloc, run, at, &answer)? {
             return Ok((Some(difference), disk));
         }
     }
@@ -43,14 +44,25 @@ fn turn(disk: &mut SteadyDisk, at: u64, value: Option<u8>) {
     }
 }
 
-fn check_answer(alloc: Global, at: u64, answer: &Answer) -> Result<Option<Difference>, NoMemory> {
+fn check_answer(
+    alloc: Global,
+    run: &Run<'_>,
+    at: u64,
+    answer: &Answer,
+) -> Result<Option<Difference>, NoMemory> {
     let status = answer.status;
-    if status == DONE || status == NO_STORE || status == DAMAGED {
+    let (fits, wanted) = match run.either {
+        Some((first, second)) => (status == first || status == second, "a status of the row's"),
+        None => (
+            status == DONE || status == NO_STORE || status == DAMAGED,
+            "status 0, 9 or 11",
+        ),
+    };
+    if fits {
         return Ok(None);
     }
     let place = format!(in alloc; "another byte at {at}")?;
     let got = format!(in alloc; "status {status}")?;
-    let wanted = "status 0, 9 or 11";
     let difference = Difference::new(alloc, place.as_str(), wanted, got.as_str())?;
     Ok(Some(difference))
 }

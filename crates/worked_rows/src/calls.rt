@@ -4,21 +4,18 @@ use crate::answer::{Answer, Streams, run_on};
 use crate::difference::{Difference, answer_differs};
 use crate::disks::bytes_of;
 use crate::looks::{NO_STORE, has_rows, look};
-use crate::row::{Command, Run, Trouble};
+use crate::row::{Choice, Command, Run, Trouble};
 use crate::rows::Outcome;
 use block_model::NoMemory;
 use brin_app::{DISK_FAULT, DONE};
 use disk_trait::{MemoryDisk, SteadyDisk};
 use std::alloc::Global;
 
-/// How many images of a disk are looked at.
-const PICKS: u64 = 8;
-
-/// More calls of the disk than a run makes.
+/// More calls of the disk than are tried of a run.
 const MANY: u64 = 500;
 
 /// How many calls a disk has room to record, and how many bytes.
-const RECORD: (u64, u64) = (1000, 1 << 20);
+const RECORD: (u64, u64) = (5000, 1 << 23);
 
 /// A disk of these bytes on which there is trouble at that call.
 fn troubled(
@@ -64,17 +61,19 @@ struct Case<'a, 'b> {
     command: &'a Command<'a>,
     bytes: &'b [u8],
     trouble: Trouble,
+    choice: Choice,
 }
 
 /// What a run with trouble at a call came to, and its disk.
 type Ran = (Answer, MemoryDisk);
 
-/// Makes a run with each trouble at each of its calls, and without it.
+/// Makes a run with each trouble at each call that is chosen, and without it. The disk that is left is that of the last one.
 pub fn check_calls<'a>(
     alloc: Global,
     run: &'a Run<'a>,
     command: &'a Command<'a>,
     mut disk: SteadyDisk,
+    choice: Choice,
 ) -> Result<Outcome, NoMemory> {
     let bytes = bytes_of(alloc, &mut disk)?;
     for trouble in [Trouble::Stop, Trouble::Fault] {
@@ -84,8 +83,9 @@ pub fn check_calls<'a>(
             command,
             bytes: bytes.as_slice(),
             trouble,
+            choice,
         };
-        if let Some(difference) = case.check()? {
+        if let Some(difference) = case.check(&mut disk)? {
             return Ok((Some(difference), disk));
         }
     }
@@ -93,10 +93,12 @@ pub fn check_calls<'a>(
 }
 
 impl Case<'_, '_> {
-    fn check(&self) -> Result<Option<Difference>, NoMemory> {
-        for call in 1..MANY {
+    fn check(&self, left: &mut SteadyDisk) -> Result<Option<Difference>, NoMemory> {
+        for turn in 1..MANY {
+            let call = turn.saturating_mul(self.choice.every);
             let ran = self.ran(call)?;
             if ran.0.status == DONE {
+                *left = SteadyDisk::from_image(ran.1.image(1)?);
                 return self.check_end(&ran, call);
             }
             if let Some(difference) = self.check_call(&ran, call)? {
@@ -124,7 +126,7 @@ impl Case<'_, '_> {
         if !self.run.lines.replies.starts_with(answer.bytes()) {
             return self.differs(call, 0, "a front of the replies", answer.text());
         }
-        for pick in 0..count_images(disk)? {
+        for pick in 0..count_images(disk, self.choice)? {
             let seen = look(self.alloc, disk.image(pick)?)?;
             if !self.may_see(answer, seen.as_str()) {
                 return self.differs(call, pick, "the rows of its commits", seen.as_str());
@@ -160,7 +162,7 @@ impl Case<'_, '_> {
         if call <= self.run.calls {
             return self.differs(call, 0, "more calls", "fewer");
         }
-        for pick in 0..count_images(disk)? {
+        for pick in 0..count_images(disk, self.choice)? {
             let seen = look(self.alloc, disk.image(pick)?)?;
             if !self.is_last(seen.as_str()) {
                 return self.differs(call, pick, "the rows of all commits", seen.as_str());
@@ -192,11 +194,11 @@ impl Case<'_, '_> {
 }
 
 /// How many images are looked at: one where no write is pending that changed a byte, since all images are the same then.
-fn count_images(disk: &MemoryDisk) -> Result<u64, NoMemory> {
+fn count_images(disk: &MemoryDisk, choice: Choice) -> Result<u64, NoMemory> {
     let old = disk.image(0)?;
     let new = disk.image(1)?;
     if old.as_slice() == new.as_slice() {
         return Ok(1);
     }
-    Ok(PICKS)
+    Ok(choice.picks)
 }

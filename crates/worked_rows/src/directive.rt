@@ -21,11 +21,14 @@ pub enum Directive<'a> {
 pub enum Setting<'a> {
     Words(&'a str),
     Status(u8),
+    Either(u8, u8),
     NoLastLineFeed,
     Way(Way),
     Image(u64),
     Calls(u64),
     Found(&'a str),
+    /// As many rows as there were commits, up to so many.
+    FoundUpTo(u64, &'a str),
     Told(&'a str),
     Sides(Side<'a>, Side<'a>),
     Change(Change),

@@ -2,16 +2,27 @@
 
 use crate::directive::{Directive, Setting};
 use crate::reading::FormFault;
-use crate::row::{Change, Side, Start, Stretch, Trouble, Way};
+use crate::row::{Change, Choice, Side, Start, Stretch, Trouble, Way};
 use crate::text::{byte_of, number_of};
+
+/// Each call of a run, and each image; or a part of them, where there are many.
+const ALL: Choice = Choice { every: 1, picks: 8 };
+
+const SOME: Choice = Choice { every: 5, picks: 4 };
 
 /// What the line says.
 pub fn read_directive(line: &str) -> Result<Directive<'_>, FormFault> {
     if let Some(found) = whole_phrase(line) {
         return Ok(found);
     }
+    if let Some(rest) = line.strip_prefix("found up to ") {
+        return found_up_to(rest);
+    }
     if let Some(found) = text_phrase(line) {
         return Ok(found);
+    }
+    if let Some(rest) = line.strip_prefix("status ") {
+        return statuses(rest);
     }
     if let Some(rest) = line.strip_prefix("byte ") {
         return Ok(change(one_byte(rest)?));
@@ -44,7 +55,8 @@ fn whole_phrase<'a>(line: &str) -> Option<Directive<'a>> {
         "end" => Some(Directive::EndRepeat),
         "no last line feed" => Some(Directive::Setting(Setting::NoLastLineFeed)),
         "in large pieces alone" => Some(way(Way::Large)),
-        "every stop and fault" => Some(way(Way::EachCall)),
+        "every stop and fault" => Some(way(Way::EachCall(ALL))),
+        "every fifth stop and fault" => Some(way(Way::EachCall(SOME))),
         "wants no disk" => Some(way(Way::Wants(None))),
         _ => None,
     }
@@ -66,7 +78,6 @@ fn text_phrase(line: &str) -> Option<Directive<'_>> {
 fn number_phrase<'a>(phrase: &str, number: u64) -> Result<Directive<'a>, FormFault> {
     match phrase {
         "repeat" => Ok(Directive::Repeat(number)),
-        "status" => status(number),
         "read fault at" => Ok(way(Way::Read(number))),
         "write fault at" => Ok(way(Way::Write(number))),
         "stop at call" => Ok(way(Way::Call(Trouble::Stop, number))),
@@ -86,11 +97,20 @@ fn disk_phrase<'a>(phrase: &str, number: u64) -> Result<Directive<'a>, FormFault
     }
 }
 
-fn status<'a>(number: u64) -> Result<Directive<'a>, FormFault> {
-    match u8::try_from(number) {
-        Ok(status) => Ok(Directive::Setting(Setting::Status(status))),
-        Err(_) => Err(FormFault::Form),
-    }
+/// `N of REPLY`.
+fn found_up_to(rest: &str) -> Result<Directive<'_>, FormFault> {
+    let Some((rows, reply)) = rest.split_once(" of ") else {
+        return Err(FormFault::Form);
+    };
+    Ok(Directive::Setting(Setting::FoundUpTo(number_of(rows)?, reply)))
+}
+
+/// `N`, or `N or N`.
+fn statuses<'a>(rest: &str) -> Result<Directive<'a>, FormFault> {
+    let Some((first, second)) = rest.split_once(" or ") else {
+        return Ok(Directive::Setting(Setting::Status(byte_of(rest)?)));
+    };
+    Ok(Directive::Setting(Setting::Either(byte_of(first)?, byte_of(second)?)))
 }
 
 /// `AT becomes VALUE`, or `AT is VALUE`.

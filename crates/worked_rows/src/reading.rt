@@ -244,11 +244,12 @@ impl<'a> Run<'a> {
     /// Whether it has words, and all that its way wants, and nothing that its way doesn't ask for.
     fn is_whole(&self) -> bool {
         let fits = match self.way {
-            Way::EachCall => !self.found.is_empty() && self.told.is_empty(),
+            Way::EachCall(_) => !self.found.is_empty() && self.told.is_empty(),
             Way::EachOrder => self.found.is_empty() && self.sides.is_some(),
             _ => self.found.is_empty() && self.told.is_empty(),
         };
-        fits && !self.commands.is_empty()
+        let may_vary = matches!(self.way, Way::EachByte(_));
+        fits && (may_vary || self.either.is_none()) && !self.commands.is_empty()
     }
 
     /// Takes a line of the script: behind the steps, where these come in each order.
@@ -263,11 +264,13 @@ impl<'a> Run<'a> {
         match setting {
             Setting::Words(_) => return Err(FormFault::Form),
             Setting::Status(status) => self.status = status,
+            Setting::Either(first, second) => self.either = Some((first, second)),
             Setting::NoLastLineFeed => self.cut_line_feed(),
             Setting::Way(way) => self.way = way,
             Setting::Image(pick) => self.image = pick,
             Setting::Calls(count) => self.calls = count,
             Setting::Found(replies) => return self.add_found(alloc, replies),
+            Setting::FoundUpTo(rows, reply) => return self.add_found_up_to(alloc, rows, reply),
             Setting::Told(reply) => self.told.push(reply)?,
             Setting::Sides(first, second) => {
                 self.way = Way::EachOrder;
@@ -287,6 +290,19 @@ impl<'a> Run<'a> {
         let mut found = Vec::new(alloc);
         add_replies(&mut found, replies, 0)?;
         self.found.push(found)?;
+        Ok(())
+    }
+
+    /// What is found after no commit and after each of so many, which put a row each.
+    fn add_found_up_to(&mut self, alloc: Global, rows: u64, reply: &str) -> Result<(), FormFault> {
+        for count in 0..=rows {
+            let mut found = Vec::new(alloc);
+            for turn in 0..count {
+                add_replies(&mut found, reply, turn)?;
+            }
+            add_replies(&mut found, "rows {n}", count)?;
+            self.found.push(found)?;
+        }
         Ok(())
     }
 }

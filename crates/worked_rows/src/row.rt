@@ -68,14 +68,21 @@ pub enum Way {
     Write(u64),
     /// Calls of the disk fail from one on, or one alone.
     Call(Trouble, u64),
-    /// A run for each call of the disk, and each trouble.
-    EachCall,
+    /// A run for each of these calls of the disk, and each trouble.
+    EachCall(Choice),
     /// A run for each order of the steps of two statements.
     EachOrder,
     /// A run for each byte of a stretch, which is turned or gets a value.
     EachByte(Stretch),
     /// No run: the size that the words want of a disk.
     Wants(Option<u64>),
+}
+
+/// The calls of a run that are tried: the multiples of a number. Of what each leaves so many images are looked at.
+#[derive(Clone, Copy, Debug)]
+pub struct Choice {
+    pub every: u64,
+    pub picks: u64,
 }
 
 /// A stretch of bytes of a disk, and the value that each of them gets in a run of its own; without one it is turned.
@@ -102,6 +109,8 @@ pub struct Run<'a> {
     pub commands: Vec<Command<'a>>,
     pub lines: Lines,
     pub status: u8,
+    /// The two statuses that there may be, whichever byte of a stretch is another one.
+    pub either: Option<(u8, u8)>,
     pub way: Way,
     /// Which image of the disk a stop leaves.
     pub image: u64,
@@ -123,6 +132,7 @@ impl<'a> Run<'a> {
             commands: Vec::new(alloc),
             lines: Lines::new(alloc),
             status: 0,
+            either: None,
             way: Way::Plain,
             image: 1,
             calls: 0,

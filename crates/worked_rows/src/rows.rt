@@ -135,7 +135,7 @@ fn outcome(
             check_plain(alloc, run, command, piece, disk)
         }
         Way::Call(trouble, call) => check_trouble(alloc, run, command, disk, trouble, call),
-        Way::EachCall => check_calls(alloc, run, command, disk),
+        Way::EachCall(choice) => check_calls(alloc, run, command, disk, choice),
         Way::EachOrder => Ok((check_orders(alloc, run, command)?, disk)),
         Way::EachByte(stretch) => check_bytes(alloc, run, command, disk, stretch),
         Way::Wants(size) => Ok((check_wanted(alloc, command, size)?, disk)),

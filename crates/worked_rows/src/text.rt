@@ -72,13 +72,15 @@ fn add_bytes(out: &mut Vec<u8>, times: &str, byte: &str) -> Result<(), FormFault
     Ok(())
 }
 
-/// Appends the number of the turn, or one beyond it.
+/// Appends the number of the turn or twice it, or one beyond.
 fn add_turn(out: &mut Vec<u8>, form: &str, turn: u64) -> Result<(), FormFault> {
     let (name, beyond) = form.split_once('+').unwrap_or((form, "0"));
-    if name != "n" {
-        return Err(FormFault::Form);
-    }
-    let Some(shown) = turn.checked_add(number_of(beyond)?) else {
+    let times = match name {
+        "n" => 1,
+        "2n" => 2,
+        _ => return Err(FormFault::Form),
+    };
+    let Some(shown) = turn.saturating_mul(times).checked_add(number_of(beyond)?) else {
         return Err(FormFault::Form);
     };
     let mut buffer = Buffer::new();
