@@ -1,5 +1,5 @@
 #!/usr/bin/env python3
-"""Checks the documents: the README's example is the stored run of crates/brin, links resolve, every crate is in the map, every entry of the definitions is in
+"""Checks the documents: the README's example is a worked row, links resolve, every crate is in the map, every entry of the definitions is in
 their index, no sentence of the pages for users is long, and no measured figure stands in two pages."""
 import os
 import re
@@ -14,10 +14,18 @@ def read(*path):
         return file.read()
 
 
-def example_faults():
-    """The README's example against crates/brin/args, stdin and stdout."""
-    text = re.search(r"<!-- example:begin -->\n(.*?)<!-- example:end -->", read("README.md"), re.S).group(1)
-    lines = [line[4:] for line in text.splitlines()]
+def worked_row(text, name):
+    """The words of a row's command line, its lines, and their replies; `text` is a file of rows."""
+    lines = text[text.index(f"row {name}\n") :].split("\n\n")[0].splitlines()
+    words = next(line for line in lines if line.startswith("words ")).removeprefix("words ").split("|")
+    said = [line[4:].split(" -> ", 1) for line in lines if line.startswith("    ")]
+    return words, [line for line, *_ in said], [reply for _, *told in said for reply in " | ".join(told).split(" | ") if told]
+
+
+def shown_run(text):
+    """The words, lines and replies of the README's example."""
+    example = re.search(r"<!-- example:begin -->\n(.*?)<!-- example:end -->", text, re.S).group(1)
+    lines = [line[4:] for line in example.splitlines()]
     start, end = lines.index("$ cat > script <<END") + 1, lines.index("END")
     command = ""
     rest = end + 1
@@ -25,11 +33,19 @@ def example_faults():
         command = command.removesuffix("\\") + lines[rest].removeprefix("$ ").strip()
         rest += 1
     words = shlex.split(command)
-    words = words[1 : words.index("<")]
-    parts = {"args": words, "stdin": lines[start:end], "stdout": lines[rest:]}
-    for name, shown in parts.items():
-        if read("crates", "brin", name).splitlines() != shown:
-            yield f"README.md: the example differs from crates/brin/{name}"
+    return words[2 : words.index("<")], lines[start:end], lines[rest:]
+
+
+def example_faults():
+    """The README's example against the worked row that runs it."""
+    rows = os.path.join("crates", "worked_rows", "data", "readme.rows")
+    if not os.path.exists(os.path.join(TOP, rows)):
+        yield f"no {rows}"
+        return
+    row = worked_row(read(rows), "the_example_of_the_readme")
+    for part, there, here in zip(("words", "lines", "replies"), row, shown_run(read("README.md"))):
+        if there != here:
+            yield f"README.md: the {part} of the example differ from {rows}"
 
 
 def pages():

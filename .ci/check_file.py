@@ -2,7 +2,7 @@
 """Checks a built program over real files: check_file.py [PROGRAM] (crates/brin/out/brin, if none is named).
 
 What the proofs say nothing of: closed standard streams, two runs at once, folders, pipes and devices in place of files, full disks, limits and
-killed runs. Statuses and texts are those of README.md's table. Prints how many cases hold, or the first that doesn't, and then ends with 1. A case
+killed runs. Statuses and texts are those of docs/reference.md. Prints how many cases hold, or the first that doesn't, and then ends with 1. A case
 that this machine can't make is named and left out.
 """
 import fcntl
@@ -19,7 +19,17 @@ TOP = pathlib.Path(__file__).resolve().parent.parent
 SECONDS = 10
 NOBODY = 65534
 
-TEXTS = {0: "", 2: "brin: usage\n", 4: "brin: read fault\n", 5: "brin: write fault\n", 6: "brin: disk fault\n", 9: "brin: no store\n"}
+TEXTS = {
+    0: "",
+    2: "brin: usage\n",
+    4: "brin: read fault\n",
+    5: "brin: write fault\n",
+    6: "brin: disk fault\n",
+    7: "brin: out of memory\n",
+    8: "brin: spent\n",
+    9: "brin: no store\n",
+    11: "brin: damaged\n",
+}
 
 SIZES = ["--heap-blocks=8", "--index-blocks=4", "--status-blocks=1", "--log-pages=16"]
 DECLARED = [*SIZES, "table t(a int8) rows_per_page 2", "index i on t(a minmax) pages_per_range 1"]
@@ -89,7 +99,8 @@ class Check:
         return shutil.copy(self.stored, self.path())
 
     def words(self, path, command):
-        return [self.program, *([] if path is None else [path, *COMMANDS.get(command, [command])])]
+        given = command if isinstance(command, list) else COMMANDS.get(command, [command])
+        return [self.program, *([] if path is None else [path, *given])]
 
     def end(self, path, command, script="", **more):
         """The status, output and text of a run that reads the script."""
@@ -234,6 +245,22 @@ def odd_streams(check):
     check.same("rows behind a folder as script", check.rows(path), ["7"])
 
 
+def ends_of_its_own(check):
+    """The ends that a run comes to by what it reads, by want of memory, and at a limit of its own."""
+    path = check.copy()
+    with open(path, "r+b") as file:
+        file.seek(8193)
+        file.write(bytes([255] * 4))
+    check.same("a store whose first frame has another length", check.end(path, "run"), failed(11))
+    narrow = lambda: resource.setrlimit(resource.RLIMIT_AS, (1 << 28, 1 << 28))
+    wide = ["run", "--frames=65536", *DECLARED]
+    check.same("frames of 512 MiB in 256 MiB of memory", check.end(check.path(), wide, preexec_fn=narrow), failed(7))
+    # A begin and a rollback are a request each, and a run takes 1048576.
+    many = ["run", "--heap-blocks=1", "--status-blocks=17", "--log-pages=16", "table t(a int8)"]
+    came = check.end(check.path(), many, "s begin\ns rollback\n" * 524289)
+    check.same("more requests than a run takes", (came[0], came[-1]), (8, TEXTS[8]))
+
+
 def limit(size, ignored):
     """Sets a limit to the size of files."""
     if ignored:
@@ -311,7 +338,7 @@ def fill(filler, free):
     filler.write_bytes(bytes(max(0, disk.f_bavail * disk.f_bsize - free)))
 
 
-CASES = [closed_streams, two_runs, locked_files, odd_files, unprivileged, odd_streams, limited_files, new_files, full_disks]
+CASES = [closed_streams, two_runs, locked_files, odd_files, unprivileged, odd_streams, ends_of_its_own, limited_files, new_files, full_disks]
 
 
 def main():

@@ -2,7 +2,7 @@
 """Tests of what check_docs.py finds in a text."""
 import unittest
 
-from check_docs import figures, long_sentences, prose
+from check_docs import figures, long_sentences, prose, shown_run, worked_row
 
 WORDS = " ".join(["word"] * 30)
 
@@ -20,8 +20,25 @@ class Sentences(unittest.TestCase):
     def test_code_tables_headings_and_quotations_are_none(self):
         self.assertEqual(prose("# a\n\n| b |\n\n> c\n\n    d\n\n```\ne\n```\n<!-- f -->"), [])
 
+    def test_a_long_quotation_is_passed_over(self):
+        self.assertEqual(list(long_sentences(f"Short one.\n\n> {WORDS}\n> more.\n\nShort one.")), [])
+
     def test_a_link_is_its_text_and_code_is_one_word(self):
         self.assertEqual(prose("see [the page](x/y.md) and `a b c`"), ["see the page and code"])
+
+
+RUN = (["run", "table t(a int8)"], ["# a", "s begin", "s select t"], ["s begun 1", "s row 1.0 5", "s rows 1"])
+
+
+class Examples(unittest.TestCase):
+    def test_a_row_is_its_words_lines_and_replies(self):
+        text = "row other\nwords init\n\nrow it\nwords run|table t(a int8)\n    # a\n    s begin -> s begun 1\n    s select t -> s row 1.0 5 | s rows 1\n\nrow next\n"
+        self.assertEqual(worked_row(text, "it"), RUN)
+
+    def test_an_example_is_the_same(self):
+        lines = ["$ cat > script <<END", *RUN[1], "END", "$ out/brin store.brin run \\", '    "table t(a int8)" < script', *RUN[2]]
+        text = "".join(f"    {line}\n" for line in lines)
+        self.assertEqual(shown_run(f"<!-- example:begin -->\n{text}<!-- example:end -->"), RUN)
 
 
 class Figures(unittest.TestCase):

@@ -17,11 +17,12 @@ import threading
 import time
 
 TICKS = os.sysconf("SC_CLK_TCK")
+PAGE = os.sysconf("SC_PAGE_SIZE")
 KINDS = ("proofs", "tests", "edits")
 
 
 def processes():
-    """Parent, processor seconds and words of each process."""
+    """Parent, processor seconds, bytes of memory and words of each process."""
     found = {}
     for entry in os.listdir("/proc"):
         if not entry.isdigit():
@@ -33,7 +34,7 @@ def processes():
                 words = file.read().split("\0")
         except OSError:
             continue
-        found[int(entry)] = (int(fields[1]), (int(fields[11]) + int(fields[12])) / TICKS, words)
+        found[int(entry)] = (int(fields[1]), (int(fields[11]) + int(fields[12])) / TICKS, int(fields[21]) * PAGE, words)
     return found
 
 
@@ -58,21 +59,23 @@ def check_of(number, words):
 
 
 def watch(root, ended):
-    """Processor seconds of each check below the root, up to its end."""
-    seconds = {}
+    """Processor seconds of each check below the root, up to its end, and the most memory that one held."""
+    seconds, most = {}, 0
     while not ended():
         found = processes()
-        for number, (_, used, words) in found.items():
+        for number, (_, used, memory, words) in found.items():
             if descends(number, root, found):
                 check = check_of(number, words)
                 if check:
                     seconds[number, check] = used
+                    most = max(most, memory)
         time.sleep(1)
-    return seconds
+    return seconds, most
 
 
-def page(seconds, minutes):
+def page(watched, minutes):
     """The page: what the run took in all, and each crate's row, dearest first."""
+    seconds, most = watched
     costs = {}
     for (_, (crate, kind)), used in seconds.items():
         costs.setdefault(crate, dict.fromkeys(KINDS, 0.0))[kind] += used / 60
@@ -80,7 +83,8 @@ def page(seconds, minutes):
     rows = [("all", sums)] + [(crate, [row[kind] for kind in KINDS]) for crate, row in sorted(costs.items(), key=lambda it: -sum(it[1].values()))]
     print("# What the gate costs\n")
     print(f"Processor minutes, from nothing, on {len(os.sched_getaffinity(0))} processors, by `bench/gate_costs.py` on {datetime.date.today():%-d %B %Y}.")
-    print(f"The run took {minutes:.0f} minutes.\n")
+    print(f"The run took {minutes:.0f} minutes, and its largest process {most / 1e9:.1f} GB of memory.")
+    print("`rt run` in crates/brin takes nearly all of the column of proofs, and none of the others.\n")
     print("| crate | proofs | tests | edits | all |\n|---|---|---|---|---|")
     for crate, row in rows:
         print(f"| {crate} | " + " | ".join(f"{it:.1f}" if it else "" for it in row) + f" | {sum(row):.1f} |")

@@ -16,7 +16,7 @@ from unproved import KIT, TRY, toolchain
 
 TOP = os.path.dirname(os.path.dirname(os.path.abspath(__file__)))
 ROWS = 400_000
-NEEDED = "heap_bench: block_model store_layout disk_trait store_format heap_rows logged_pages\n"
+NEEDED = "heap_bench: block_model store_layout disk_trait store_format heap_rows page_store\n"
 CALLS = ["a put", "a row that is read"]
 
 MAIN = """//! Times puts and the reads of their rows.
@@ -25,7 +25,7 @@ MAIN = """//! Times puts and the reads of their rows.
 use block_model::{Column, Kind, Name, RowId, Schema, Sequence, Sizes, Table, Value};
 use disk_trait::SteadyDisk;
 use heap_rows::{PageRows, put, rows_of};
-use logged_pages::PageStore;
+use page_store::PageStore;
 use std::alloc::Global;
 use std::io;
 use std::time::Instant;

@@ -30,7 +30,7 @@ CALLS = {
     "room on the last page alone": 100_000,
     "room on no page": 100_000,
 }
-NEEDED = "index_bench: block_model store_layout disk_trait wal_record page_layout store_format logged_pages revmap range_store\n"
+NEEDED = "index_bench: block_model store_layout disk_trait wal_record page_layout store_format page_store revmap range_store\n"
 
 MAIN = """//! Times calls on the pages of an index.
 #![tactic(auto)]
@@ -39,7 +39,7 @@ use block_model::{
     Class, Column, Index, Kind, Name, PAGE_SIZE, Part, Place, Schema, Sequence, Sizes, Spot, Table,
 };
 use disk_trait::SteadyDisk;
-use logged_pages::PageStore;
+use page_store::PageStore;
 use page_layout::{MAP, META, REGULAR};
 use range_store::{Scratch, drop_at, put, replace, room_for, tuple_at};
 use revmap::{entry, set};

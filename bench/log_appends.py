@@ -13,7 +13,7 @@ import tempfile
 
 TOP = os.path.dirname(os.path.dirname(os.path.abspath(__file__)))
 APPENDS = 1_000
-NEEDED = "log_bench: store_layout disk_trait log_area small_layouts\n"
+NEEDED = "log_bench: store_layout disk_trait log_area store_layout\n"
 
 MAIN = """//! Times appends to the log of a file.
 #![tactic(auto)]
@@ -23,7 +23,7 @@ ghost use Rattle.log_area.specs.Log.{areas_end};
 
 use disk_trait::{Disk, FileDisk};
 use log_area::{AppendFault, Frames, LogArea};
-use small_layouts::{LEAST, table_layout};
+use store_layout::{LEAST, table_layout};
 use std::alloc::Global;
 use std::fs::OpenOptions;
 use std::io;

@@ -1,7 +1,7 @@
 #!/usr/bin/env python3
 """Times inserts, a summarise and an explain by their steps, on a store over a disk in memory: machines.py. No part of the gate.
 
-Builds a small program over brin_insert, brin_summarise and brin_scan in a copy of the crates by LLVM at -O2, and runs it five times. The
+Builds a small program over brin_insert, summarise_core and bitmap_scan in a copy of the crates by LLVM at -O2, and runs it five times. The
 program isn't proved, so it has the checks of `rt try` in it, and a proved one is somewhat faster. The table has two int8 columns, and
 its one index a minmax of the first. Tells the best time of an insert into a range without a summary, of one into a summarised range
 whose summary has the value already, and of one that widens it; of each page and each row that a summarise goes over; and of an explain
@@ -21,8 +21,8 @@ BLOCKS = 4000
 ROWS_A_PAGE = 100
 ROWS = BLOCKS * ROWS_A_PAGE
 NEEDED = (
-    "machine_bench: block_model store_layout disk_trait page_locks store_format logged_pages"
-    " summary_queue brin_insert brin_summarise brin_scan\n"
+    "machine_bench: block_model store_layout disk_trait page_locks store_format page_store"
+    " brin_insert summarise_core bitmap_scan\n"
 )
 PARTS = {
     "an insert into a range without a summary": ROWS,
@@ -40,17 +40,17 @@ use block_model::{
     Class, Column, Cond, Conds, Index, Kind, Name, Op, Part, Query, Row, RowId, Schema, Sequence, Sizes, Table, Value, Values,
 };
 use brin_insert::Insert;
-use brin_scan::Explain;
-use brin_summarise::{Summarise, Wish};
+use bitmap_scan::Explain;
+use summarise_core::{Summarise, Wish};
 use disk_trait::SteadyDisk;
-use logged_pages::PageStore;
+use page_store::PageStore;
 use page_locks::{Did, Locks, Rights};
 use std::alloc::Global;
 use std::io;
 use std::time::Instant;
 use store_format::format;
 use store_layout::Layout;
-use summary_queue::Queue;
+use brin_insert::Queue;
 
 const BLOCKS: u64 = 4000;
 

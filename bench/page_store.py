@@ -1,7 +1,7 @@
 #!/usr/bin/env python3
 """Times the store of pages over log and pool: page_store.py [FOLDER]. No part of the gate.
 
-Builds a small program over logged_pages in a copy of the crates by LLVM at -O2, and runs it five times. The program isn't proved, so
+Builds a small program over page_store in a copy of the crates by LLVM at -O2, and runs it five times. The program isn't proved, so
 it has the checks of `rt try` in it, and a proved one is somewhat faster. Tells the best time of a change of one of 64 pages of
 statuses over a disk in memory, with its flushes and checkpoints; of one change and its flush over a file in the folder (a folder for
 temporary files, if none is named), beside the same four calls on the file alone: two writes and two syncs; of a checkpoint of 64 dirty
@@ -19,7 +19,7 @@ from unproved import KIT, TRY, toolchain
 TOP = os.path.dirname(os.path.dirname(os.path.abspath(__file__)))
 CHANGES = 2_088_960
 FLUSHES = 1_000
-NEEDED = "store_bench: block_model store_layout disk_trait wal_record store_format logged_pages\n"
+NEEDED = "store_bench: block_model store_layout disk_trait wal_record store_format page_store\n"
 CALLS = {
     "a change over log and pool": CHANGES,
     "two writes and two syncs of a file": FLUSHES,
@@ -33,7 +33,7 @@ MAIN = """//! Times changes, flushes, a checkpoint and an opening.
 
 use block_model::{Column, Kind, Name, Place, Schema, Sequence, Sizes, Table};
 use disk_trait::{Disk, FileDisk, SteadyDisk};
-use logged_pages::PageStore;
+use page_store::PageStore;
 use std::alloc::Global;
 use std::fs::OpenOptions;
 use std::io;

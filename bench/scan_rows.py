@@ -1,7 +1,7 @@
 #!/usr/bin/env python3
 """Times selects on a store over a disk in memory, all of whose pages have frames: scan_rows.py. No part of the gate.
 
-Builds a small program over brin_scan in a copy of the crates by LLVM at -O2, which takes each select fifty times. The program isn't
+Builds a small program over bitmap_scan in a copy of the crates by LLVM at -O2, which takes each select fifty times. The program isn't
 proved, so it has the checks of `rt try` in it, and a proved one is somewhat faster. Tells the best time for a row of a select that finds
 all rows, where one transaction put them, so that a status is read once, and where two put them by turns, so that one is read for each row;
 and of a select that finds none.
@@ -17,7 +17,7 @@ from unproved import KIT, TRY, toolchain
 
 TOP = os.path.dirname(os.path.dirname(os.path.abspath(__file__)))
 ROWS = 5_440
-NEEDED = "scan_bench: block_model store_layout snapshot_core disk_trait page_locks store_format logged_pages heap_rows tx_table brin_scan\n"
+NEEDED = "scan_bench: block_model store_layout snapshot_core disk_trait page_locks store_format page_store heap_rows tx_table bitmap_scan\n"
 CALLS = ["a row of one transaction", "a row of two by turns", "a row that isn't found"]
 
 MAIN = """//! Times selects.
@@ -26,10 +26,10 @@ MAIN = """//! Times selects.
 use block_model::{
     Column, Cond, Conds, Kind, Name, Op, Query, RowId, Schema, Sequence, Sizes, Table, Value,
 };
-use brin_scan::Scan;
+use bitmap_scan::Scan;
 use disk_trait::SteadyDisk;
 use heap_rows::put;
-use logged_pages::PageStore;
+use page_store::PageStore;
 use page_locks::Did;
 use snapshot_core::Snapshot;
 use std::alloc::Global;

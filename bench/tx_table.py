@@ -18,7 +18,7 @@ from unproved import KIT, TRY, toolchain
 TOP = os.path.dirname(os.path.dirname(os.path.abspath(__file__)))
 NUMBERS = 2_088_960
 BEGUN = 1_920_000
-NEEDED = "tx_bench: block_model store_layout snapshot_core disk_trait store_format logged_pages tx_table\n"
+NEEDED = "tx_bench: block_model store_layout snapshot_core disk_trait store_format page_store tx_table\n"
 CALLS = {
     "a number at the opening": NUMBERS,
     "a begin": BEGUN,
@@ -33,7 +33,7 @@ MAIN = """//! Times an opening and the reads of statuses.
 
 use block_model::{Column, Kind, Name, Schema, Sequence, Sizes, Table};
 use disk_trait::SteadyDisk;
-use logged_pages::PageStore;
+use page_store::PageStore;
 use snapshot_core::Status;
 use std::alloc::Global;
 use std::io;

@@ -2,7 +2,7 @@
 
 use block_model::{PAGE_SIZE, Words};
 use brin_app::{DISK_FAULT, MEMORY, wanted_size};
-use command_words::{Command, CommandFault, read_command};
+use command_line::{Command, CommandFault, read_command};
 use disk_trait::FileDisk;
 use std::fs::{File, OpenOptions};
 use std::io;

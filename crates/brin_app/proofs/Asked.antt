@@ -6,16 +6,16 @@ use Rattle.store_layout.specs.DiskLayout.{DiskLayout}
 use Rattle.store_layout.specs.FirstBrokenRule.{first_broken_rule}
 use Rattle.block_model.specs.declared.schema.Schema.{Schema}
 use Rattle.block_model.specs.declared.schema.Sizes.{Sizes}
-use Rattle.schema_words.specs.DeclaredSchema.{Denotes}
-use Rattle.command_words.specs.declared.command.Command.{Command}
-use Rattle.command_words.specs.declared.command.Command.TheVariants as commands
-use Rattle.command_words.specs.declared.command.CommandFault.{CommandFault}
-use Rattle.command_words.specs.declared.command.CommandFault.TheVariants as faults
-use Rattle.command_words.specs.CommandWords.{IsCommand, IsOnlyCommand}
-use Rattle.command_words.specs.Laws.{AreDemoNumbers}
-use Rattle.schema_words.specs.declared.declarations.DeclFault.{DeclFault}
-use Rattle.schema_words.specs.declared.declarations.DeclFault.TheVariants as declarations
-use Rattle.schema_words.specs.FirstFault.{Answers}
+use Rattle.command_line.specs.DeclaredSchema.{Denotes}
+use Rattle.command_line.specs.declared.command.Command.{Command}
+use Rattle.command_line.specs.declared.command.Command.TheVariants as commands
+use Rattle.command_line.specs.declared.command.CommandFault.{CommandFault}
+use Rattle.command_line.specs.declared.command.CommandFault.TheVariants as faults
+use Rattle.command_line.specs.CommandWords.{IsCommand, IsOnlyCommand}
+use Rattle.command_line.specs.Laws.{AreDemoNumbers}
+use Rattle.command_line.specs.declared.declarations.DeclFault.{DeclFault}
+use Rattle.command_line.specs.declared.declarations.DeclFault.TheVariants as declarations
+use Rattle.command_line.specs.FirstFault.{Answers}
 use Rattle.demo_script.specs.DemoStore.{IsDemoLayout, demo_declarations}
 use Rattle.brin_app.specs.declared.top.Task.{Task}
 use Rattle.brin_app.specs.declared.top.Task.TheVariants as tasks

@@ -10,27 +10,27 @@ use Rattle.block_model.specs.TableState.{TableState}
 use Rattle.disk_trait.specs.Told.{Told}
 use Rattle.disk_trait.specs.ThroughoutLaws.{joined, started, weaker}
 use Rattle.store_layout.specs.DiskLayout.{DiskLayout}
-use Rattle.page_store.specs.PageMap.{PageMap, View}
-use Rattle.store_opening.specs.Reaches.{OpensWith}
-use Rattle.logged_pages.specs.Survives.{each_image_has, each_moment_has}
+use Rattle.page_map.specs.PageMap.{PageMap, View}
+use Rattle.recovery.specs.Reaches.{OpensWith}
+use Rattle.page_store.specs.Survives.{each_image_has, each_moment_has}
 use Rattle.tx_table.specs.Durable.{IsBefore}
 use Rattle.transactions.specs.TransactionsState.{TransactionsState}
-use Rattle.line_texts.specs.Place.{Place, database_at}
-use Rattle.stop_laws.specs.FoundLaws.{table_committed}
-use Rattle.stop_laws.specs.StopLaws.{EachImage, EachStop}
-use Rattle.store_parts.specs.declared.faults.Step.{Step}
-use Rattle.store_parts.specs.declared.faults.StoreFault.{StoreFault}
-use Rattle.store_parts.specs.declared.faults.StoreFault.TheVariants as stops
-use Rattle.store_parts.specs.declared.hand.Hand.{Hand}
-use Rattle.store_parts.specs.declared.hand.Hand.TheVariants as hands
-use Rattle.store_parts.specs.ShowsPlace.{ShowsPlace}
-use Rattle.store_parts.specs.StepIs.{StepIs}
-use Rattle.store_parts.specs.StoreStates.{StoreState, shown_of}
-use Rattle.stop_laws.specs.Passes.{PassesNothing}
-use Rattle.store_starts.specs.ImageLaws.{ShownIsImage, StepCommits}
-use Rattle.store_starts.specs.StopRule.{AllHaveTable, HasTableOr, IsImageWith, StopsWhole}
-use Rattle.store_starts.specs.StoreImage.{IsStoreImage}
-use Rattle.store_starts.specs.Stops.{StopsSo}
+use Rattle.script_semantics.specs.Place.{Place, database_at}
+use Rattle.transactions.specs.FoundLaws.{table_committed}
+use Rattle.transactions.specs.StopLaws.{EachImage, EachStop}
+use Rattle.session_parts.specs.declared.faults.Step.{Step}
+use Rattle.session_parts.specs.declared.faults.StoreFault.{StoreFault}
+use Rattle.session_parts.specs.declared.faults.StoreFault.TheVariants as stops
+use Rattle.session_parts.specs.declared.hand.Hand.{Hand}
+use Rattle.session_parts.specs.declared.hand.Hand.TheVariants as hands
+use Rattle.session_parts.specs.ShowsPlace.{ShowsPlace}
+use Rattle.session_parts.specs.StepIs.{StepIs}
+use Rattle.session_parts.specs.StoreStates.{StoreState, shown_of}
+use Rattle.transactions.specs.Passes.{PassesNothing}
+use Rattle.session_core.specs.ImageLaws.{ShownIsImage, StepCommits}
+use Rattle.session_core.specs.StopRule.{AllHaveTable, HasTableOr, IsImageWith, StopsWhole}
+use Rattle.session_core.specs.StoreImage.{IsStoreImage}
+use Rattle.session_core.specs.Stops.{StopsSo}
 use Rattle.brin_app.specs.CrashRule.{HasTableOf, IsFurther, IsOfRun, IsOfStop, StopsAmid, StopsBetween, table_behind}
 
 -- ---- journals

@@ -7,23 +7,23 @@ use Rattle.disk_trait.specs.Told.{Told}
 use Rattle.disk_trait.specs.Throughout.{Throughout}
 use Rattle.disk_trait.specs.ThroughoutLaws.{joined, weaker}
 use Rattle.store_layout.specs.DiskLayout.{DiskLayout}
-use Rattle.page_store.specs.Keeps.{Tells}
-use Rattle.store_opening.specs.Opens.{OpensAs}
-use Rattle.store_opening.specs.StartCauses.{HasStore}
-use Rattle.store_opening.specs.declared.fault.StartFault.{StartFault}
-use Rattle.store_opening.specs.declared.fault.StartFault.TheVariants as starts
-use Rattle.logged_pages.specs.Refused.{IsRefused}
-use Rattle.fresh_store.specs.FreshPages.{fresh_pages}
+use Rattle.page_map.specs.Keeps.{Tells}
+use Rattle.recovery.specs.Opens.{OpensAs}
+use Rattle.recovery.specs.StartCauses.{HasStore}
+use Rattle.recovery.specs.declared.fault.StartFault.{StartFault}
+use Rattle.recovery.specs.declared.fault.StartFault.TheVariants as starts
+use Rattle.page_store.specs.Refused.{IsRefused}
+use Rattle.session_core.specs.FreshPages.{fresh_pages}
 use Rattle.script_run.specs.declared.engine.AnswerFault.TheVariants.{Memory, Full, Disk, Damaged}
 use Rattle.script_run.specs.declared.fault.RunFault.TheVariants as faults
 use Rattle.script_run.specs.Runs.{RunEnd}
-use Rattle.line_texts.specs.Place.{Place, database_at}
-use Rattle.line_texts.specs.Starts.{IsStart}
-use Rattle.store_parts.specs.ShowsPlace.{ShowsPlace}
-use Rattle.store_parts.specs.StoreStates.{StoreState}
-use Rattle.store_starts.specs.StopRule.{AllHaveTable, IsImageWith}
-use Rattle.store_starts.specs.OpenedParts.{ShowsStart}
-use Rattle.store_starts.specs.Started.{ImagesStay, OpensTable}
+use Rattle.script_semantics.specs.Place.{Place, database_at}
+use Rattle.script_semantics.specs.Starts.{IsStart}
+use Rattle.session_parts.specs.ShowsPlace.{ShowsPlace}
+use Rattle.session_parts.specs.StoreStates.{StoreState}
+use Rattle.session_core.specs.StopRule.{AllHaveTable, IsImageWith}
+use Rattle.session_core.specs.OpenedParts.{ShowsStart}
+use Rattle.session_core.specs.Started.{ImagesStay, OpensTable}
 use Rattle.brin_app.specs.declared.top.Task.TheVariants.{Demo}
 use Rattle.brin_app.specs.CrashRule.{IsOfStop}
 use Rattle.brin_app.specs.DemoOutput.{DemoFillsJournal, DemoWrites, IsDemoOutput, IsDemoRun, IsFreshDemo, IsLeftOff}

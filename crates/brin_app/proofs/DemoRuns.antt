@@ -4,7 +4,7 @@ use Rattle.std.specs.Io.KnownBytes.{Appends}
 use Rattle.disk_trait.specs.Told.{Told}
 use Rattle.io_traits.specs.Written.{AppendsPart}
 use Rattle.store_layout.specs.DiskLayout.{DiskLayout}
-use Rattle.page_store.specs.Keeps.{Tells}
+use Rattle.page_map.specs.Keeps.{Tells}
 use Rattle.script_run.specs.declared.engine.AnswerFault.{AnswerFault}
 use Rattle.script_run.specs.declared.engine.AnswerFault.TheVariants.{Memory, Full, Disk, Damaged}
 use Rattle.script_run.specs.declared.fault.RunFault.TheVariants as faults
@@ -13,11 +13,11 @@ use Rattle.demo_script.specs.declared.counts.Counts.{Counts}
 use Rattle.demo_script.specs.Conversation.{Said}
 use Rattle.demo_script.specs.Played.{AreSaid, HasPlayed, HasStopped}
 use Rattle.demo_script.specs.Summary.{summary_text}
-use Rattle.line_texts.specs.Place.{Place}
-use Rattle.line_texts.specs.Stops.{IsLineStopped}
-use Rattle.store_starts.specs.StopRule.{AllHaveTable}
-use Rattle.store_parts.specs.ShowsPlace.{ShowsPlace}
-use Rattle.store_parts.specs.StoreStates.{StoreState}
+use Rattle.script_semantics.specs.Place.{Place}
+use Rattle.script_semantics.specs.Stops.{IsLineStopped}
+use Rattle.session_core.specs.StopRule.{AllHaveTable}
+use Rattle.session_parts.specs.ShowsPlace.{ShowsPlace}
+use Rattle.session_parts.specs.StoreStates.{StoreState}
 use Rattle.brin_app.specs.declared.sessions.Sessions.{Sessions}
 use Rattle.brin_app.specs.Asking.{AsksLine, IsLineAnswered}
 use Rattle.brin_app.specs.DemoOutput.{DemoWrites, IsDemoRun, summary_at}

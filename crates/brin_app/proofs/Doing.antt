@@ -7,30 +7,30 @@ use Rattle.block_model.specs.SerialRun.{serial_run}
 use Rattle.block_model.specs.TableState.{TableState}
 use Rattle.block_model.specs.declared.limits.TheConstants.{PAGE_SIZE}
 use Rattle.block_model.specs.declared.request.Entry.{Entry}
-use Rattle.control_page.specs.ControlPage.{HasControl}
+use Rattle.store_format.specs.ControlPage.{HasControl}
 use Rattle.disk_trait.specs.Told.{Told}
 use Rattle.disk_trait.specs.Throughout.{Throughout}
 use Rattle.disk_trait.specs.ThroughoutLaws.{joined, started, weaker}
 use Rattle.store_layout.specs.DiskLayout.{DiskLayout}
-use Rattle.page_store.specs.Keeps.{Tells}
-use Rattle.page_store.specs.PageMap.{PageMap}
-use Rattle.store_opening.specs.Damaged.{IsDamaged}
-use Rattle.store_opening.specs.Opens.{Opens, OpensAs}
-use Rattle.store_opening.specs.PageOrder.{AreInOrder}
-use Rattle.store_opening.specs.StartCauses.{HasStore, IsDamagedStore}
-use Rattle.store_opening.specs.Untouched.{IsUntouched}
-use Rattle.store_opening.specs.declared.fault.StartFault.{StartFault}
-use Rattle.store_opening.specs.declared.fault.StartFault.TheVariants as starts
-use Rattle.logged_pages.specs.Refused.{IsRefused}
-use Rattle.fresh_store.specs.FreshPages.{IsOldOrFresh, fresh_pages}
-use Rattle.line_texts.specs.Place.{Place, database_at}
-use Rattle.line_texts.specs.Starts.{IsOpening, IsStart}
-use Rattle.store_parts.specs.ShowsPlace.{ShowsPlace}
-use Rattle.store_parts.specs.StoreStates.{StoreState, shown_of}
-use Rattle.store_starts.specs.StopRule.{AllHaveTable, IsImageWith}
-use Rattle.store_starts.specs.StoreImage.{IsStoreImage, IsTableOn, database_with}
-use Rattle.store_starts.specs.OpenedParts.{ShowsStart}
-use Rattle.store_starts.specs.Started.{HoldsImage, ImagesStay, OpensTable}
+use Rattle.page_map.specs.Keeps.{Tells}
+use Rattle.page_map.specs.PageMap.{PageMap}
+use Rattle.recovery.specs.Damaged.{IsDamaged}
+use Rattle.recovery.specs.Opens.{Opens, OpensAs}
+use Rattle.recovery.specs.PageOrder.{AreInOrder}
+use Rattle.recovery.specs.StartCauses.{HasStore, IsDamagedStore}
+use Rattle.recovery.specs.Untouched.{IsUntouched}
+use Rattle.recovery.specs.declared.fault.StartFault.{StartFault}
+use Rattle.recovery.specs.declared.fault.StartFault.TheVariants as starts
+use Rattle.page_store.specs.Refused.{IsRefused}
+use Rattle.session_core.specs.FreshPages.{IsOldOrFresh, fresh_pages}
+use Rattle.script_semantics.specs.Place.{Place, database_at}
+use Rattle.script_semantics.specs.Starts.{IsOpening, IsStart}
+use Rattle.session_parts.specs.ShowsPlace.{ShowsPlace}
+use Rattle.session_parts.specs.StoreStates.{StoreState, shown_of}
+use Rattle.session_core.specs.StopRule.{AllHaveTable, IsImageWith}
+use Rattle.session_core.specs.StoreImage.{IsStoreImage, IsTableOn, database_with}
+use Rattle.session_core.specs.OpenedParts.{ShowsStart}
+use Rattle.session_core.specs.Started.{HoldsImage, ImagesStay, OpensTable}
 use Rattle.brin_app.specs.declared.top.Task.{Task}
 use Rattle.brin_app.specs.declared.top.Task.TheVariants.{Demo, Init, Run, RunStored}
 use Rattle.brin_app.specs.CrashRule.{IsOfStop}

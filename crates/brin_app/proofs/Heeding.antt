@@ -14,13 +14,13 @@ use Rattle.query_words.specs.Lines.{ReadsAs, line_of}
 use Rattle.script_run.specs.declared.engine.AnswerFault.{AnswerFault}
 use Rattle.demo_script.specs.declared.answer.Answer.{Answer}
 use Rattle.demo_script.specs.declared.answer.Answer.TheVariants as answers
-use Rattle.statements.specs.SessionNumbers.{is_past_sessions, session_number}
-use Rattle.line_texts.specs.LineTexts.{IsNotRead, SaysNothing, dropped_at, fault_text, named, refused_text}
-use Rattle.line_texts.specs.Place.{Place}
+use Rattle.store_layout.specs.SessionNumbers.{is_past_sessions, session_number}
+use Rattle.script_semantics.specs.LineTexts.{IsNotRead, SaysNothing, dropped_at, fault_text, named, refused_text}
+use Rattle.script_semantics.specs.Place.{Place}
 use Rattle.session_core.specs.declared.faults.SessionFault.{SessionFault}
 use Rattle.session_core.specs.declared.faults.SessionFault.TheVariants as sessions
 use Rattle.session_core.specs.Sessions.{HasSession}
-use Rattle.store_parts.specs.StoreStates.{StoreState}
+use Rattle.session_parts.specs.StoreStates.{StoreState}
 use Rattle.brin_app.specs.Asking.{IsAnswered, IsLineAnswered}
 use Rattle.brin_app.specs.Leading.{PlacesLead, PlacesStop}
 use Rattle.brin_app.specs.Orders.{DoesSo, IsCutShort, IsStoppedSaying, answer_text}

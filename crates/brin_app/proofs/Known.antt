@@ -1,7 +1,7 @@
 -- which statuses are known
 use Rattle.std.proofs.Common.{◌≡◌, ℕ, Ok, Err, sym, subst, arith}
-use Rattle.store_opening.specs.declared.fault.StartFault.{StartFault}
-use Rattle.store_opening.specs.declared.fault.StartFault.TheVariants as starts
+use Rattle.recovery.specs.declared.fault.StartFault.{StartFault}
+use Rattle.recovery.specs.declared.fault.StartFault.TheVariants as starts
 use Rattle.script_run.specs.declared.engine.AnswerFault.TheVariants.{Memory, Full, Disk, Damaged}
 use Rattle.script_run.specs.declared.fault.RunFault.TheVariants as faults
 use Rattle.script_run.specs.Runs.{RunEnd}

@@ -3,14 +3,14 @@ use Rattle.std.proofs.Common.{◌≡◌, refl, sym, ap, ◌∙◌, subst, None, 
 use Rattle.std.specs.Prelude.{IfErr, IfOk, Result, Ok, Err}
 use Rattle.block_model.specs.Causes.{rose_earlier}
 use Rattle.disk_trait.specs.Told.{Told}
-use Rattle.page_store.specs.Keeps.{Leaves}
-use Rattle.page_store.specs.PageMap.{View}
+use Rattle.page_map.specs.Keeps.{Leaves}
+use Rattle.page_map.specs.PageMap.{View}
 use Rattle.script_run.specs.declared.engine.AnswerFault.{AnswerFault}
 use Rattle.script_run.specs.declared.engine.AnswerFault.TheVariants.{Memory, Full, Disk, Damaged}
-use Rattle.line_texts.specs.Place.{Place}
-use Rattle.store_parts.specs.ShowsPlace.{ShowsPlace}
-use Rattle.store_parts.specs.StepIs.{LeadsOn}
-use Rattle.store_parts.specs.StoreStates.{StoreState}
+use Rattle.script_semantics.specs.Place.{Place}
+use Rattle.session_parts.specs.ShowsPlace.{ShowsPlace}
+use Rattle.session_parts.specs.StepIs.{LeadsOn}
+use Rattle.session_parts.specs.StoreStates.{StoreState}
 use Rattle.brin_app.specs.CrashRule.{IsFurther, StopsBetween}
 use Rattle.brin_app.specs.Leading.{HasStopCause, IsLeftBy, PlacesLead, PlacesStop}
 use Rattle.brin_app.proofs.Crash.{KeepsJournal, OnlyNow, amid_then, between_kept, between_then, further_on, kept_further, still}

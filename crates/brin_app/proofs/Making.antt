@@ -4,13 +4,13 @@ use Rattle.disk_trait.specs.Told.{Told}
 use Rattle.disk_trait.specs.Throughout.{Throughout}
 use Rattle.disk_trait.specs.ThroughoutLaws.{weaker}
 use Rattle.store_layout.specs.DiskLayout.{DiskLayout, disk_size}
-use Rattle.store_opening.specs.Opens.{OpensAs}
+use Rattle.recovery.specs.Opens.{OpensAs}
 use Rattle.store_format.specs.declared.fault.FormatFault.{FormatFault}
 use Rattle.store_format.specs.declared.fault.FormatFault.TheVariants as formats
 use Rattle.store_format.specs.FormatAnswers.{FormatAnswers}
 use Rattle.store_format.specs.FreshStore.{IsOldOrNew}
-use Rattle.fresh_store.specs.FreshPages.{IsOldOrFresh, fresh_pages}
-use Rattle.store_starts.specs.ImageLaws.{NewIsImage}
+use Rattle.session_core.specs.FreshPages.{IsOldOrFresh, fresh_pages}
+use Rattle.session_core.specs.ImageLaws.{NewIsImage}
 use Rattle.brin_app.specs.ScriptOutput.{HoldsFresh, IsOldOrEmpty}
 use Rattle.brin_app.specs.Statuses.{IsUnfit, format_status}
 

@@ -8,7 +8,7 @@ use Rattle.script_run.specs.declared.fault.RunFault.TheVariants as faults
 use Rattle.script_run.specs.Answers.{AreAnswers}
 use Rattle.script_run.specs.Runs.{RunEnd, Stopped}
 use Rattle.store_layout.specs.DiskLayout.{DiskLayout}
-use Rattle.line_texts.specs.Place.{Place}
+use Rattle.script_semantics.specs.Place.{Place}
 use Rattle.brin_app.specs.declared.status.TheConstants.{SCRIPT_LIMIT}
 use Rattle.brin_app.specs.ScriptOutput.{IsScriptRun, Stops, Texts, exit_status}
 use Rattle.brin_app.specs.StatusCauses.{FillsJournal, FitsLimit, HasSpentCauses, IsComplete, JournalWasFull}

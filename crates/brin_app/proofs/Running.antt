@@ -4,19 +4,19 @@ use Rattle.disk_trait.specs.Told.{Told}
 use Rattle.disk_trait.specs.Throughout.{Throughout}
 use Rattle.disk_trait.specs.ThroughoutLaws.{weaker}
 use Rattle.store_layout.specs.DiskLayout.{DiskLayout}
-use Rattle.page_store.specs.Keeps.{Leaves, Tells}
+use Rattle.page_map.specs.Keeps.{Leaves, Tells}
 use Rattle.script_run.specs.declared.engine.AnswerFault.{AnswerFault}
 use Rattle.script_run.specs.declared.engine.AnswerFault.TheVariants.{Memory, Full, Disk, Damaged}
 use Rattle.script_run.specs.declared.fault.RunFault.TheVariants as faults
 use Rattle.script_run.specs.Answers.{AreAnswers}
 use Rattle.script_run.specs.Runs.{Ran, RunEnd}
-use Rattle.line_texts.specs.LineTexts.{IsLineText}
-use Rattle.line_texts.specs.Place.{Place}
-use Rattle.line_texts.specs.Stops.{IsLineStopped}
-use Rattle.stop_laws.specs.StopLaws.{EachImage}
-use Rattle.store_starts.specs.StopRule.{AllHaveTable}
-use Rattle.store_parts.specs.ShowsPlace.{ShowsPlace}
-use Rattle.store_parts.specs.StoreStates.{StoreState}
+use Rattle.script_semantics.specs.LineTexts.{IsLineText}
+use Rattle.script_semantics.specs.Place.{Place}
+use Rattle.script_semantics.specs.Stops.{IsLineStopped}
+use Rattle.transactions.specs.StopLaws.{EachImage}
+use Rattle.session_core.specs.StopRule.{AllHaveTable}
+use Rattle.session_parts.specs.ShowsPlace.{ShowsPlace}
+use Rattle.session_parts.specs.StoreStates.{StoreState}
 use Rattle.brin_app.specs.declared.sessions.Sessions.{Sessions}
 use Rattle.brin_app.specs.declared.status.TheConstants.{SCRIPT_LIMIT}
 use Rattle.brin_app.specs.CrashRule.{HasTableOf, IsFurther, IsOfStop, StopsBetween}

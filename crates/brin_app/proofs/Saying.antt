@@ -13,13 +13,13 @@ use Rattle.reply_texts.specs.declared.dropped.Dropped.{Dropped}
 use Rattle.script_run.specs.declared.engine.AnswerFault.{AnswerFault}
 use Rattle.script_run.specs.declared.engine.AnswerFault.TheVariants.{Memory, Full, Disk, Damaged}
 use Rattle.block_model.specs.declared.schema.Schema.{Schema}
-use Rattle.statements.specs.declared.limits.TheConstants.{MAX_SESSIONS}
-use Rattle.statements.specs.SessionNumbers.{session_number, is_past_sessions}
-use Rattle.line_texts.specs.LineTexts.{Answers, Does, IsLineText, IsNotRead, Orders, PastSessions, dropped_at, fault_text, named, refused_text}
-use Rattle.line_texts.specs.Place.{Place}
-use Rattle.line_texts.specs.StatementSteps.{LacksRoom}
-use Rattle.line_texts.specs.Stops.{Amidst, Begun, ComesTo, IsLineStopped, LineComesTo, OffDisk, PastRoom, Undone, Unprinted}
-use Rattle.store_parts.specs.StoreStates.{StoreState}
+use Rattle.store_layout.specs.declared.limits.TheConstants.{MAX_SESSIONS}
+use Rattle.store_layout.specs.SessionNumbers.{session_number, is_past_sessions}
+use Rattle.script_semantics.specs.LineTexts.{Answers, Does, IsLineText, IsNotRead, Orders, PastSessions, dropped_at, fault_text, named, refused_text}
+use Rattle.script_semantics.specs.Place.{Place}
+use Rattle.script_semantics.specs.StatementSteps.{LacksRoom}
+use Rattle.script_semantics.specs.Stops.{Amidst, Begun, ComesTo, IsLineStopped, LineComesTo, OffDisk, PastRoom, Undone, Unprinted}
+use Rattle.session_parts.specs.StoreStates.{StoreState}
 use Rattle.session_core.specs.declared.faults.SessionFault.{SessionFault}
 use Rattle.session_core.specs.declared.faults.SessionFault.TheVariants as sessions
 use Rattle.session_core.specs.Sessions.{HasSession}

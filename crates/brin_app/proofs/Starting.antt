@@ -12,13 +12,13 @@ use Rattle.store_layout.specs.FirstBrokenRule.{KeepsLimits, first_broken_rule}
 use Rattle.store_layout.proofs.FirstBroken.{has_bounded_sizes, keeps_limits}
 use Rattle.coverage.specs.IndexView.{Mapping, PageKind, Unstarted}
 use Rattle.coverage.specs.Statements.{AreLawful}
-use Rattle.table_coverage.specs.Accounts.{no_account}
-use Rattle.table_coverage.specs.Table.{Index, Resting, TableState}
-use Rattle.table_coverage.specs.TableCovered.{IsNewTable}
+use Rattle.coverage.specs.Accounts.{no_account}
+use Rattle.coverage.specs.Table.{Index, Resting, TableState}
+use Rattle.coverage.specs.TableCovered.{IsNewTable}
 use Rattle.index_steps.specs.IndexTuples.{contents_of, index_at, no_index, shape_of}
 use Rattle.index_steps.specs.ShownTable.{indexes_of}
-use Rattle.line_texts.specs.Place.{Place}
-use Rattle.line_texts.specs.Starts.{IsDeclared, IsLaidOut, IsStart}
+use Rattle.script_semantics.specs.Place.{Place}
+use Rattle.script_semantics.specs.Starts.{IsDeclared, IsLaidOut, IsStart}
 
 -- block 0 and one map page
 first_pages : ℕ → PageKind

@@ -5,33 +5,33 @@ use Rattle.std.specs.Option.{is_some}
 use Rattle.std.proofs.lemmas.Bool.{false≢true}
 use Rattle.std.proofs.lemmas.Option.{none-some}
 use Rattle.disk_trait.specs.Told.{Told}
-use Rattle.page_store.specs.Keeps.{Leaves, Tells}
+use Rattle.page_map.specs.Keeps.{Leaves, Tells}
 use Rattle.block_model.specs.declared.reply.Point.{Point}
 use Rattle.block_model.specs.declared.reply.Refusal.{Refusal}
 use Rattle.block_model.specs.declared.reply.Refusal.TheVariants as refusals
-use Rattle.statements.specs.declared.statement.Statement.{Statement}
+use Rattle.store_layout.specs.declared.statement.Statement.{Statement}
 use Rattle.query_words.specs.declared.line.Order.TheVariants as orders
 use Rattle.script_run.specs.declared.engine.AnswerFault.{AnswerFault}
 use Rattle.script_run.specs.declared.engine.AnswerFault.TheVariants.{Memory, Full, Disk, Damaged}
-use Rattle.table_coverage.specs.Accounts.{Account}
-use Rattle.line_texts.specs.LineTexts.{NotTaken, Taken, WantsMemory, named, Finishes, LastStep, Further, Starts, RefusesStart, StepsOnce, IsFinished, NoStep, NoFinish, Plain, RefusesPlain, Submits}
-use Rattle.line_texts.specs.Place.{Hand as HandAt, Place}
-use Rattle.line_texts.specs.Laws.{EntersItsOwn}
-use Rattle.line_texts.specs.StatementSteps.{Outcome, Moved, Ended, Waits, Steps, StepsTo, GoesOn, Replies, MeetsConflict, IsRefused, AtOnce, NothingAsked, LacksMemoryAtOnce, NoNumber, IsWaiting}
-use Rattle.line_texts.specs.Stops.{ComesTo, OfStep, OfFinish, OfPlain, MovedTo, Still, OnTo}
-use Rattle.store_parts.specs.declared.faults.Step.{Step}
-use Rattle.store_parts.specs.declared.faults.Step.TheVariants as steps
-use Rattle.store_parts.specs.declared.faults.StoreFault.{StoreFault}
-use Rattle.store_parts.specs.declared.faults.StoreFault.TheVariants as stops
-use Rattle.store_parts.specs.declared.hand.Hand.{Hand}
-use Rattle.store_parts.specs.Hands.{HandShows}
-use Rattle.store_parts.specs.ShowsPlace.{ShowsPlace}
-use Rattle.store_parts.specs.StepAnswers.{HasFaultCause, StaysReady}
-use Rattle.store_parts.specs.StepIs.{LeadsOn, StepIs}
-use Rattle.store_starts.specs.ImageLaws.{ShownIsImage, StepCommits}
-use Rattle.store_starts.specs.StopRule.{AllHaveTable, StopsWhole}
-use Rattle.store_starts.specs.Stops.{StopsSo}
-use Rattle.store_parts.specs.StoreStates.{StoreState, hand_at}
+use Rattle.coverage.specs.Accounts.{Account}
+use Rattle.script_semantics.specs.LineTexts.{NotTaken, Taken, WantsMemory, named, Finishes, LastStep, Further, Starts, RefusesStart, StepsOnce, IsFinished, NoStep, NoFinish, Plain, RefusesPlain, Submits}
+use Rattle.script_semantics.specs.Place.{Hand as HandAt, Place}
+use Rattle.script_semantics.specs.Laws.{EntersItsOwn}
+use Rattle.script_semantics.specs.StatementSteps.{Outcome, Moved, Ended, Waits, Steps, StepsTo, GoesOn, Replies, MeetsConflict, IsRefused, AtOnce, NothingAsked, LacksMemoryAtOnce, NoNumber, IsWaiting}
+use Rattle.script_semantics.specs.Stops.{ComesTo, OfStep, OfFinish, OfPlain, MovedTo, Still, OnTo}
+use Rattle.session_parts.specs.declared.faults.Step.{Step}
+use Rattle.session_parts.specs.declared.faults.Step.TheVariants as steps
+use Rattle.session_parts.specs.declared.faults.StoreFault.{StoreFault}
+use Rattle.session_parts.specs.declared.faults.StoreFault.TheVariants as stops
+use Rattle.session_parts.specs.declared.hand.Hand.{Hand}
+use Rattle.session_parts.specs.Hands.{HandShows}
+use Rattle.session_parts.specs.ShowsPlace.{ShowsPlace}
+use Rattle.session_parts.specs.StepAnswers.{HasFaultCause, StaysReady}
+use Rattle.session_parts.specs.StepIs.{LeadsOn, StepIs}
+use Rattle.session_core.specs.ImageLaws.{ShownIsImage, StepCommits}
+use Rattle.session_core.specs.StopRule.{AllHaveTable, StopsWhole}
+use Rattle.session_core.specs.Stops.{StopsSo}
+use Rattle.session_parts.specs.StoreStates.{StoreState, hand_at}
 use Rattle.demo_script.specs.declared.answer.Answer.{Answer}
 use Rattle.demo_script.specs.declared.answer.Answer.TheVariants as answers
 use Rattle.brin_app.specs.CrashRule.{IsFurther}

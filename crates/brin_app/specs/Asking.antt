@@ -11,8 +11,8 @@ use Rattle.query_words.specs.LineRefusals.{refusal_of}
 use Rattle.reply_texts.specs.declared.dropped.Dropped.{Dropped}
 use Rattle.demo_script.specs.declared.answer.Answer.{Answer}
 use Rattle.demo_script.specs.declared.answer.Answer.TheVariants as answers
-use Rattle.line_texts.specs.LineTexts.{Answers}
-use Rattle.line_texts.specs.Place.{Place}
+use Rattle.script_semantics.specs.LineTexts.{Answers}
+use Rattle.script_semantics.specs.Place.{Place}
 use Rattle.brin_app.specs.declared.sessions.Sessions.{Sessions}
 use Rattle.brin_app.specs.Leading.{PlacesLead}
 use Rattle.brin_app.specs.Orders.{answer_text}

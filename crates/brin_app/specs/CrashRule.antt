@@ -4,12 +4,12 @@ use Rattle.block_model.specs.declared.request.Entry.{Entry}
 use Rattle.block_model.specs.SerialRun.{serial_run}
 use Rattle.block_model.specs.TableState.{TableState}
 use Rattle.disk_trait.specs.Told.{Told}
-use Rattle.line_texts.specs.Place.{Place, database_at}
-use Rattle.stop_laws.specs.FoundLaws.{table_committed}
-use Rattle.stop_laws.specs.StopLaws.{EachImage, EachStop}
-use Rattle.store_starts.specs.ImageLaws.{IsCommitting}
-use Rattle.store_starts.specs.StopRule.{AllHaveTable, IsImageWith}
-use Rattle.store_parts.specs.StoreStates.{StoreState}
+use Rattle.script_semantics.specs.Place.{Place, database_at}
+use Rattle.transactions.specs.FoundLaws.{table_committed}
+use Rattle.transactions.specs.StopLaws.{EachImage, EachStop}
+use Rattle.session_core.specs.ImageLaws.{IsCommitting}
+use Rattle.session_core.specs.StopRule.{AllHaveTable, IsImageWith}
+use Rattle.session_parts.specs.StoreStates.{StoreState}
 
 -- the table behind the first requests of a place's journal, as many as that
 abbrev pub table_behind : Place → ℕ → TableState

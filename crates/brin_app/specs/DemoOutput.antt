@@ -12,8 +12,8 @@ use Rattle.script_run.specs.Runs.{RunEnd}
 use Rattle.demo_script.specs.declared.counts.Counts.{Counts}
 use Rattle.demo_script.specs.Played.{HasPlayed, HasStopped}
 use Rattle.demo_script.specs.Summary.{summary_text}
-use Rattle.line_texts.specs.Place.{Place, database_at}
-use Rattle.line_texts.specs.Starts.{IsStart}
+use Rattle.script_semantics.specs.Place.{Place, database_at}
+use Rattle.script_semantics.specs.Starts.{IsStart}
 use Rattle.brin_app.specs.Asking.{IsLineAnswered}
 use Rattle.brin_app.specs.CrashRule.{HasTableOf, IsFurther}
 use Rattle.brin_app.specs.ScriptOutput.{EachImageHas, IsUnmade, IsUnopened, Stops, StopsOfNewRun, StopsOfRun, exit_status}

@@ -5,16 +5,16 @@ use Rattle.block_model.specs.Causes.{Rose}
 use Rattle.disk_trait.specs.Told.{Told}
 use Rattle.io_traits.specs.Written.{AppendsPart}
 use Rattle.store_layout.specs.DiskLayout.{DiskLayout}
-use Rattle.store_opening.specs.StartCauses.{HasNoStore, IsDamagedStore}
-use Rattle.page_store.specs.Keeps.{Tells}
+use Rattle.recovery.specs.StartCauses.{HasNoStore, IsDamagedStore}
+use Rattle.page_map.specs.Keeps.{Tells}
 use Rattle.script_run.specs.declared.engine.AnswerFault.TheVariants.{Memory}
 use Rattle.script_run.specs.declared.fault.RunFault.TheVariants as faults
 use Rattle.script_run.specs.Runs.{RunEnd}
 use Rattle.demo_script.specs.declared.counts.Counts.{Counts}
 use Rattle.demo_script.specs.Played.{HasPlayed, HasStopped}
 use Rattle.demo_script.specs.Summary.{summary_text}
-use Rattle.line_texts.specs.Place.{Place}
-use Rattle.store_parts.specs.ShowsPlace.{ShowsPlace}
+use Rattle.script_semantics.specs.Place.{Place}
+use Rattle.session_parts.specs.ShowsPlace.{ShowsPlace}
 use Rattle.brin_app.specs.declared.sessions.Sessions.{Sessions}
 use Rattle.brin_app.specs.Asking.{AsksLine}
 use Rattle.brin_app.specs.DemoOutput.{IsFreshDemo}

@@ -2,12 +2,12 @@
 use Rattle.std.specs.Prelude.{◌≡◌, None}
 use Rattle.block_model.specs.Causes.{Rose}
 use Rattle.disk_trait.specs.Told.{Told}
-use Rattle.page_store.specs.Keeps.{Leaves, Tells}
+use Rattle.page_map.specs.Keeps.{Leaves, Tells}
 use Rattle.script_run.specs.declared.engine.AnswerFault.{AnswerFault}
 use Rattle.script_run.specs.declared.engine.AnswerFault.TheVariants.{Memory, Full, Disk, Damaged}
-use Rattle.line_texts.specs.Place.{Place}
-use Rattle.store_parts.specs.ShowsPlace.{ShowsPlace}
-use Rattle.store_parts.specs.StoreStates.{StoreState}
+use Rattle.script_semantics.specs.Place.{Place}
+use Rattle.session_parts.specs.ShowsPlace.{ShowsPlace}
+use Rattle.session_parts.specs.StoreStates.{StoreState}
 use Rattle.brin_app.specs.CrashRule.{IsFurther, StopsAmid, StopsBetween}
 
 -- a place that one store shows leads so to a place that the other shows; and by their journals the crash rule holds between the two

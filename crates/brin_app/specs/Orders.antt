@@ -11,14 +11,14 @@ use Rattle.reply_texts.specs.StepTexts.{moved_text, started_text}
 use Rattle.reply_texts.specs.Texts.{reply_text}
 use Rattle.script_run.specs.declared.engine.AnswerFault.{AnswerFault}
 use Rattle.script_run.specs.declared.engine.AnswerFault.TheVariants.{Memory, Full, Disk, Damaged}
-use Rattle.line_texts.specs.LineTexts.{Does, Finishes, dropped_at, refused_text}
-use Rattle.line_texts.specs.Place.{Place}
-use Rattle.line_texts.specs.StatementSteps.{Moved, Ended, Waits, LacksRoom, Steps}
-use Rattle.line_texts.specs.Stops.{ComesTo, IsLineStopped, MovedTo}
-use Rattle.store_parts.specs.declared.faults.Step.{Step}
-use Rattle.store_parts.specs.declared.faults.Step.TheVariants as steps
-use Rattle.store_parts.specs.declared.faults.StoreFault.{StoreFault}
-use Rattle.store_parts.specs.declared.faults.StoreFault.TheVariants as stops
+use Rattle.script_semantics.specs.LineTexts.{Does, Finishes, dropped_at, refused_text}
+use Rattle.script_semantics.specs.Place.{Place}
+use Rattle.script_semantics.specs.StatementSteps.{Moved, Ended, Waits, LacksRoom, Steps}
+use Rattle.script_semantics.specs.Stops.{ComesTo, IsLineStopped, MovedTo}
+use Rattle.session_parts.specs.declared.faults.Step.{Step}
+use Rattle.session_parts.specs.declared.faults.Step.TheVariants as steps
+use Rattle.session_parts.specs.declared.faults.StoreFault.{StoreFault}
+use Rattle.session_parts.specs.declared.faults.StoreFault.TheVariants as stops
 use Rattle.demo_script.specs.declared.answer.Answer.{Answer}
 use Rattle.demo_script.specs.declared.answer.Answer.TheVariants as answers
 

@@ -5,19 +5,19 @@ use Rattle.block_model.specs.TableState.{TableState}
 use Rattle.disk_trait.specs.Told.{Told}
 use Rattle.disk_trait.specs.Throughout.{Throughout}
 use Rattle.store_layout.specs.DiskLayout.{DiskLayout, disk_size}
-use Rattle.page_store.specs.PageMap.{PageMap}
-use Rattle.store_opening.specs.Opens.{OpensAs}
-use Rattle.fresh_store.specs.FreshPages.{IsNoStore, IsOldOrFresh, fresh_pages}
-use Rattle.line_texts.specs.LineTexts.{IsLineText}
-use Rattle.line_texts.specs.Place.{Place, database_at}
-use Rattle.line_texts.specs.Starts.{IsOpening, IsStart}
-use Rattle.line_texts.specs.Stops.{IsLineStopped}
+use Rattle.page_map.specs.PageMap.{PageMap}
+use Rattle.recovery.specs.Opens.{OpensAs}
+use Rattle.session_core.specs.FreshPages.{IsNoStore, IsOldOrFresh, fresh_pages}
+use Rattle.script_semantics.specs.LineTexts.{IsLineText}
+use Rattle.script_semantics.specs.Place.{Place, database_at}
+use Rattle.script_semantics.specs.Starts.{IsOpening, IsStart}
+use Rattle.script_semantics.specs.Stops.{IsLineStopped}
 use Rattle.script_run.specs.declared.engine.AnswerFault.{AnswerFault}
 use Rattle.script_run.specs.declared.engine.AnswerFault.TheVariants.{Memory, Full, Disk, Damaged}
 use Rattle.script_run.specs.declared.fault.RunFault.TheVariants as faults
 use Rattle.script_run.specs.Runs.{Ran, RunEnd}
-use Rattle.store_starts.specs.StopRule.{IsImageWith}
-use Rattle.store_starts.specs.StoreImage.{IsStoreImage, IsTableOn, database_with}
+use Rattle.session_core.specs.StopRule.{IsImageWith}
+use Rattle.session_core.specs.StoreImage.{IsStoreImage, IsTableOn, database_with}
 use Rattle.brin_app.specs.declared.status.TheConstants.{SCRIPT_LIMIT}
 use Rattle.brin_app.specs.CrashRule.{HasTableOf, IsFurther, IsOfStop}
 

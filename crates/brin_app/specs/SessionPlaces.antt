@@ -1,8 +1,8 @@
 -- what the sessions of a script do with a line
 use Rattle.std.specs.Prelude.{ℕ, List}
 use Rattle.disk_trait.specs.Told.{Told}
-use Rattle.line_texts.specs.LineTexts.{IsLineText}
-use Rattle.line_texts.specs.Stops.{IsLineStopped}
+use Rattle.script_semantics.specs.LineTexts.{IsLineText}
+use Rattle.script_semantics.specs.Stops.{IsLineStopped}
 use Rattle.script_run.specs.declared.engine.AnswerFault.{AnswerFault}
 use Rattle.brin_app.specs.declared.sessions.Sessions.{Sessions}
 use Rattle.brin_app.specs.Leading.{PlacesLead, PlacesStop}

@@ -5,10 +5,10 @@ use Rattle.block_model.specs.Causes.{Rose}
 use Rattle.block_model.specs.TableState.{TableState}
 use Rattle.disk_trait.specs.Told.{Told}
 use Rattle.store_layout.specs.DiskLayout.{DiskLayout, disk_size}
-use Rattle.store_opening.specs.StartCauses.{HasNoStore, IsDamagedStore}
-use Rattle.store_opening.specs.Untouched.{IsUntouched}
-use Rattle.line_texts.specs.Place.{Place}
-use Rattle.line_texts.specs.Starts.{IsStart}
+use Rattle.recovery.specs.StartCauses.{HasNoStore, IsDamagedStore}
+use Rattle.recovery.specs.Untouched.{IsUntouched}
+use Rattle.script_semantics.specs.Place.{Place}
+use Rattle.script_semantics.specs.Starts.{IsStart}
 use Rattle.script_run.specs.declared.engine.AnswerFault.TheVariants.{Full}
 use Rattle.script_run.specs.Answers.{AreAnswers}
 use Rattle.script_run.specs.Runs.{AreFirst}

@@ -5,8 +5,8 @@ use Rattle.disk_trait.specs.Told.{Told}
 use Rattle.store_layout.specs.DiskLayout.{DiskLayout, disk_size}
 use Rattle.store_format.specs.declared.fault.FormatFault.{FormatFault}
 use Rattle.store_format.specs.declared.fault.FormatFault.TheVariants as formats
-use Rattle.store_opening.specs.declared.fault.StartFault.{StartFault}
-use Rattle.store_opening.specs.declared.fault.StartFault.TheVariants as starts
+use Rattle.recovery.specs.declared.fault.StartFault.{StartFault}
+use Rattle.recovery.specs.declared.fault.StartFault.TheVariants as starts
 
 -- one of the program's: 0, 2, 4 to 9, and 11
 pub record IsStatus (status : ℕ) : Type 0 where

@@ -4,11 +4,11 @@ use Rattle.block_model.specs.declared.schema.Schema.{Schema}
 use Rattle.block_model.specs.declared.schema.Sizes.{Sizes}
 use Rattle.store_layout.specs.DiskLayout.{DiskLayout}
 use Rattle.store_layout.specs.FirstBrokenRule.{first_broken_rule}
-use Rattle.command_words.specs.declared.command.Command.{Command}
-use Rattle.command_words.specs.declared.command.Command.TheVariants as commands
-use Rattle.command_words.specs.CommandWords.{IsCommand}
-use Rattle.schema_words.specs.DeclaredSchema.{Denotes}
-use Rattle.command_words.specs.Laws.{AreDemoNumbers}
+use Rattle.command_line.specs.declared.command.Command.{Command}
+use Rattle.command_line.specs.declared.command.Command.TheVariants as commands
+use Rattle.command_line.specs.CommandWords.{IsCommand}
+use Rattle.command_line.specs.DeclaredSchema.{Denotes}
+use Rattle.command_line.specs.Laws.{AreDemoNumbers}
 use Rattle.demo_script.specs.DemoStore.{IsDemoLayout}
 use Rattle.brin_app.specs.declared.top.Task.{Task}
 use Rattle.brin_app.specs.declared.top.Task.TheVariants.{Demo, Init, Run, RunStored}

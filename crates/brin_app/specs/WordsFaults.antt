@@ -1,8 +1,8 @@
 -- why words ask for nothing, from why they are no command or no declarations
-use Rattle.command_words.specs.declared.command.CommandFault.{CommandFault}
-use Rattle.command_words.specs.declared.command.CommandFault.TheVariants as commands
-use Rattle.schema_words.specs.declared.declarations.DeclFault.{DeclFault}
-use Rattle.schema_words.specs.declared.declarations.DeclFault.TheVariants as declarations
+use Rattle.command_line.specs.declared.command.CommandFault.{CommandFault}
+use Rattle.command_line.specs.declared.command.CommandFault.TheVariants as commands
+use Rattle.command_line.specs.declared.declarations.DeclFault.{DeclFault}
+use Rattle.command_line.specs.declared.declarations.DeclFault.TheVariants as declarations
 use Rattle.brin_app.specs.declared.top.WordsFault.{WordsFault}
 use Rattle.brin_app.specs.declared.top.WordsFault.TheVariants.{Usage, Memory}
 

@@ -2,7 +2,7 @@
 
 ghost use Rattle.std.specs.Prelude.{◌≡◌, ◌≢◌, ◌<◌, ◌++◌, Ok, IfErr, OnOk, ℕ, List, length};
 ghost use Rattle.query_words.specs.LineFits.{IsLineFor, IsOrderFor};
-ghost use Rattle.line_texts.specs.LineTexts.{Answers, Does, fault_text, refused_text};
+ghost use Rattle.script_semantics.specs.LineTexts.{Answers, Does, fault_text, refused_text};
 ghost use Rattle.brin_app.specs.Leading.{PlacesLead, PlacesStop};
 ghost use Rattle.brin_app.specs.Orders.{IsLost, IsStoppedSaying, answer_text};
 ghost use Rattle.brin_app.specs.SessionPlaces.{AnswersLine, StopsLine};

@@ -2,14 +2,14 @@
 
 ghost use Rattle.std.specs.Prelude.{◌≡◌, ◌≢◌, ℕ, List, None, Option, IsErrOf};
 ghost use Rattle.block_model.specs.Causes.{Rose};
-ghost use Rattle.command_words.specs.Laws.{AreDemoNumbers};
-ghost use Rattle.page_store.specs.Keeps.{Tells};
-ghost use Rattle.page_store.specs.PageMap.{PageMap};
-ghost use Rattle.store_opening.specs.Opens.{Opens};
-ghost use Rattle.store_starts.specs.StopRule.{AllHaveTable};
-ghost use Rattle.store_parts.specs.ShowsPlace.{ShowsPlace};
-ghost use Rattle.store_starts.specs.Started.{HoldsImage};
-ghost use Rattle.line_texts.specs.Place.{Place};
+ghost use Rattle.command_line.specs.Laws.{AreDemoNumbers};
+ghost use Rattle.page_map.specs.Keeps.{Tells};
+ghost use Rattle.page_map.specs.PageMap.{PageMap};
+ghost use Rattle.recovery.specs.Opens.{Opens};
+ghost use Rattle.session_core.specs.StopRule.{AllHaveTable};
+ghost use Rattle.session_parts.specs.ShowsPlace.{ShowsPlace};
+ghost use Rattle.session_core.specs.Started.{HoldsImage};
+ghost use Rattle.script_semantics.specs.Place.{Place};
 ghost use Rattle.brin_app.specs.declared.top.Task.TheVariants as tasks;
 ghost use Rattle.brin_app.specs.DemoOutput.{IsDemoRun};
 ghost use Rattle.brin_app.specs.DemoSums.{HasSummed, SumsFresh};
@@ -20,16 +20,15 @@ ghost use Rattle.brin_app.specs.Statuses.{IsStatus};
 use crate::laws::a_stored_table_is_not_damaged;
 use crate::sessions::Sessions;
 use crate::top::{make, refused, status};
-use control_page::one_layout;
 use demo_script::{play, render_summary};
 use disk_trait::Disk;
-use fresh_store::a_new_store_opens_to_fresh_pages;
 use io_traits::{Sink, write_all};
+use recovery::an_image_opens_to_one_map;
 use script_run::RunFault;
-use session_core::Store;
+use session_core::{Store, a_new_store_opens_to_fresh_pages};
 use std::alloc::Global;
+use store_format::one_layout;
 use store_layout::Layout;
-use store_opening::an_image_opens_to_one_map;
 
 /// The number of the demo's table.
 const DEMO_TABLE: u8 = 0;

@@ -1,20 +1,19 @@
 //! What the definitions of a script's output mean.
 
 ghost use Rattle.std.specs.Prelude.{◌≡◌, None, ℕ, List};
-ghost use Rattle.line_texts.specs.Place.{Place};
-ghost use Rattle.line_texts.specs.Starts.{IsStart};
+ghost use Rattle.script_semantics.specs.Place.{Place};
+ghost use Rattle.script_semantics.specs.Starts.{IsStart};
 ghost use Rattle.store_layout.specs.DiskLayout.{DiskLayout};
 ghost use Rattle.store_layout.specs.FirstBrokenRule.{first_broken_rule};
-ghost use Rattle.page_store.specs.PageMap.{PageMap};
-ghost use Rattle.store_opening.specs.Damaged.{IsDamaged};
-ghost use Rattle.store_opening.specs.Opens.{Opens};
-ghost use Rattle.store_opening.specs.PageOrder.{AreInOrder};
+ghost use Rattle.page_map.specs.PageMap.{PageMap};
+ghost use Rattle.recovery.specs.Damaged.{IsDamaged};
+ghost use Rattle.recovery.specs.Opens.{Opens};
+ghost use Rattle.recovery.specs.PageOrder.{AreInOrder};
 
-use contents_laws::tuples_of_an_index_are_lawful;
-use index_steps::every_index_of_a_table_is_listed;
+use index_steps::{every_index_of_a_table_is_listed, tuples_of_an_index_are_lawful};
 use log_area::an_area_opens_in_one_way;
+use page_map::maps_with_the_same_pages_are_equal;
 use page_redo::redo_is_a_function;
-use page_store::maps_with_the_same_pages_are_equal;
 use wal_record::no_change_begins_another;
 
 /// Each layout that passes no limit has a place at which a script starts. Does nothing.

@@ -1,7 +1,7 @@
 //! The program: a script of sessions over tables with BRIN indexes, whose statements run in steps. `brin_main` does all of it, and its
-//! contract says which status comes when, and that what it writes are the texts of the script's lines (line_texts), from a place at which
+//! contract says which status comes when, and that what it writes are the texts of the script's lines (script_semantics), from a place at which
 //! a script starts on; the demo's five lines are the counts of the answers to its script (demo_script). It stands on the words of the command
-//! line (command_words, schema_words), the lines (query_words), their texts (reply_texts), the loop over them (script_run), the making of a
+//! line (command_line, command_line), the lines (query_words), their texts (reply_texts), the loop over them (script_run), the making of a
 //! store (store_format) and the store of sessions over a disk (session_core).
 //! At every moment each image of the disk has the table of a front of the script's requests, and at the end that of all of them
 //! (specs/CrashRule.antt); behind a fault of the disk the commit that was in hand may be in it as well.

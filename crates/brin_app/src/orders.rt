@@ -1,23 +1,23 @@
 //! What an order of a session does.
 
 ghost use Rattle.std.specs.Prelude.{◌≡◌, ◌<◌, IfOk, IfErr, IsSome, length};
-ghost use Rattle.store_parts.specs.StoreStates.{hand_at};
+ghost use Rattle.session_parts.specs.StoreStates.{hand_at};
 ghost use Rattle.session_core.specs.Sessions.{NamesASession};
 ghost use Rattle.query_words.specs.LineFits.{IsOrderFor};
-ghost use Rattle.statements.specs.StatementFits.{IsStatementFor};
+ghost use Rattle.store_layout.specs.StatementFits.{IsStatementFor};
 ghost use Rattle.brin_app.specs.Leading.{PlacesLead, PlacesStop};
 ghost use Rattle.brin_app.specs.Orders.{IsCutShort, DoesSo, FinishesSo, IsHalted, IsInHandStill, IsNotMade, StepsSo, fault_of_step, step_answer};
 
 use block_model::Refusal;
 use demo_script::Answer;
 use disk_trait::Disk;
-use line_texts::requests_are_entered_in_place;
 use query_words::Order;
 use script_run::AnswerFault;
-use session_core::{Step, Store, StoreFault};
-use statements::Statement;
-use step_bounds::{a_finished_statement_ends, moves_are_counted};
-use store_starts::{a_commit_makes_its_table, a_shown_store_is_an_image};
+use script_semantics::{
+    a_finished_statement_ends, moves_are_counted, requests_are_entered_in_place,
+};
+use session_core::{Step, Store, StoreFault, a_commit_makes_its_table, a_shown_store_is_an_image};
+use store_layout::Statement;
 
 /// Does what an order of the session says.
 pub fn act<D: Disk + Drop>(

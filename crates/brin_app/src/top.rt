@@ -6,21 +6,21 @@ ghost use Rattle.block_model.specs.DatabaseState.{initial_state};
 ghost use Rattle.block_model.specs.declared.schema.Schema.{Schema};
 ghost use Rattle.disk_trait.specs.Throughout.{Throughout};
 ghost use Rattle.store_layout.specs.FirstBrokenRule.{first_broken_rule};
-ghost use Rattle.schema_words.specs.DeclaredSchema.{Denotes};
-ghost use Rattle.page_store.specs.Keeps.{Tells};
-ghost use Rattle.page_store.specs.PageMap.{PageMap};
-ghost use Rattle.store_opening.specs.Opens.{Opens};
-ghost use Rattle.line_texts.specs.Place.{Place};
-ghost use Rattle.store_parts.specs.ShowsPlace.{ShowsPlace};
-ghost use Rattle.store_starts.specs.StopRule.{AllHaveTable};
-ghost use Rattle.store_starts.specs.Started.{HoldsImage};
-ghost use Rattle.fresh_store.specs.FreshPages.{IsOldOrFresh};
+ghost use Rattle.command_line.specs.DeclaredSchema.{Denotes};
+ghost use Rattle.page_map.specs.Keeps.{Tells};
+ghost use Rattle.page_map.specs.PageMap.{PageMap};
+ghost use Rattle.recovery.specs.Opens.{Opens};
+ghost use Rattle.script_semantics.specs.Place.{Place};
+ghost use Rattle.session_parts.specs.ShowsPlace.{ShowsPlace};
+ghost use Rattle.session_core.specs.StopRule.{AllHaveTable};
+ghost use Rattle.session_core.specs.Started.{HoldsImage};
+ghost use Rattle.session_core.specs.FreshPages.{IsOldOrFresh};
 ghost use Rattle.brin_app.specs.ScriptOutput.{EachImageHas, EachImageIsFresh, HoldsFresh, IsFreshOutput, IsMade, IsOldOrEmpty, IsScriptRun, RunsThrough, exit_status};
 ghost use Rattle.brin_app.specs.StatusCauses.{HasDamage, IsCompleteOf, IsDoneSo, IsRefusedSo, IsSpentOf, LacksStore};
 ghost use Rattle.brin_app.specs.Statuses.{IsFit, IsStatus, IsUnfit, format_status, start_status};
-ghost use Rattle.command_words.specs.Laws.{AreDemoNumbers};
+ghost use Rattle.command_line.specs.Laws.{AreDemoNumbers};
 ghost use Rattle.brin_app.specs.Tasks.{Asks, HasDemoNumbers, HasNoLayout, HasNumbers, IsLayoutFor, IsTaskOf, IsUsage, IsWrong};
-ghost use Rattle.command_words.specs.declared.command.Command.TheVariants as commands;
+ghost use Rattle.command_line.specs.declared.command.Command.TheVariants as commands;
 ghost use Rattle.brin_app.specs.declared.top.Task.{Task};
 ghost use Rattle.brin_app.specs.declared.top.Task.TheVariants as tasks;
 ghost use Rattle.brin_app.specs.TaskOutputs.{IsOutputOf};
@@ -33,20 +33,21 @@ use crate::status::{
     WRITE_FAULT,
 };
 use block_model::{NoMemory, Schema, Sizes, Words};
-use command_words::{Command, CommandFault, demos_have_limits, read_command};
-use control_page::one_layout;
+use command_line::{
+    Command, CommandFault, DeclFault, demos_have_limits, read_command, read_declarations,
+};
 use demo_script::demo_layout;
 use disk_trait::Disk;
-use fresh_store::{a_format_leaves_old_or_none_or_new, a_new_store_opens_to_fresh_pages};
 use io_traits::{Sink, Source};
-use schema_words::{DeclFault, read_declarations};
+use recovery::{StartFault, an_image_opens_to_one_map};
 use script_run::{AnswerFault, RunFault, run};
-use session_core::Store;
+use session_core::{
+    Store, a_format_leaves_old_or_none_or_new, a_new_store_is_an_image,
+    a_new_store_opens_to_fresh_pages,
+};
 use std::alloc::Global;
-use store_format::{FormatFault, format};
+use store_format::{FormatFault, format, one_layout};
 use store_layout::Layout;
-use store_opening::{StartFault, an_image_opens_to_one_map};
-use store_starts::a_new_store_is_an_image;
 
 /// Does what the words of a command line say. `init` with options and the declarations of tables and indexes makes an empty store of the disk; `run`
 /// with them does so first, and then runs the script of the source over it, line after line, and writes the text of each line to the sink before the

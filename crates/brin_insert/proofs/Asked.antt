@@ -3,10 +3,10 @@ use Rattle.std.proofs.Common.{◌≡◌, ℕ, suc, ◌+◌, ◌/◌, ◌≤◌, 
 use Rattle.std.proofs.lemmas.Bool.{cases_lt, false≢true}
 use Rattle.block_model.specs.declared.place.Spot.{Spot}
 use Rattle.store_layout.specs.DiskLayout.{DiskLayout}
-use Rattle.page_store.specs.PageMap.{PageMap}
-use Rattle.summary_queue.specs.declared.queue.TheConstants.{MAX_REQUESTS}
-use Rattle.table_coverage.specs.Accounts.{Account, Accounts, Asked, Asking, HasEntry, IsDropped, Joins}
-use Rattle.table_coverage.specs.Table.{pick}
+use Rattle.page_map.specs.PageMap.{PageMap}
+use Rattle.brin_insert.specs.declared.queue.TheConstants.{MAX_REQUESTS}
+use Rattle.coverage.specs.Accounts.{Account, Accounts, Asked, Asking, HasEntry, IsDropped, Joins}
+use Rattle.coverage.specs.Table.{pick}
 use Rattle.index_contents.specs.IndexContents.{contents}
 use Rattle.index_steps.specs.IndexTuples.{index_at}
 use Rattle.brin_insert.specs.InsertHands.{InsertHand}

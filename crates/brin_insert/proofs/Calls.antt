@@ -1,11 +1,11 @@
 -- calls of an insert's step as steps of its session alone
 use Rattle.std.proofs.Common.{◌≡◌, ℕ, suc, ◌+◌, ◌*◌, ◌≤◌, List, [], ◌∷◌, sym, subst, arith}
 use Rattle.block_model.specs.declared.reply.Point.{Point}
-use Rattle.table_coverage.specs.GoingOn.{IsInserting, StepsAlone, LastAlone, OneMoreAlone}
-use Rattle.table_coverage.specs.Machines.{MachineSteps, MachineWaits, ShownTable, Unseen, table_state, task_turned}
-use Rattle.table_coverage.specs.Table.{Task, TableState}
-use Rattle.table_coverage.specs.TableCovered.{IsTableKept}
-use Rattle.table_coverage.specs.TableSteps.{TableStep, TableRun, TableDone, TableNext}
+use Rattle.coverage.specs.GoingOn.{IsInserting, StepsAlone, LastAlone, OneMoreAlone}
+use Rattle.coverage.specs.Machines.{MachineSteps, MachineWaits, ShownTable, Unseen, table_state, task_turned}
+use Rattle.coverage.specs.Table.{Task, TableState}
+use Rattle.coverage.specs.TableCovered.{IsTableKept}
+use Rattle.coverage.specs.TableSteps.{TableStep, TableRun, TableDone, TableNext}
 use Rattle.brin_insert.specs.InsertAnswers.{InsertGoesTo, InsertWaitsFor}
 use Rattle.brin_insert.specs.InsertCalls.{InsertCalls, LastCall, OneMoreCall}
 use Rattle.brin_insert.proofs.Turning.{pick_same}

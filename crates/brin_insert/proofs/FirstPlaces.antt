@@ -11,12 +11,12 @@ use Rattle.store_layout.specs.DiskLayout.{DiskLayout}
 use Rattle.page_layout.specs.RowBytes.{StoredRow}
 use Rattle.page_layout.specs.PageContents.{Slot}
 use Rattle.page_layout.specs.FreeSlots.{is_free, lowest_free}
-use Rattle.page_store.specs.PageMap.{PageMap}
+use Rattle.page_map.specs.PageMap.{PageMap}
 use Rattle.heap_rows.specs.HeapBlocks.{HasBlocks, slots_of}
 use Rattle.heap_rows.specs.Heaps.{slots_a_page}
 use Rattle.heap_rows.specs.RowPlaces.{place_for, place_from, slot_at, spot_in, with_row, with_table_block}
-use Rattle.table_coverage.specs.Table.{TableState}
-use Rattle.table_coverage.specs.TableSteps.{IsVacantPlace, IsFirstPlace}
+use Rattle.coverage.specs.Table.{TableState}
+use Rattle.coverage.specs.TableSteps.{IsVacantPlace, IsFirstPlace}
 use Rattle.index_steps.specs.ShownRows.{row_in, rows_in}
 
 -- a free slot isn't one in use

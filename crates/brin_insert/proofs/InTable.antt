@@ -12,7 +12,7 @@ use Rattle.block_model.specs.declared.row.RowId.{RowId}
 use Rattle.block_model.specs.declared.value.Value.{Value}
 use Rattle.store_layout.specs.DiskLayout.{DiskLayout}
 use Rattle.page_layout.specs.PageContents.{HasSlots, IsUnstarted, Slot}
-use Rattle.page_store.specs.PageMap.{PageMap, block_at, page_at}
+use Rattle.page_map.specs.PageMap.{PageMap, block_at, page_at}
 use Rattle.page_locks.specs.declared.did.Did.{Did}
 use Rattle.page_locks.specs.declared.did.Did.TheVariants as did
 use Rattle.page_locks.specs.declared.held.Held.{Held}
@@ -22,11 +22,11 @@ use Rattle.heap_rows.specs.Heaps.{form_at, relation_of as heap_of, slots_a_page}
 use Rattle.range_tuple.specs.TupleBytes.{tuple_bytes}
 use Rattle.range_tuple.specs.Tuples.{Tuple}
 use Rattle.coverage.specs.Statements.{Empty, OnIndex}
-use Rattle.table_coverage.specs.Accounts.{no_account}
-use Rattle.table_coverage.specs.InOneIndex.{DoesAt}
-use Rattle.table_coverage.specs.Machines.{ShownTable, Unseen, table_state, task_turned}
-use Rattle.table_coverage.specs.Table.{Asks, Inserts, Reaches, Resting, Task, TableState}
-use Rattle.table_coverage.specs.TableSteps.{AsksSummary, TaskTurns}
+use Rattle.coverage.specs.Accounts.{no_account}
+use Rattle.coverage.specs.InOneIndex.{DoesAt}
+use Rattle.coverage.specs.Machines.{ShownTable, Unseen, table_state, task_turned}
+use Rattle.coverage.specs.Table.{Asks, Inserts, Reaches, Resting, Task, TableState}
+use Rattle.coverage.specs.TableSteps.{AsksSummary, TaskTurns}
 use Rattle.index_contents.specs.IndexContents.{contents, relation_of}
 use Rattle.index_steps.specs.IndexTuples.{index_at, shape_of}
 use Rattle.index_steps.specs.SwapAnswers.{LeavesLocks}

@@ -5,15 +5,15 @@ use Rattle.std.proofs.lemmas.Option.{slice_get_within}
 use Rattle.block_model.specs.declared.place.Spot.{Spot}
 use Rattle.block_model.specs.declared.row.Row.{Row}
 use Rattle.store_layout.specs.DiskLayout.{DiskLayout}
-use Rattle.page_store.specs.PageMap.{PageMap}
+use Rattle.page_map.specs.PageMap.{PageMap}
 use Rattle.page_locks.specs.LockHolders.{LockState}
 use Rattle.heap_rows.specs.Heaps.{slots_a_page}
 use Rattle.coverage.specs.IndexView.{IndexTuple, IndexView, IsTupleOf, range_of_block}
 use Rattle.coverage.specs.IsCovered.{IndexState, IsIndexKept, StatementHolds, index_view}
 use Rattle.coverage.specs.IsSound.{IsSound}
 use Rattle.coverage.specs.Statements.{OnIndex, Moving, Inserting, Statement}
-use Rattle.table_coverage.specs.Machines.{table_state}
-use Rattle.table_coverage.specs.Table.{Task, Inserts, TableState, index_state, inserting_of, on_index_by, seen_by}
+use Rattle.coverage.specs.Machines.{table_state}
+use Rattle.coverage.specs.Table.{Task, Inserts, TableState, index_state, inserting_of, on_index_by, seen_by}
 use Rattle.index_contents.specs.IndexContents.{IndexContents, contents}
 use Rattle.index_steps.specs.IndexTuples.{IndexShape, index_at, shape_of}
 use Rattle.index_steps.specs.MoveEnds.{IsMoving}

@@ -3,14 +3,14 @@ use Rattle.std.proofs.Common.{◌≡◌, ◌≢◌, ℕ, ◌<◌, length, inl, i
 use Rattle.std.proofs.lemmas.Bool.{cases_eq}
 use Rattle.block_model.specs.declared.place.Place.{Place}
 use Rattle.disk_trait.specs.Told.{Told}
-use Rattle.page_store.specs.Keeps.{Tells}
-use Rattle.page_store.specs.PageMap.{View, page_at}
+use Rattle.page_map.specs.Keeps.{Tells}
+use Rattle.page_map.specs.PageMap.{View, page_at}
 use Rattle.heap_rows.specs.Heaps.{relation_of as heap_of}
 use Rattle.heap_rows.specs.LeavesOthers.{LeavesOthers as LeavesOtherTables}
-use Rattle.store_opening.specs.PageOrder.{IsIndexInOrder}
+use Rattle.index_contents.specs.PageOrder.{IsIndexInOrder}
 use Rattle.index_contents.specs.IndexContents.{index_page, relation_of}
 use Rattle.index_contents.specs.IndexChanges.{LeavesOthers}
-use Rattle.index_order.specs.KeepsOrder.{KeepsOrder}
+use Rattle.index_contents.specs.KeepsOrder.{KeepsOrder}
 
 module _ {D : Type 0} (told : D → Told) (old new : View D) where
   -- an index whose pages stay

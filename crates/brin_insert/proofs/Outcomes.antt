@@ -5,21 +5,21 @@ use Rattle.block_model.specs.declared.place.Spot.{Spot}
 use Rattle.store_layout.specs.DiskLayout.{DiskLayout, page_offset}
 use Rattle.disk_trait.specs.Told.{Told}
 use Rattle.page_layout.specs.PageContents.{Slot}
-use Rattle.page_store.specs.declared.faults.MachineFault.{MachineFault}
-use Rattle.page_store.specs.declared.faults.MachineFault.TheVariants as faults
-use Rattle.page_store.specs.declared.faults.StoreError.{StoreError}
-use Rattle.page_store.specs.declared.faults.StoreError.TheVariants as errors
-use Rattle.page_store.specs.Keeps.{Tells}
-use Rattle.page_store.specs.Outcome.{NamesPage, Refused}
-use Rattle.page_store.specs.PageMap.{View}
+use Rattle.page_map.specs.declared.faults.MachineFault.{MachineFault}
+use Rattle.page_map.specs.declared.faults.MachineFault.TheVariants as faults
+use Rattle.page_map.specs.declared.faults.StoreError.{StoreError}
+use Rattle.page_map.specs.declared.faults.StoreError.TheVariants as errors
+use Rattle.page_map.specs.Keeps.{Tells}
+use Rattle.page_map.specs.Outcome.{NamesPage, Refused}
+use Rattle.page_map.specs.PageMap.{View}
 use Rattle.page_locks.specs.declared.did.Did.{Did}
 use Rattle.page_locks.specs.LockHolders.{LockState}
 use Rattle.heap_rows.specs.HeapBlocks.{OfBlocks}
-use Rattle.table_coverage.specs.Table.{Inserts, Task}
+use Rattle.coverage.specs.Table.{Inserts, Task}
 use Rattle.range_tuple.specs.TupleBytes.{tuple_bytes}
 use Rattle.coverage.specs.IndexView.{map_page_of}
 use Rattle.index_contents.specs.IndexContents.{relation_of}
-use Rattle.revmap.specs.MapEntries.{map_place}
+use Rattle.index_steps.specs.MapEntries.{map_place}
 use Rattle.index_contents.specs.IndexChanges.{LeavesOthers}
 use Rattle.index_steps.specs.IndexTuples.{index_at, shape_of}
 use Rattle.index_steps.specs.SwapAnswers.{FaultNamesPageOf, MachineOutcome, SaysFullIn}

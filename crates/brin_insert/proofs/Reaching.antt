@@ -9,16 +9,16 @@ use Rattle.block_model.specs.declared.reply.Point.{Point}
 use Rattle.block_model.specs.declared.row.Row.{Row}
 use Rattle.store_layout.specs.DiskLayout.{DiskLayout}
 use Rattle.page_layout.specs.PageContents.{Slot}
-use Rattle.page_store.specs.PageMap.{PageMap}
+use Rattle.page_map.specs.PageMap.{PageMap}
 use Rattle.page_locks.specs.declared.did.Did.{Did}
 use Rattle.page_locks.specs.LockHolders.{LockState}
 use Rattle.range_tuple.specs.TupleBytes.{tuple_bytes}
 use Rattle.coverage.specs.Statements.{Empty}
-use Rattle.table_coverage.specs.GoingOn.{IsInserting}
-use Rattle.table_coverage.specs.Machines.{ShownIndex, ShownTable, Unseen, table_state, task_turned}
-use Rattle.table_coverage.specs.Table.{Asks, Task, Resting, Reaches, Inserts}
-use Rattle.table_coverage.specs.TableCovered.{IsTableKept}
-use Rattle.table_coverage.specs.TableSteps.{Settles}
+use Rattle.coverage.specs.GoingOn.{IsInserting}
+use Rattle.coverage.specs.Machines.{ShownIndex, ShownTable, Unseen, table_state, task_turned}
+use Rattle.coverage.specs.Table.{Asks, Task, Resting, Reaches, Inserts}
+use Rattle.coverage.specs.TableCovered.{IsTableKept}
+use Rattle.coverage.specs.TableSteps.{Settles}
 use Rattle.index_steps.specs.IndexTuples.{shape_of}
 use Rattle.brin_insert.specs.declared.insert.Insert.{Insert}
 use Rattle.brin_insert.specs.declared.stage.Stage.{Stage}

@@ -10,15 +10,15 @@ use Rattle.block_model.specs.declared.value.Value.{Value}
 use Rattle.store_layout.specs.DiskLayout.{DiskLayout}
 use Rattle.page_layout.specs.PageContents.{Slot}
 use Rattle.page_layout.specs.RowBytes.{StoredRow}
-use Rattle.page_store.specs.PageMap.{PageMap, block_at}
+use Rattle.page_map.specs.PageMap.{PageMap, block_at}
 use Rattle.page_locks.specs.LockHolders.{LockState}
 use Rattle.heap_rows.specs.Heaps.{relation_of as heap_of, slots_a_page}
 use Rattle.heap_rows.specs.RowPlaces.{new_row}
-use Rattle.table_coverage.specs.Accounts.{no_account}
-use Rattle.table_coverage.specs.InOneIndex.{DoesAt, RowComesTo, with_rows}
-use Rattle.table_coverage.specs.Machines.{ShownTable, Unseen, table_state, task_turned}
-use Rattle.table_coverage.specs.Table.{Reaches, Resting, TableState, pick}
-use Rattle.table_coverage.specs.TableSteps.{IsFirstPlace}
+use Rattle.coverage.specs.Accounts.{no_account}
+use Rattle.coverage.specs.InOneIndex.{DoesAt, RowComesTo, with_rows}
+use Rattle.coverage.specs.Machines.{ShownTable, Unseen, table_state, task_turned}
+use Rattle.coverage.specs.Table.{Reaches, Resting, TableState, pick}
+use Rattle.coverage.specs.TableSteps.{IsFirstPlace}
 use Rattle.index_contents.specs.IndexContents.{contents, contents_in, relation_of}
 use Rattle.brin_insert.specs.RowSteps.{PutsRowOf, blocks_with, row_of}
 use Rattle.index_steps.specs.ShownRows.{row_in, rows_in, shown_by}

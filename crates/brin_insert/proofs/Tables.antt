@@ -13,10 +13,10 @@ use Rattle.coverage.specs.Knowing.{Knows, LocksNone}
 use Rattle.coverage.specs.PageOrder.{KnowsPages}
 use Rattle.coverage.specs.Statements.{OnIndex, Empty, Idle, Inserting}
 use Rattle.range_tuple.specs.TupleBytes.{tuple_bytes}
-use Rattle.table_coverage.specs.InOneIndex.{DoesAt, index_with, with_index}
-use Rattle.table_coverage.specs.Machines.{ShownTable, Unseen, table_state, task_turned}
-use Rattle.table_coverage.specs.Table.{Inserts, Reaches, Task, TableState, index_view_at, inserting_of, on_index_by, pick, seen_by}
-use Rattle.table_coverage.specs.TableCovered.{IsTableKept}
+use Rattle.coverage.specs.InOneIndex.{DoesAt, index_with, with_index}
+use Rattle.coverage.specs.Machines.{ShownTable, Unseen, table_state, task_turned}
+use Rattle.coverage.specs.Table.{Inserts, Reaches, Task, TableState, index_view_at, inserting_of, on_index_by, pick, seen_by}
+use Rattle.coverage.specs.TableCovered.{IsTableKept}
 use Rattle.range_tuple.specs.Tuples.{Tuple}
 use Rattle.index_contents.specs.IndexContents.{contents, relation_of}
 use Rattle.index_steps.specs.IndexTuples.{IndexShape, shape_of}

@@ -12,14 +12,14 @@ use Rattle.block_model.specs.declared.reply.Point.{Point}
 use Rattle.block_model.specs.declared.row.Row.{Row}
 use Rattle.store_layout.specs.DiskLayout.{DiskLayout}
 use Rattle.page_layout.specs.RowBytes.{HaveKinds}
-use Rattle.page_store.specs.PageMap.{PageMap}
+use Rattle.page_map.specs.PageMap.{PageMap}
 use Rattle.page_locks.specs.declared.did.Did.{Did}
 use Rattle.page_locks.specs.LockHolders.{LockState}
 use Rattle.heap_rows.specs.Heaps.{kinds_at}
 use Rattle.range_tuple.specs.TupleBytes.{tuple_bytes}
 use Rattle.range_tuple.specs.Tuples.{parts_of}
 use Rattle.coverage.specs.Statements.{OnIndex}
-use Rattle.table_coverage.specs.Table.{Asks, Inserts, Task}
+use Rattle.coverage.specs.Table.{Asks, Inserts, Task}
 use Rattle.index_steps.specs.IndexTuples.{TakesValues, classes_of, index_at, shape_of}
 use Rattle.brin_insert.specs.declared.insert.Insert.{Insert}
 use Rattle.brin_insert.specs.declared.stage.Stage.{Stage}

@@ -5,10 +5,10 @@ use Rattle.std.proofs.lemmas.Bool.{cases_eq}
 use Rattle.block_model.specs.declared.reply.Point.{Point}
 use Rattle.block_model.specs.declared.row.Row.{Row}
 use Rattle.coverage.specs.Statements.{OnIndex, Empty}
-use Rattle.table_coverage.specs.Machines.{ShownIndex, ShownTable, Unseen, table_state, task_turned}
-use Rattle.table_coverage.specs.Table.{Asks, Task, Resting, Reaches, Inserts, pick}
-use Rattle.table_coverage.specs.TableCovered.{IsTableKept}
-use Rattle.table_coverage.specs.TableSteps.{Onward, Stays, ToAsk, ToIndex, Inserted, Settles, GoesOn}
+use Rattle.coverage.specs.Machines.{ShownIndex, ShownTable, Unseen, table_state, task_turned}
+use Rattle.coverage.specs.Table.{Asks, Task, Resting, Reaches, Inserts, pick}
+use Rattle.coverage.specs.TableCovered.{IsTableKept}
+use Rattle.coverage.specs.TableSteps.{Onward, Stays, ToAsk, ToIndex, Inserted, Settles, GoesOn}
 use Rattle.brin_insert.specs.InsertAnswers.{AccountsCome, DoesWith, InsertGoesTo}
 
 pub pick_same : (i : ℕ) → {A : Type 0} → (a b : A) → pick i i a b ≡ a

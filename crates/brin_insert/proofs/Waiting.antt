@@ -4,15 +4,15 @@ use Rattle.std.specs.Prelude.{slice_get}
 use Rattle.std.proofs.lemmas.Option.{slice_get_within}
 use Rattle.block_model.specs.declared.row.Row.{Row}
 use Rattle.store_layout.specs.DiskLayout.{DiskLayout}
-use Rattle.page_store.specs.PageMap.{PageMap}
+use Rattle.page_map.specs.PageMap.{PageMap}
 use Rattle.page_locks.specs.LockHolders.{LockState}
 use Rattle.coverage.specs.Statements.{Copied}
 use Rattle.coverage.specs.Verdicts.{Full, SwapVerdict, Waits}
-use Rattle.table_coverage.specs.Machines.{Unseen, table_state}
-use Rattle.table_coverage.specs.Refusals.{InsertFull}
-use Rattle.table_coverage.specs.Table.{Inserts, TableState, index_view_at}
-use Rattle.table_coverage.specs.TableCovered.{IsTableKept}
-use Rattle.table_coverage.specs.TableSteps.{IndexFull, InsertWaits}
+use Rattle.coverage.specs.Machines.{Unseen, table_state}
+use Rattle.coverage.specs.Refusals.{InsertFull}
+use Rattle.coverage.specs.Table.{Inserts, TableState, index_view_at}
+use Rattle.coverage.specs.TableCovered.{IsTableKept}
+use Rattle.coverage.specs.TableSteps.{IndexFull, InsertWaits}
 use Rattle.range_tuple.specs.TupleBytes.{tuple_bytes}
 use Rattle.range_tuple.specs.Tuples.{Tuple}
 use Rattle.index_steps.specs.IndexTuples.{index_at, seen, shape_of}

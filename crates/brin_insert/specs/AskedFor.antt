@@ -3,11 +3,11 @@ use Rattle.std.specs.Prelude.{◌≡◌, ℕ, ◌+◌, ◌*◌, ◌/◌, ◌≤�
 use Rattle.block_model.specs.declared.place.Spot.{Spot}
 use Rattle.block_model.specs.declared.reply.Point.TheVariants as points
 use Rattle.store_layout.specs.DiskLayout.{DiskLayout}
-use Rattle.page_store.specs.PageMap.{PageMap}
+use Rattle.page_map.specs.PageMap.{PageMap}
 use Rattle.page_locks.specs.declared.did.Did.{Did}
 use Rattle.page_locks.specs.declared.did.Did.TheVariants as did
-use Rattle.summary_queue.specs.declared.queue.TheConstants.{MAX_REQUESTS}
-use Rattle.table_coverage.specs.Accounts.{Asked}
+use Rattle.brin_insert.specs.declared.queue.TheConstants.{MAX_REQUESTS}
+use Rattle.coverage.specs.Accounts.{Asked}
 use Rattle.index_contents.specs.IndexContents.{contents}
 use Rattle.index_steps.specs.IndexTuples.{index_at}
 use Rattle.index_steps.specs.ShownTable.{indexes_of}

@@ -7,11 +7,11 @@ use Rattle.block_model.specs.declared.row.Row.{Row}
 use Rattle.store_layout.specs.DiskLayout.{DiskLayout, page_offset}
 use Rattle.disk_trait.specs.Told.{Told}
 use Rattle.page_layout.specs.PageContents.{Slot}
-use Rattle.page_store.specs.declared.faults.MachineFault.{MachineFault}
-use Rattle.page_store.specs.declared.faults.MachineFault.TheVariants as faults
-use Rattle.page_store.specs.declared.faults.StoreError.TheVariants as errors
-use Rattle.page_store.specs.Keeps.{Keeps, Leaves, Tells}
-use Rattle.page_store.specs.PageMap.{PageMap, View, page_at}
+use Rattle.page_map.specs.declared.faults.MachineFault.{MachineFault}
+use Rattle.page_map.specs.declared.faults.MachineFault.TheVariants as faults
+use Rattle.page_map.specs.declared.faults.StoreError.TheVariants as errors
+use Rattle.page_map.specs.Keeps.{Keeps, Leaves, Tells}
+use Rattle.page_map.specs.PageMap.{PageMap, View, page_at}
 use Rattle.page_locks.specs.declared.did.Did.{Did}
 use Rattle.page_locks.specs.declared.did.Did.TheVariants as did
 use Rattle.page_locks.specs.LockHolders.{LockState, holder}
@@ -19,14 +19,14 @@ use Rattle.heap_rows.specs.HeapBlocks.{HasBlocks}
 use Rattle.heap_rows.specs.Heaps.{relation_of as heap_of, slots_a_page}
 use Rattle.heap_rows.specs.RowPlaces.{FillsSlot, new_row, place_for}
 use Rattle.heap_rows.specs.RowPut.{IsSpotOf}
-use Rattle.table_coverage.specs.Accounts.{AccountIs, Accounts, Adds, Asking, no_account}
-use Rattle.table_coverage.specs.GoingOn.{IsInserting}
-use Rattle.table_coverage.specs.Machines.{ShownTable, Unseen, table_state, task_turned}
-use Rattle.table_coverage.specs.Refusals.{IsTaskFull}
-use Rattle.table_coverage.specs.Table.{Asks, Task, TableState, Resting}
-use Rattle.table_coverage.specs.TableCovered.{IsTableKept}
-use Rattle.table_coverage.specs.TablePoints.{PageLock, does_point, waits_for}
-use Rattle.table_coverage.specs.TableSteps.{Does, IsBlocked, IsHeapFull, Settles}
+use Rattle.coverage.specs.Accounts.{AccountIs, Accounts, Adds, Asking, no_account}
+use Rattle.coverage.specs.GoingOn.{IsInserting}
+use Rattle.coverage.specs.Machines.{ShownTable, Unseen, table_state, task_turned}
+use Rattle.coverage.specs.Refusals.{IsTaskFull}
+use Rattle.coverage.specs.Table.{Asks, Task, TableState, Resting}
+use Rattle.coverage.specs.TableCovered.{IsTableKept}
+use Rattle.coverage.specs.TablePoints.{PageLock, does_point, waits_for}
+use Rattle.coverage.specs.TableSteps.{Does, IsBlocked, IsHeapFull, Settles}
 use Rattle.index_contents.specs.IndexContents.{relation_of as index_relation}
 use Rattle.brin_insert.specs.declared.insert.Insert.{Insert}
 use Rattle.brin_insert.specs.InsertHands.{InsertHand}

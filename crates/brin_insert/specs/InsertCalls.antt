@@ -1,9 +1,9 @@
 -- calls of an insert's step, one right after the other
 use Rattle.std.specs.Prelude.{ℕ, suc}
 use Rattle.block_model.specs.declared.reply.Point.{Point}
-use Rattle.table_coverage.specs.GoingOn.{IsInserting}
-use Rattle.table_coverage.specs.Machines.{ShownTable}
-use Rattle.table_coverage.specs.Table.{Task}
+use Rattle.coverage.specs.GoingOn.{IsInserting}
+use Rattle.coverage.specs.Machines.{ShownTable}
+use Rattle.coverage.specs.Table.{Task}
 use Rattle.brin_insert.specs.InsertAnswers.{InsertGoesTo}
 
 -- So many steps of an insert, none of which is blocked or refused, while nothing else changes pages or locks.

@@ -11,7 +11,7 @@ use Rattle.page_locks.specs.declared.did.Did.TheVariants as did
 use Rattle.heap_rows.specs.Heaps.{kinds_at}
 use Rattle.range_tuple.specs.TupleBytes.{tuple_bytes}
 use Rattle.range_tuple.specs.Tuples.{parts_of}
-use Rattle.table_coverage.specs.Table.{Task, Resting, Asks, Inserts}
+use Rattle.coverage.specs.Table.{Task, Resting, Asks, Inserts}
 use Rattle.index_steps.specs.IndexTuples.{TakesValues, classes_of, index_at, shape_of}
 use Rattle.brin_insert.specs.declared.insert.Insert.{Insert}
 use Rattle.brin_insert.specs.declared.stage.Stage.TheVariants as stages

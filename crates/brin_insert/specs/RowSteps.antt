@@ -8,15 +8,15 @@ use Rattle.block_model.specs.declared.row.RowId.{RowId}
 use Rattle.block_model.specs.declared.value.Value.{Value}
 use Rattle.store_layout.specs.DiskLayout.{DiskLayout}
 use Rattle.page_layout.specs.PageContents.{Slot}
-use Rattle.page_store.specs.PageMap.{PageMap, page_at}
+use Rattle.page_map.specs.PageMap.{PageMap, page_at}
 use Rattle.page_locks.specs.LockHolders.{LockState}
 use Rattle.heap_rows.specs.HeapBlocks.{HasBlocks}
 use Rattle.heap_rows.specs.Heaps.{relation_of, slots_a_page}
 use Rattle.heap_rows.specs.RowPlaces.{FillsSlot, new_row, place_for, with_row}
-use Rattle.table_coverage.specs.Accounts.{no_account}
-use Rattle.table_coverage.specs.InOneIndex.{DoesAt}
-use Rattle.table_coverage.specs.Machines.{Unseen, table_state, task_turned}
-use Rattle.table_coverage.specs.Table.{Reaches, Resting}
+use Rattle.coverage.specs.Accounts.{no_account}
+use Rattle.coverage.specs.InOneIndex.{DoesAt}
+use Rattle.coverage.specs.Machines.{Unseen, table_state, task_turned}
+use Rattle.coverage.specs.Table.{Reaches, Resting}
 use Rattle.index_steps.specs.ShownRows.{shown_by}
 
 -- The heap had these blocks; the row comes to the first free slot, and no other relation changes.

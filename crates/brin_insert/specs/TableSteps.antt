@@ -3,12 +3,12 @@ use Rattle.std.specs.Prelude.{◌≡◌, ◌≢◌, ℕ, ◌/◌, suc, List}
 use Rattle.block_model.specs.declared.reply.Point.{Point}
 use Rattle.block_model.specs.declared.row.Row.{Row}
 use Rattle.store_layout.specs.DiskLayout.{DiskLayout}
-use Rattle.page_store.specs.PageMap.{PageMap}
+use Rattle.page_map.specs.PageMap.{PageMap}
 use Rattle.page_locks.specs.LockHolders.{LockState, holder}
-use Rattle.table_coverage.specs.InOneIndex.{DoesAt}
-use Rattle.table_coverage.specs.Machines.{ShownTable, Unseen, table_state, task_turned}
-use Rattle.table_coverage.specs.Table.{Task, Inserts, Reaches}
-use Rattle.table_coverage.specs.TableCovered.{IsTableKept}
+use Rattle.coverage.specs.InOneIndex.{DoesAt}
+use Rattle.coverage.specs.Machines.{ShownTable, Unseen, table_state, task_turned}
+use Rattle.coverage.specs.Table.{Task, Inserts, Reaches}
+use Rattle.coverage.specs.TableCovered.{IsTableKept}
 use Rattle.range_tuple.specs.Tuples.{Tuple}
 use Rattle.index_contents.specs.IndexContents.{contents, relation_of}
 use Rattle.index_steps.specs.IndexTuples.{index_at, shape_of}

@@ -3,15 +3,15 @@
 ghost use Rattle.std.specs.Prelude.{◌≡◌, ◌+◌, ◌<◌, ◌≤◌, ℕ, List, length, IfOk, IfErr, OnOk, OnErr};
 ghost use Rattle.block_model.specs.declared.place.Spot.{Spot as AnySpot};
 ghost use Rattle.block_model.specs.declared.row.Row.{Row as AnyRow};
-ghost use Rattle.page_store.specs.Keeps.{Keeps, Tells, Untold};
-ghost use Rattle.logged_pages.specs.Survives.{Survives};
+ghost use Rattle.page_map.specs.Keeps.{Keeps, Tells, Untold};
+ghost use Rattle.heap_rows.specs.Survives.{Survives};
 ghost use Rattle.page_locks.specs.LockCounts.{locks_of};
 ghost use Rattle.page_locks.specs.LockHolders.{LockState, count_of, holder};
 ghost use Rattle.range_tuple.specs.TupleBytes.{tuple_bytes};
 ghost use Rattle.range_tuple.specs.Tuples.{Tuple as AnyTuple, parts_of, tuple_room};
 ghost use Rattle.index_contents.specs.IndexContents.{contents, relation_of};
 ghost use Rattle.index_contents.specs.IndexChanges.{LeavesOthers};
-ghost use Rattle.index_order.specs.KeepsOrder.{KeepsOrder};
+ghost use Rattle.index_contents.specs.KeepsOrder.{KeepsOrder};
 ghost use Rattle.index_steps.specs.IndexTuples.{TakesValues, classes_of, shape_of};
 ghost use Rattle.index_steps.specs.MoveEnds.{IsMoving};
 ghost use Rattle.index_steps.specs.StepAnswers.{BlockedWell, IsOfStore, NeverBlocked};
@@ -23,15 +23,14 @@ ghost use Rattle.brin_insert.specs.StepAnswers.{DamageAt, StandsAfter, StepFull}
 use crate::stage::Stage;
 use block_model::{Place, Point, Spot, Value};
 use disk_trait::Disk;
+use heap_rows::PageStore;
 use index_contents::relation_of;
 use index_steps::{
-    Swapped, Within, a_row_is_added_to_what_is_seen, an_index_that_stays_is_read, copy_tuple,
-    drop_moved, lock_of_another, name_moved, read_map, spell, swap, values_are_known,
+    Scratch, Swapped, Within, a_row_is_added_to_what_is_seen, an_index_that_stays_is_read,
+    copy_tuple, drop_moved, lock_of_another, name_moved, read_map, spell, swap, values_are_known,
 };
-use logged_pages::PageStore;
 use page_locks::{Did, Locks};
-use page_store::MachineFault;
-use range_store::Scratch;
+use page_map::MachineFault;
 use range_tuple::RangeTuple;
 
 /// Reads the map: what it names is to be copied; where it names nothing, the index is complete.

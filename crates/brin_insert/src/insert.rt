@@ -4,16 +4,16 @@ ghost use Rattle.std.specs.Prelude.{◌≡◌, ◌+◌, ◌<◌, ◌≤◌, All,
 ghost use Rattle.block_model.specs.declared.place.Spot.{Spot as AnySpot};
 ghost use Rattle.store_layout.specs.DiskLayout.{DiskLayout};
 ghost use Rattle.page_layout.specs.RowBytes.{HaveKinds};
-ghost use Rattle.page_store.specs.Keeps.{Keeps, Tells, Untold};
-ghost use Rattle.page_store.specs.Outcome.{NamesPage, Outcome};
-ghost use Rattle.logged_pages.specs.Survives.{Survives};
+ghost use Rattle.page_map.specs.Keeps.{Keeps, Tells, Untold};
+ghost use Rattle.page_map.specs.Outcome.{NamesPage, Outcome};
+ghost use Rattle.heap_rows.specs.Survives.{Survives};
 ghost use Rattle.index_contents.specs.IndexContents.{contents};
-ghost use Rattle.revmap.specs.MapEntries.{map_place};
+ghost use Rattle.index_steps.specs.MapEntries.{map_place};
 ghost use Rattle.page_locks.specs.LockCounts.{locks_of};
 ghost use Rattle.page_locks.specs.LockHolders.{LockState, count_of, holder};
 ghost use Rattle.heap_rows.specs.HeapBlocks.{OfBlocks};
 ghost use Rattle.heap_rows.specs.Heaps.{kinds_at};
-ghost use Rattle.index_order.specs.KeepsOrder.{KeepsOrder};
+ghost use Rattle.index_contents.specs.KeepsOrder.{KeepsOrder};
 ghost use Rattle.index_steps.specs.IndexTuples.{TakesValues, shape_of};
 ghost use Rattle.index_steps.specs.StepAnswers.{IsOfStore, NeverBlocked};
 ghost use Rattle.index_steps.specs.SwapAnswers.{LeavesLocks, MachineOutcome, StaysWhereFull, TakesAtMost};
@@ -26,21 +26,18 @@ ghost use Rattle.brin_insert.specs.Inserts.{AsksIn, HasReached, HasStepLeft, IsI
 ghost use Rattle.index_steps.specs.ShownRows.{ShowsKept, shown_by};
 ghost use Rattle.index_steps.specs.ShownTable.{indexes_of};
 
+use crate::Queue;
 use crate::index_insert::IndexInsert;
 use crate::indexes::{asks_at, index_count, range_in};
 use crate::laws::{a_kept_table_is_read, a_row_is_put_in_its_table, an_insert_steps_in_its_table};
 use block_model::{NoMemory, Point, Row, Spot};
 use disk_trait::Disk;
-use heap_rows::put;
-use index_steps::{declared_index, rows_of_the_table_are_taken};
-use logged_pages::PageStore;
+use heap_rows::{PageStore, put};
+use index_steps::{Scratch, declared_index, entry, rows_of_the_table_are_taken};
 use page_locks::{Did, Locks};
-use page_store::{MachineFault, StoreError};
-use range_store::Scratch;
-use revmap::entry;
+use page_map::{MachineFault, StoreError};
 use std::alloc::Global;
 use store_layout::Layout;
-use summary_queue::Queue;
 
 /// An insert of a row into its table: where the row stands, once it is put; the index that is next, by its place among the table's, and
 /// whether it has to ask for a summary before its work there; the work in each of them; and the summaries that it asked for in vain.

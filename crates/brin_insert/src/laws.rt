@@ -8,14 +8,14 @@ ghost use Rattle.block_model.specs.declared.row.RowId.{RowId};
 ghost use Rattle.block_model.specs.declared.value.Value.{Value};
 ghost use Rattle.store_layout.specs.DiskLayout.{DiskLayout};
 ghost use Rattle.page_layout.specs.PageContents.{Slot};
-ghost use Rattle.page_store.specs.PageMap.{PageMap};
+ghost use Rattle.page_map.specs.PageMap.{PageMap};
 ghost use Rattle.page_locks.specs.LockHolders.{LockState};
 ghost use Rattle.range_tuple.specs.TupleBytes.{tuple_bytes};
 ghost use Rattle.range_tuple.specs.Tuples.{Tuple};
-ghost use Rattle.table_coverage.specs.Accounts.{Accounts, Asked, Asking};
-ghost use Rattle.table_coverage.specs.Machines.{MachineSteps, MachineWaits, ShownTable, Unseen, table_state};
-ghost use Rattle.table_coverage.specs.Table.{Inserts, Task};
-ghost use Rattle.table_coverage.specs.TableCovered.{IsTableKept};
+ghost use Rattle.coverage.specs.Accounts.{Accounts, Asked, Asking};
+ghost use Rattle.coverage.specs.Machines.{MachineSteps, MachineWaits, ShownTable, Unseen, table_state};
+ghost use Rattle.coverage.specs.Table.{Inserts, Task};
+ghost use Rattle.coverage.specs.TableCovered.{IsTableKept};
 ghost use Rattle.index_contents.specs.IndexContents.{contents};
 ghost use Rattle.index_steps.specs.IndexTuples.{index_at, shape_of};
 ghost use Rattle.index_steps.specs.MoveEnds.{IsMoving};
@@ -31,12 +31,11 @@ ghost use Rattle.index_steps.specs.ShownTable.{indexes_of, shown_table};
 ghost use Rattle.brin_insert.specs.StepAnswers.{DamageAt, StepFull};
 ghost use Rattle.brin_insert.specs.TableSteps.{ShownDoes, StepsInIndex, Stores, task_after};
 
-use coverage::index_stays_covered;
-use index_steps::{a_sound_index_is_not_misread, an_insert_knows_its_move};
-use table_coverage::{
-    a_row_begins_its_insert, a_table_steps_with_its_index, machines_in_one_index, statements_go_on,
-    table_stays_covered,
+use coverage::{
+    a_row_begins_its_insert, a_table_steps_with_its_index, index_stays_covered,
+    machines_in_one_index, statements_go_on, table_stays_covered,
 };
+use index_steps::{a_sound_index_is_not_misread, an_insert_knows_its_move};
 
 /// A step of an insert in an index of its table is what its session does in the table, with the other indexes and the heap as they
 /// were, whatever the pages and locks don't show: the insert goes on in the index, or comes before the next one. Where it waits in the index,
@@ -68,7 +67,7 @@ pub fn an_insert_ends_alone()
 }
 
 /// A step of an insert is one of a machine of its session in the table, and an insert that waits is a machine that waits: so the table is kept
-/// for the next step (`machines_keep` of table_coverage). Does nothing.
+/// for the next step (`machines_keep` of coverage). Does nothing.
 pub fn an_insert_is_a_machine_of_its_table()
     ensures steps { (s : ℕ) (old new : ShownTable) (before after : Task) (point : Point) → InsertGoesTo s old new before after point → MachineSteps s old new before after }
     ensures waits { (s at page : ℕ) (shown : ShownTable) (task : Task) → InsertWaitsFor s shown task at page → MachineWaits s shown task }

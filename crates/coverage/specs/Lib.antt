@@ -15,3 +15,16 @@ pub mod Counts
 pub mod IndexPart
 pub mod Stuck
 pub mod ExactResults
+pub mod RowOrder
+pub mod Table
+pub mod TableSteps
+pub mod TableCovered
+pub mod NextTasks
+pub mod TablePoints
+pub mod Accounts
+pub mod Refusals
+pub mod InOneIndex
+pub mod Machines
+pub mod GoingOn
+pub mod StepsLeft
+pub mod RangesMade

@@ -9,11 +9,11 @@ use Rattle.block_model.specs.declared.schema.Part.{Part}
 use Rattle.block_model.specs.declared.schema.Index.{Index}
 use Rattle.block_model.specs.declared.schema.Schema.{Schema}
 use Rattle.store_layout.specs.FirstBrokenRule.{first_broken_rule}
-use Rattle.schema_words.specs.DeclarationTexts.{IsSetting, TableText, IsTable, MinMax, Multi, Inclusion, Bloom, IsClass, PartText, IsPart, AreListed, IndexText, IsIndex, OfTable, OfIndex}
-use Rattle.schema_words.specs.DeclaredSchema.{Denotes}
-use Rattle.schema_words.specs.FirstFault.{Answers}
-use Rattle.schema_words.specs.declared.declarations.DeclFault.{DeclFault}
-use Rattle.schema_words.specs.declared.declarations.DeclFault.TheVariants as faults
+use Rattle.command_line.specs.DeclarationTexts.{IsSetting, TableText, IsTable, MinMax, Multi, Inclusion, Bloom, IsClass, PartText, IsPart, AreListed, IndexText, IsIndex, OfTable, OfIndex}
+use Rattle.command_line.specs.DeclaredSchema.{Denotes}
+use Rattle.command_line.specs.FirstFault.{Answers}
+use Rattle.command_line.specs.declared.declarations.DeclFault.{DeclFault}
+use Rattle.command_line.specs.declared.declarations.DeclFault.TheVariants as faults
 use Rattle.demo_script.specs.DemoStore.{demo_declarations, demo_sizes}
 
 -- ---- the table and the index

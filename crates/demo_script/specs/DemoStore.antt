@@ -2,7 +2,7 @@
 use Rattle.std.specs.Prelude.{◌≡◌, ℕ, ◌+◌, ◌/◌, List, [], ◌∷◌, codes}
 use Rattle.block_model.specs.declared.schema.Sizes.{Sizes}
 use Rattle.store_layout.specs.DiskLayout.{DiskLayout}
-use Rattle.schema_words.specs.DeclaredSchema.{Denotes}
+use Rattle.command_line.specs.DeclaredSchema.{Denotes}
 
 -- its declarations: a table of four columns, and an index on them with the four operator classes
 unfoldable pub demo_declarations : List (List ℕ)

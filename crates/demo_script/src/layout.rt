@@ -3,11 +3,11 @@
 ghost use Rattle.std.specs.Prelude.{◌≡◌, ◌≤◌, None, IfOk};
 ghost use Rattle.block_model.specs.declared.schema.Schema.{Schema};
 ghost use Rattle.store_layout.specs.FirstBrokenRule.{first_broken_rule};
-ghost use Rattle.schema_words.specs.DeclaredSchema.{Denotes};
+ghost use Rattle.command_line.specs.DeclaredSchema.{Denotes};
 ghost use Rattle.demo_script.specs.DemoStore.{IsDemoLayout, demo_declarations};
 
 use block_model::{NoMemory, Schema, Sizes, Words};
-use schema_words::{DeclFault, read_declarations};
+use command_line::{DeclFault, read_declarations};
 use std::alloc::Global;
 use store_layout::Layout;
 

@@ -21,3 +21,4 @@ pub mod AreWithin
 pub mod Undone
 pub mod IsStriped
 pub mod Memory
+pub mod Calls

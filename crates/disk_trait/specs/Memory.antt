@@ -4,7 +4,7 @@ use Rattle.disk_trait.specs.Told.{Told}
 use Rattle.disk_trait.specs.Spliced.{spliced}
 use Rattle.disk_trait.specs.IsCrashImage.{is_crash_image, was_crash_image}
 use Rattle.disk_trait.specs.Recorded.{Recorded, with_write}
-use Rattle.call_counts.specs.Calls.{CallCounts, fresh}
+use Rattle.disk_trait.specs.Calls.{CallCounts, fresh}
 
 -- what it holds, what happened on it, and its calls
 pub record Recording : Type 0 where

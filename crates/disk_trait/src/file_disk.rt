@@ -4,8 +4,8 @@ ghost use Rattle.std.specs.Prelude.{◌≡◌};
 ghost use Rattle.std.proofs.lemmas.Bool.{false≢true};
 ghost use Rattle.disk_trait.specs.File.{told_by_file};
 
+use crate::counted;
 use crate::disk::{Disk, DiskFault};
-use call_counts::counted;
 use std::fs::File;
 use std::os::unix::fs::FileExt;
 

@@ -9,18 +9,18 @@ ghost use Rattle.disk_trait.specs.Torn.{Torn};
 ghost use Rattle.disk_trait.specs.Follows.{Follows};
 ghost use Rattle.disk_trait.specs.IsStable.{IsStable};
 ghost use Rattle.disk_trait.specs.GoesOn.{GoesOn};
-ghost use Rattle.call_counts.specs.Calls.{FailsNext, after_call, first_stop};
+ghost use Rattle.disk_trait.specs.Calls.{FailsNext, after_call, first_stop};
 ghost use Rattle.disk_trait.specs.Recorded.{RecordHasRoom, RecordLacksRoom, with_room, with_write, with_sync};
 ghost use Rattle.disk_trait.specs.Memory.{made_of, written, told_by_memory};
 ghost use Rattle.disk_trait.specs.Undone.{undone};
 ghost use Rattle.disk_trait.specs.IsStriped.{IsStriped};
 ghost use Rattle.disk_trait.specs.CrashImageLaws.{contents_crash_image, length-crash_image, was_crash_image_now, was_crash_image_latest};
 
+use crate::Calls;
 use crate::bytes::overwrite;
 use crate::disk::{Disk, DiskFault};
 use crate::history::History;
 use block_model::NoMemory;
-use call_counts::Calls;
 use std::alloc::Global;
 use std::marker::Model;
 

@@ -10,10 +10,10 @@ use Rattle.page_layout.specs.declared.page.Form.{Form}
 use Rattle.page_layout.specs.FreeSlots.{slot_count}
 use Rattle.page_layout.specs.PageContents.{Slot, HasSlots}
 use Rattle.page_layout.specs.RowBytes.{StoredRow}
-use Rattle.page_redo.specs.Redo.{IsHeapPage, Means, are_ascending, dropped}
-use Rattle.page_store.specs.Changed.{Changed, redone_once}
-use Rattle.page_store.specs.Forms.{form_of}
-use Rattle.page_store.specs.PageMap.{PageMap, block_at, page_at}
+use Rattle.page_map.specs.Redo.{IsHeapPage, Means, are_ascending, dropped}
+use Rattle.page_map.specs.Changed.{Changed, redone_once}
+use Rattle.page_map.specs.Forms.{form_of}
+use Rattle.page_map.specs.PageMap.{PageMap, block_at, page_at}
 use Rattle.wal_record.specs.Changes.{LoggedChange, RowsDrop}
 use Rattle.heap_rows.specs.Heaps.{relation_of, form_at, slots_a_page}
 use Rattle.heap_rows.specs.HeapBlocks.{HasBlocks, slots_of}

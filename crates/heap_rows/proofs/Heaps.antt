@@ -13,9 +13,9 @@ use Rattle.block_model.specs.RowSize.{row_size}
 use Rattle.page_layout.specs.declared.page.Form.{Form}
 use Rattle.page_layout.specs.declared.page.Form.TheVariants as forms
 use Rattle.page_layout.specs.PageContents.{IsForm}
-use Rattle.page_store.specs.Forms.{form_of, forms_of}
+use Rattle.page_map.specs.Forms.{form_of, forms_of}
 use Rattle.page_layout.specs.HeapForms.{heap_form}
-use Rattle.page_store.specs.PageMap.{block_limit}
+use Rattle.page_map.specs.PageMap.{block_limit}
 use Rattle.heap_rows.specs.Heaps.{relation_of, no_table, table_at, form_at, kinds_at, slots_a_page}
 
 -- a table within the limits has a row on each page

@@ -9,11 +9,11 @@ use Rattle.page_layout.specs.declared.page.Form.{Form}
 use Rattle.page_layout.specs.RowBytes.{StoredRow}
 use Rattle.page_layout.specs.PageContents.{Slot}
 use Rattle.page_layout.specs.PageWrites.{marked}
-use Rattle.page_redo.specs.Redo.{Means}
-use Rattle.page_store.specs.Changed.{Changed, redone_once}
-use Rattle.page_store.specs.Forms.{form_of}
-use Rattle.page_store.specs.Keeps.{Keeps, Leaves, Tells}
-use Rattle.page_store.specs.PageMap.{PageMap, View, page_at}
+use Rattle.page_map.specs.Redo.{Means}
+use Rattle.page_map.specs.Changed.{Changed, redone_once}
+use Rattle.page_map.specs.Forms.{form_of}
+use Rattle.page_map.specs.Keeps.{Keeps, Leaves, Tells}
+use Rattle.page_map.specs.PageMap.{PageMap, View, page_at}
 use Rattle.wal_record.specs.Changes.{LoggedChange, RowMark}
 use Rattle.heap_rows.specs.Heaps.{relation_of, form_at}
 use Rattle.heap_rows.specs.HeapBlocks.{HasBlocks, slots_of}

@@ -7,10 +7,10 @@ use Rattle.page_layout.specs.declared.page.Form.{Form}
 use Rattle.page_layout.specs.RowBytes.{StoredRow}
 use Rattle.page_layout.specs.PageContents.{Slot}
 use Rattle.page_layout.specs.PageWrites.{RowHasBytes}
-use Rattle.page_store.specs.FirstRoom.{IsFirstRoom}
-use Rattle.page_store.specs.Forms.{form_of}
-use Rattle.page_store.specs.Keeps.{Tells}
-use Rattle.page_store.specs.PageMap.{PageMap, View, block_at, block_limit}
+use Rattle.page_map.specs.FirstRoom.{IsFirstRoom}
+use Rattle.page_map.specs.Forms.{form_of}
+use Rattle.page_map.specs.Keeps.{Tells}
+use Rattle.page_map.specs.PageMap.{PageMap, View, block_at, block_limit}
 use Rattle.heap_rows.specs.Heaps.{relation_of, form_at, slots_a_page}
 use Rattle.heap_rows.specs.HeapBlocks.{HasBlocks}
 use Rattle.heap_rows.specs.IsTableFull.{IsTableFull}

@@ -10,9 +10,9 @@ use Rattle.page_layout.specs.PageContents.{Slot, HasSlots, IsRowOf, IsUnstarted}
 use Rattle.page_layout.specs.PageWrites.{IsEmptyHeap, IsOfHeap}
 use Rattle.page_layout.specs.FreeSlots.{slot_count, lowest_free}
 use Rattle.page_layout.specs.SlotLaws.{free_found, started_not}
-use Rattle.page_redo.specs.Redo.{IsFreeSlot, Redone}
-use Rattle.page_store.specs.Changed.{redone_once, redone_twice}
-use Rattle.page_store.specs.Forms.{FitInTurn}
+use Rattle.page_map.specs.Redo.{IsFreeSlot, Redone}
+use Rattle.page_map.specs.Changed.{redone_once, redone_twice}
+use Rattle.page_map.specs.Forms.{FitInTurn}
 use Rattle.wal_record.specs.Changes.{PageStart, RowPut}
 use Rattle.heap_rows.specs.RoomOnPage.{PageTakesRow, HasSlotsOnceStarted, PutsBytes}
 use Rattle.heap_rows.proofs.Places.{first_of_empty}

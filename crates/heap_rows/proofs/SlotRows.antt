@@ -12,7 +12,7 @@ use Rattle.page_layout.specs.declared.page.Form.TheVariants as forms
 use Rattle.page_layout.specs.RowBytes.{StoredRow, IsRow, row_bytes}
 use Rattle.page_layout.specs.PageContents.{Slot, HasSlots, AreSlots, IsPageOf, IsUnstarted, row_bytes_in, used_bytes}
 use Rattle.page_layout.specs.PageWrites.{RowHasBytes}
-use Rattle.page_store.specs.PageMap.{PageMap, block_at}
+use Rattle.page_map.specs.PageMap.{PageMap, block_at}
 use Rattle.heap_rows.specs.declared.rows.Stored.{Stored}
 use Rattle.heap_rows.specs.Heaps.{relation_of, form_at, kinds_at, slots_a_page}
 use Rattle.heap_rows.specs.HeapBlocks.{HasBlocks, slots_of}

@@ -13,10 +13,10 @@ use Rattle.page_layout.specs.PageContents.{Slot, HasSlots, IsUnstarted}
 use Rattle.page_layout.specs.FreeSlots.{is_free, lowest_free}
 use Rattle.page_layout.specs.SlotLaws.{free_found, free_slot, started_not}
 use Rattle.page_layout.specs.SlotsOnPage.{slots_on}
-use Rattle.page_redo.specs.Redo.{IsFreeSlot, IsUsedSlot}
-use Rattle.page_store.specs.PageMap.{PageMap, block_at, page_at}
-use Rattle.page_store.specs.FirstRoom.{IsFirstRoom}
-use Rattle.page_store.specs.Started.{AreFirst}
+use Rattle.page_map.specs.Redo.{IsFreeSlot, IsUsedSlot}
+use Rattle.page_map.specs.PageMap.{PageMap, block_at, page_at}
+use Rattle.page_map.specs.FirstRoom.{IsFirstRoom}
+use Rattle.page_map.specs.Started.{AreFirst}
 use Rattle.heap_rows.specs.Heaps.{relation_of, form_at, slots_a_page}
 use Rattle.heap_rows.specs.HeapBlocks.{HasBlocks, slots_of}
 use Rattle.heap_rows.specs.IsTableFull.{IsTableFull, AreUsed}

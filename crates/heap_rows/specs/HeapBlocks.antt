@@ -3,9 +3,9 @@ use Rattle.std.specs.Prelude.{ℕ, ◌<◌, ◌≤◌, List, [], length, slice_i
 use Rattle.store_layout.specs.DiskLayout.{DiskLayout}
 use Rattle.page_layout.specs.PageContents.{Slot, HasSlots, IsUnstarted}
 use Rattle.disk_trait.specs.Told.{Told}
-use Rattle.page_store.specs.Keeps.{Tells}
-use Rattle.page_store.specs.PageMap.{PageMap, View, block_at}
-use Rattle.page_store.specs.Started.{AreFirst}
+use Rattle.page_map.specs.Keeps.{Tells}
+use Rattle.page_map.specs.PageMap.{PageMap, View, block_at}
+use Rattle.page_map.specs.Started.{AreFirst}
 use Rattle.heap_rows.specs.Heaps.{relation_of, form_at}
 
 -- the slots of a block

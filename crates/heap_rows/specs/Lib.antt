@@ -8,3 +8,5 @@ pub mod LeavesOthers
 pub mod PutAnswers
 pub mod RowPut
 pub mod DroppedRows
+pub use Rattle.page_store.specs.Survives
+pub use Rattle.page_store.specs.SurvivesLaws

@@ -3,12 +3,12 @@ use Rattle.std.specs.Prelude.{◌≡◌, ℕ, ◌*◌, ◌<◌, None, Result, Ok
 use Rattle.block_model.specs.declared.place.Spot.{Spot}
 use Rattle.store_layout.specs.DiskLayout.{DiskLayout, page_offset}
 use Rattle.disk_trait.specs.Told.{Told}
-use Rattle.page_store.specs.declared.faults.StoreError.TheVariants as errors
-use Rattle.page_store.specs.declared.faults.MachineFault.{MachineFault}
-use Rattle.page_store.specs.declared.faults.MachineFault.TheVariants as faults
-use Rattle.page_store.specs.Keeps.{Untold}
-use Rattle.page_store.specs.Outcome.{Outcome}
-use Rattle.page_store.specs.PageMap.{View}
+use Rattle.page_map.specs.declared.faults.StoreError.TheVariants as errors
+use Rattle.page_map.specs.declared.faults.MachineFault.{MachineFault}
+use Rattle.page_map.specs.declared.faults.MachineFault.TheVariants as faults
+use Rattle.page_map.specs.Keeps.{Untold}
+use Rattle.page_map.specs.Outcome.{Outcome}
+use Rattle.page_map.specs.PageMap.{View}
 use Rattle.heap_rows.specs.Heaps.{relation_of, slots_a_page}
 
 -- the table is full

@@ -5,9 +5,9 @@ use Rattle.page_layout.specs.RowBytes.{StoredRow}
 use Rattle.page_layout.specs.PageContents.{Slot, HasSlots, IsUnstarted}
 use Rattle.page_layout.specs.PageWrites.{RowHasBytes}
 use Rattle.page_layout.specs.FreeSlots.{slot_count, lowest_free}
-use Rattle.page_redo.specs.Redo.{IsFreeSlot}
-use Rattle.page_store.specs.Forms.{form_of}
-use Rattle.page_store.specs.PageMap.{PageMap, page_at}
+use Rattle.page_map.specs.Redo.{IsFreeSlot}
+use Rattle.page_map.specs.Forms.{form_of}
+use Rattle.page_map.specs.PageMap.{PageMap, page_at}
 use Rattle.store_layout.specs.DiskLayout.{DiskLayout}
 use Rattle.block_model.specs.declared.place.Place.{Place}
 

@@ -8,7 +8,7 @@ use Rattle.page_layout.specs.RowBytes.{StoredRow}
 use Rattle.page_layout.specs.PageContents.{Slot}
 use Rattle.page_layout.specs.FreeSlots.{lowest_free}
 use Rattle.page_layout.specs.PageWrites.{marked}
-use Rattle.page_store.specs.PageMap.{PageMap}
+use Rattle.page_map.specs.PageMap.{PageMap}
 use Rattle.heap_rows.specs.HeapBlocks.{slots_of, HasBlocks}
 use Rattle.heap_rows.specs.Heaps.{slots_a_page}
 

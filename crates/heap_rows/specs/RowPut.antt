@@ -4,7 +4,7 @@ use Rattle.block_model.specs.declared.place.Spot.{Spot}
 use Rattle.store_layout.specs.DiskLayout.{DiskLayout}
 use Rattle.disk_trait.specs.Told.{Told}
 use Rattle.page_layout.specs.RowBytes.{StoredRow}
-use Rattle.page_store.specs.PageMap.{View}
+use Rattle.page_map.specs.PageMap.{View}
 use Rattle.heap_rows.specs.Heaps.{slots_a_page}
 use Rattle.heap_rows.specs.HeapBlocks.{OfBlocks}
 use Rattle.heap_rows.specs.IsTableFull.{IsTableFull}

@@ -3,9 +3,9 @@
 ghost use Rattle.std.specs.Prelude.{◌≡◌, ◌<◌, List, None, Some, length, slice_index_or, IfOk, IfErr};
 ghost use Rattle.page_layout.specs.PageContents.{HasSlots, IsForm, IsPageOf, Slot};
 ghost use Rattle.page_layout.specs.RowBytes.{StoredRow};
-ghost use Rattle.page_store.specs.Keeps.{Keeps, Tells, Untold};
-ghost use Rattle.page_store.specs.Outcome.{NamesPage, Outcome};
-ghost use Rattle.logged_pages.specs.Survives.{Survives};
+ghost use Rattle.page_map.specs.Keeps.{Keeps, Tells, Untold};
+ghost use Rattle.page_map.specs.Outcome.{NamesPage, Outcome};
+ghost use Rattle.page_store.specs.Survives.{Survives};
 ghost use Rattle.heap_rows.specs.Heaps.{relation_of};
 ghost use Rattle.heap_rows.specs.HeapBlocks.{OfBlocks};
 ghost use Rattle.heap_rows.specs.RowPlaces.{IsInUse, slot_at};
@@ -13,9 +13,9 @@ ghost use Rattle.heap_rows.specs.RowPlaces.{IsInUse, slot_at};
 use crate::heap::{known, relation_of};
 use block_model::{Place, Spot, Values};
 use disk_trait::Disk;
-use logged_pages::PageStore;
 use page_layout::{Form, Page, row_at, row_in, slot_count};
-use page_store::StoreError;
+use page_map::StoreError;
+use page_store::PageStore;
 
 /// The transaction that deleted the row at the spot, 0 for none. Copies no page. A row stands there; where the disk doesn't
 /// tell its contents and none does, the page counts as damaged.

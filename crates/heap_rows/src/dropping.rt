@@ -1,9 +1,9 @@
 //! Dropping rows, whose slots become free.
 
 ghost use Rattle.std.specs.Prelude.{◌≡◌, ◌*◌, ◌<◌, ◌≤◌, [], length, take, IfErr, OnOk, OnErr};
-ghost use Rattle.page_store.specs.Keeps.{Keeps, Tells, Untold};
-ghost use Rattle.page_store.specs.Outcome.{NamesPage, Outcome};
-ghost use Rattle.logged_pages.specs.Survives.{Survives};
+ghost use Rattle.page_map.specs.Keeps.{Keeps, Tells, Untold};
+ghost use Rattle.page_map.specs.Outcome.{NamesPage, Outcome};
+ghost use Rattle.page_store.specs.Survives.{Survives};
 ghost use Rattle.heap_rows.specs.declared.dropping.TheConstants.{MAX_BYTES};
 ghost use Rattle.heap_rows.specs.Heaps.{relation_of, slots_a_page};
 ghost use Rattle.heap_rows.specs.HeapBlocks.{OfBlocks};
@@ -13,9 +13,9 @@ ghost use Rattle.heap_rows.specs.DroppedRows.{AreAscending, AreInUse, DropsRows,
 use crate::heap::{MAX_SLOTS, known, relation_of};
 use block_model::Place;
 use disk_trait::Disk;
-use logged_pages::PageStore;
 use page_layout::slots_are_read;
-use page_store::StoreError;
+use page_map::StoreError;
+use page_store::PageStore;
 use wal_record::Change;
 
 /// How many bytes the numbers of a page's slots have at most.

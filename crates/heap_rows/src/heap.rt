@@ -5,15 +5,15 @@ ghost use Rattle.store_layout.specs.DiskLayout.{relation_blocks};
 ghost use Rattle.page_layout.specs.declared.format.TheConstants.{MAX_ROW};
 ghost use Rattle.page_layout.specs.PageContents.{IsForm};
 ghost use Rattle.page_layout.specs.PageWrites.{AreValuesFor, RowHasBytes, row_length};
-ghost use Rattle.page_store.specs.Forms.{form_of};
-ghost use Rattle.page_store.specs.PageMap.{block_limit};
+ghost use Rattle.page_map.specs.Forms.{form_of};
+ghost use Rattle.page_map.specs.PageMap.{block_limit};
 ghost use Rattle.heap_rows.specs.declared.heap.TheConstants.{MAX_SLOTS};
 ghost use Rattle.heap_rows.specs.Heaps.{form_at, relation_of, slots_a_page, table_at};
 ghost use Rattle.heap_rows.specs.RowPlaces.{new_row};
 
 use block_model::{RowId, Table, Value};
 use page_layout::{Form, MAX_ROW, write_row};
-use page_store::tables_have_forms;
+use page_map::tables_have_forms;
 use store_layout::Layout;
 
 /// How many slots a page has at most: a row has 22 bytes and its values.

@@ -4,7 +4,7 @@ ghost use Rattle.std.specs.Prelude.{◌≡◌, ℕ, List, [], length};
 ghost use Rattle.block_model.specs.declared.place.Place.{Place as AnyPlace};
 ghost use Rattle.store_layout.specs.DiskLayout.{DiskLayout};
 ghost use Rattle.page_layout.specs.PageContents.{IsUnstarted, Slot};
-ghost use Rattle.page_store.specs.PageMap.{PageMap, page_at};
+ghost use Rattle.page_map.specs.PageMap.{PageMap, page_at};
 ghost use Rattle.heap_rows.specs.HeapBlocks.{HasBlocks, StartsFirst};
 
 use page_layout::slots_are_read;

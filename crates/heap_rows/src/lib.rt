@@ -4,7 +4,7 @@
 //! that the table may have is in use. `mark` sets the deleter of a row, `deleter_of` tells it, and `drop_dead` makes the
 //! slots of rows free. `rows_of` reads the rows of a block without taking memory, and `blocks` says how many there are. A
 //! call that answers an error leaves every page as it was. At every moment of a call, what a crash may leave opens to the
-//! pages from before it: a row, a mark or a drop is sure once the store is flushed. The crate stands on logged_pages.
+//! pages from before it: a row, a mark or a drop is sure once the store is flushed. The crate stands on page_store.
 #![tactic(auto)]
 
 mod deleters;
@@ -20,6 +20,7 @@ pub use deleters::deleter_of;
 pub use dropping::drop_dead;
 pub use laws::{blocks_of_a_table_are_one_list, unstarted_tables_have_no_blocks};
 pub use marking::mark;
+pub use page_store::PageStore;
 pub use putting::put;
 pub use reading::{blocks, rows_of};
 pub use rows::{PageRows, Stored};

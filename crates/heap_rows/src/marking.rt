@@ -1,9 +1,9 @@
 //! Marking a row as deleted.
 
 ghost use Rattle.std.specs.Prelude.{◌≡◌, ◌<◌, length, IfErr, OnOk, OnErr};
-ghost use Rattle.page_store.specs.Keeps.{Keeps, Tells, Untold};
-ghost use Rattle.page_store.specs.Outcome.{NamesPage, Outcome};
-ghost use Rattle.logged_pages.specs.Survives.{Survives};
+ghost use Rattle.page_map.specs.Keeps.{Keeps, Tells, Untold};
+ghost use Rattle.page_map.specs.Outcome.{NamesPage, Outcome};
+ghost use Rattle.page_store.specs.Survives.{Survives};
 ghost use Rattle.heap_rows.specs.Heaps.{relation_of};
 ghost use Rattle.heap_rows.specs.HeapBlocks.{OfBlocks};
 ghost use Rattle.heap_rows.specs.LeavesOthers.{LeavesOthers};
@@ -12,8 +12,8 @@ ghost use Rattle.heap_rows.specs.RowPlaces.{IsInUse, MarksRow, MarksSlot};
 use crate::heap::{known, relation_of};
 use block_model::{Place, Spot};
 use disk_trait::Disk;
-use logged_pages::PageStore;
-use page_store::StoreError;
+use page_map::StoreError;
+use page_store::PageStore;
 use wal_record::Change;
 
 /// The transaction becomes the deleter of the row at the spot, in place of an earlier one. After an error nothing is

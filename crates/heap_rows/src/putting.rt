@@ -6,11 +6,11 @@ ghost use Rattle.page_layout.specs.FreeSlots.{slot_count};
 ghost use Rattle.page_layout.specs.PageContents.{HasSlot, IsForm, IsRowOf};
 ghost use Rattle.page_layout.specs.PageWrites.{IsOfHeap};
 ghost use Rattle.page_layout.specs.RowBytes.{HaveKinds};
-ghost use Rattle.page_store.specs.Forms.{form_of};
-ghost use Rattle.page_store.specs.Keeps.{Keeps, Tells, Untold};
-ghost use Rattle.page_store.specs.Outcome.{NamesPage, Outcome};
-ghost use Rattle.page_store.specs.PageMap.{page_at};
-ghost use Rattle.logged_pages.specs.Survives.{Survives};
+ghost use Rattle.page_map.specs.Forms.{form_of};
+ghost use Rattle.page_map.specs.Keeps.{Keeps, Tells, Untold};
+ghost use Rattle.page_map.specs.Outcome.{NamesPage, Outcome};
+ghost use Rattle.page_map.specs.PageMap.{page_at};
+ghost use Rattle.page_store.specs.Survives.{Survives};
 ghost use Rattle.heap_rows.specs.Heaps.{kinds_at};
 ghost use Rattle.heap_rows.specs.LeavesOthers.{LeavesOtherPages, LeavesOthers};
 ghost use Rattle.heap_rows.specs.PutAnswers.{NamesTable, PutOutcome, SaysFull};
@@ -21,9 +21,9 @@ ghost use Rattle.heap_rows.specs.RowPut.{FillsFreeSlot, HasNoPlace, HasPlace, Is
 use crate::heap::{known, relation_of, slots_in_all, write_new};
 use block_model::{Place, RowId, Spot, Value};
 use disk_trait::Disk;
-use logged_pages::PageStore;
 use page_layout::{HEAP, MAX_ROW, slots_are_read};
-use page_store::{MachineFault, Room, StoreError};
+use page_map::{MachineFault, Room, StoreError};
+use page_store::PageStore;
 use store_layout::Layout;
 use wal_record::Change;
 

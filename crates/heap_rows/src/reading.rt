@@ -5,9 +5,9 @@ ghost use Rattle.page_layout.specs.FreeSlots.{slot_count};
 ghost use Rattle.page_layout.specs.PageContents.{HasSlots, IsForm, IsPageOf, IsRowOf, IsUnstarted, Slot};
 ghost use Rattle.page_layout.specs.PageWrites.{RowHasBytes};
 ghost use Rattle.page_layout.specs.RowBytes.{StoredRow};
-ghost use Rattle.page_store.specs.Keeps.{Keeps, Untold};
-ghost use Rattle.page_store.specs.Outcome.{NamesPage, Outcome};
-ghost use Rattle.logged_pages.specs.Survives.{Survives};
+ghost use Rattle.page_map.specs.Keeps.{Keeps, Untold};
+ghost use Rattle.page_map.specs.Outcome.{NamesPage, Outcome};
+ghost use Rattle.page_store.specs.Survives.{Survives};
 ghost use Rattle.heap_rows.specs.Heaps.{kinds_at, relation_of, slots_a_page};
 ghost use Rattle.heap_rows.specs.HeapBlocks.{OfBlocks, slots_of};
 ghost use Rattle.heap_rows.specs.StoredRows.{AreRowsOf, stored_in, stored_rows};
@@ -16,9 +16,9 @@ use crate::heap::{known, relation_of};
 use crate::rows::{PageRows, Stored};
 use block_model::{Place, Values};
 use disk_trait::Disk;
-use logged_pages::PageStore;
 use page_layout::{Form, Page, row_at, row_in, slot_count};
-use page_store::StoreError;
+use page_map::StoreError;
+use page_store::PageStore;
 
 /// `out`, which was made for the table, becomes the rows in use of a block that the table may have, in order of slot.
 /// Takes no memory. After an error `out` is as before.

@@ -1,10 +1,10 @@
 -- The relation of an index, its form and its limit.
 use Rattle.std.proofs.Common.{◌≡◌, ℕ, zero, suc, ◌+◌, ◌<◌, List, [], ◌∷◌, ◌++◌, length, map, get_or, refl, ap, ◌∙◌, arith}
 use Rattle.store_layout.specs.DiskLayout.{DiskLayout, relation_blocks}
-use Rattle.page_layout.specs.HeapForms.{heap_form}
-use Rattle.page_layout.specs.declared.page.Form.TheVariants as forms
-use Rattle.page_store.specs.Forms.{form_of, forms_of}
-use Rattle.page_store.specs.PageMap.{block_limit}
+use Rattle.recovery.specs.HeapForms.{heap_form}
+use Rattle.recovery.specs.Form.TheVariants as forms
+use Rattle.recovery.specs.Forms.{form_of, forms_of}
+use Rattle.recovery.specs.PageMap.{block_limit}
 use Rattle.index_contents.specs.IndexContents.{relation_of}
 
 -- an element behind others

@@ -7,11 +7,11 @@ use Rattle.block_model.specs.Causes.{rose_earlier}
 use Rattle.block_model.specs.declared.place.Place.{Place}
 use Rattle.store_layout.specs.DiskLayout.{DiskLayout, relation_blocks}
 use Rattle.disk_trait.specs.Told.{Told}
-use Rattle.page_store.specs.declared.faults.StoreError.{StoreError}
-use Rattle.page_store.specs.declared.faults.StoreError.TheVariants as errors
-use Rattle.page_store.specs.Keeps.{Keeps, Untold, keeps_then}
-use Rattle.page_store.specs.Outcome.{Outcome, Refused}
-use Rattle.page_store.specs.PageMap.{IsWhole, PageMap, View, block_at, block_limit, page_at, unstarted_page}
+use Rattle.recovery.specs.StoreError.{StoreError}
+use Rattle.recovery.specs.StoreError.TheVariants as errors
+use Rattle.recovery.specs.Keeps.{Keeps, Untold, keeps_then}
+use Rattle.recovery.specs.Outcome.{Outcome, Refused}
+use Rattle.recovery.specs.PageMap.{IsWhole, PageMap, View, block_at, block_limit, page_at, unstarted_page}
 use Rattle.index_contents.specs.IndexChanges.{LeavesOtherPages}
 
 -- an error of a second call is one of both

@@ -3,8 +3,8 @@ use Rattle.std.specs.Prelude.{◌≡◌, ◌≢◌, ℕ, ◌≤◌, List, length
 use Rattle.block_model.specs.declared.place.Place.{Place}
 use Rattle.block_model.specs.declared.place.Spot.{Spot}
 use Rattle.disk_trait.specs.Told.{Told}
-use Rattle.page_store.specs.Keeps.{Leaves, Tells}
-use Rattle.page_store.specs.PageMap.{View, page_at}
+use Rattle.recovery.specs.Keeps.{Leaves, Tells}
+use Rattle.recovery.specs.PageMap.{View, page_at}
 use Rattle.coverage.specs.IndexView.{Regular}
 use Rattle.coverage.specs.Changes.{BecomesAt, ChangesAt}
 use Rattle.coverage.specs.Steps.{TurnsPage}

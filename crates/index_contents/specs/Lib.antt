@@ -5,3 +5,11 @@ pub mod Calls
 pub mod PageLaws
 pub mod MapLaws
 pub mod Reading
+pub mod KeepsOrder
+pub mod OrderLaws
+pub mod OrderedCalls
+pub use Rattle.recovery.specs.PageOrder
+pub use Rattle.index_layout.specs.IndexPages
+pub use Rattle.index_layout.specs.IndexReading
+pub use Rattle.index_layout.specs.IndexWrites
+pub use Rattle.index_layout.specs.declared.format.TheConstants

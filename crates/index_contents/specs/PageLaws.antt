@@ -6,8 +6,8 @@ use Rattle.block_model.specs.declared.place.Place.{Place}
 use Rattle.block_model.specs.declared.place.Spot.{Spot}
 use Rattle.store_layout.specs.DiskLayout.{DiskLayout}
 use Rattle.disk_trait.specs.Told.{Told}
-use Rattle.page_store.specs.Keeps.{Tells}
-use Rattle.page_store.specs.PageMap.{View}
+use Rattle.recovery.specs.Keeps.{Tells}
+use Rattle.recovery.specs.PageMap.{View}
 use Rattle.index_layout.specs.declared.format.TheConstants.{META, MAP, MAP_ENTRIES}
 use Rattle.index_layout.specs.IndexPages.{Slot}
 use Rattle.index_layout.specs.IndexReading.{entries_in, entries_of, map_pages_of, number_at}

@@ -6,7 +6,7 @@ use Rattle.std.proofs.lemmas.List.{get_or-replicate}
 use Rattle.block_model.specs.declared.limits.TheConstants.{PAGE_SIZE}
 use Rattle.block_model.specs.declared.place.Spot.{Spot}
 use Rattle.store_layout.specs.DiskLayout.{DiskLayout}
-use Rattle.page_store.specs.PageMap.{PageMap, block_at, unstarted_page}
+use Rattle.recovery.specs.PageMap.{PageMap, block_at, unstarted_page}
 use Rattle.index_layout.specs.declared.format.TheConstants.{UNSTARTED, META, MAP, MAP_ENTRIES}
 use Rattle.index_layout.specs.IndexReading.{is_regular, map_pages_of, number_at, slots_in, slots_of}
 use Rattle.coverage.specs.IndexView.{Mapping, map_page_of}

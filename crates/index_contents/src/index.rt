@@ -2,13 +2,13 @@
 
 ghost use Rattle.std.specs.Prelude.{◌≡◌, ◌<◌, ◌≤◌, List, ℕ, length};
 ghost use Rattle.store_layout.specs.DiskLayout.{DiskLayout, relation_blocks};
-ghost use Rattle.page_layout.specs.declared.page.Form.TheVariants as forms;
-ghost use Rattle.page_store.specs.Forms.{IsPageIn, form_of};
-ghost use Rattle.page_store.specs.PageMap.{block_limit};
+ghost use Rattle.recovery.specs.Form.TheVariants as forms;
+ghost use Rattle.recovery.specs.Forms.{IsPageIn, form_of};
+ghost use Rattle.recovery.specs.PageMap.{block_limit};
 ghost use Rattle.index_layout.specs.IndexPages.{IsIndexPage};
 ghost use Rattle.index_contents.specs.IndexContents.{relation_of};
 
-use page_store::tables_have_forms;
+use recovery::tables_have_forms;
 use store_layout::Layout;
 
 /// The relation of the index.

@@ -4,7 +4,7 @@ use Rattle.std.specs.Option.{option_map}
 use Rattle.block_model.specs.declared.place.Place.{Place}
 use Rattle.block_model.specs.declared.place.Spot.{Spot}
 use Rattle.store_layout.specs.DiskLayout.{DiskLayout}
-use Rattle.page_store.specs.PageMap.{PageMap}
+use Rattle.page_map.specs.PageMap.{PageMap}
 use Rattle.page_locks.specs.LockChanges.{IsFirstHeld, TakesAll, page_of}
 use Rattle.page_locks.specs.LockHolders.{LockState}
 use Rattle.coverage.specs.Changes.{IsFree}

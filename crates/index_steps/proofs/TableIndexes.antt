@@ -6,12 +6,12 @@ use Rattle.block_model.specs.declared.place.Spot.{Spot}
 use Rattle.block_model.specs.declared.row.Row.{Row}
 use Rattle.block_model.specs.declared.schema.Index.{Index as AnIndex}
 use Rattle.store_layout.specs.DiskLayout.{DiskLayout}
-use Rattle.page_store.specs.PageMap.{PageMap}
+use Rattle.page_map.specs.PageMap.{PageMap}
 use Rattle.page_locks.specs.LockHolders.{LockState}
 use Rattle.coverage.specs.IndexView.{IndexView, range_of_block}
 use Rattle.coverage.specs.Statements.{building_of, loose_of}
-use Rattle.table_coverage.specs.Machines.{Unseen, table_state}
-use Rattle.table_coverage.specs.Table.{Index, TableState, index_view_at, seen_by}
+use Rattle.coverage.specs.Machines.{Unseen, table_state}
+use Rattle.coverage.specs.Table.{Index, TableState, index_view_at, seen_by}
 use Rattle.index_contents.specs.IndexContents.{contents}
 use Rattle.index_steps.specs.IndexTuples.{contents_of, index_at, shape_of}
 use Rattle.index_steps.specs.ShownIndex.{Shows, lock_in, tuple_in_place}

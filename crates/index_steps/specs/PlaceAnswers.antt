@@ -4,8 +4,8 @@ use Rattle.block_model.specs.declared.place.Place.{Place}
 use Rattle.block_model.specs.declared.place.Spot.{Spot}
 use Rattle.store_layout.specs.DiskLayout.{DiskLayout}
 use Rattle.disk_trait.specs.Told.{Told}
-use Rattle.page_store.specs.Keeps.{Keeps}
-use Rattle.page_store.specs.PageMap.{View}
+use Rattle.page_map.specs.Keeps.{Keeps}
+use Rattle.page_map.specs.PageMap.{View}
 use Rattle.page_locks.specs.LockChanges.{TakesAll}
 use Rattle.page_locks.specs.LockHolders.{LockState}
 use Rattle.coverage.specs.IndexView.{Building, IndexTuple, IndexView, IsPastMap, map_page_of}

@@ -2,8 +2,8 @@
 use Rattle.std.specs.Prelude.{◌≡◌, ◌≢◌, ℕ, List, Option, None, Some}
 use Rattle.block_model.specs.declared.place.Spot.{Spot}
 use Rattle.store_layout.specs.DiskLayout.{DiskLayout, page_offset}
-use Rattle.page_store.specs.declared.faults.StoreError.{StoreError}
-use Rattle.page_store.specs.declared.faults.StoreError.TheVariants as errors
+use Rattle.page_map.specs.declared.faults.StoreError.{StoreError}
+use Rattle.page_map.specs.declared.faults.StoreError.TheVariants as errors
 use Rattle.range_tuple.specs.TupleBytes.{tuple_bytes}
 use Rattle.range_tuple.specs.TupleReading.{tuple_in}
 use Rattle.range_tuple.specs.Tuples.{Tuple}

@@ -4,8 +4,8 @@ use Rattle.std.specs.Option.{option_map}
 use Rattle.block_model.specs.declared.place.Spot.{Spot}
 use Rattle.store_layout.specs.DiskLayout.{DiskLayout}
 use Rattle.disk_trait.specs.Told.{Told}
-use Rattle.page_store.specs.Keeps.{Keeps, Tells}
-use Rattle.page_store.specs.PageMap.{View}
+use Rattle.page_map.specs.Keeps.{Keeps, Tells}
+use Rattle.page_map.specs.PageMap.{View}
 use Rattle.page_locks.specs.LockChanges.{page_of}
 use Rattle.page_locks.specs.LockHolders.{LockState, holder}
 use Rattle.coverage.specs.IndexPart.{IndexPart}

@@ -3,14 +3,14 @@ use Rattle.std.specs.Prelude.{◌≡◌, ℕ, List, length, Option, None, Some}
 use Rattle.block_model.specs.declared.row.Row.{Row}
 use Rattle.store_layout.specs.DiskLayout.{DiskLayout}
 use Rattle.page_layout.specs.PageContents.{Slot}
-use Rattle.page_store.specs.PageMap.{PageMap}
+use Rattle.page_map.specs.PageMap.{PageMap}
 use Rattle.page_locks.specs.LockHolders.{LockState}
 use Rattle.heap_rows.specs.HeapBlocks.{HasBlocks}
 use Rattle.heap_rows.specs.Heaps.{slots_a_page}
 use Rattle.heap_rows.specs.RowPlaces.{slot_at}
-use Rattle.table_coverage.specs.Machines.{ShownTable, Unseen, table_state}
-use Rattle.table_coverage.specs.Table.{Task}
-use Rattle.table_coverage.specs.TableCovered.{IsTableKept}
+use Rattle.coverage.specs.Machines.{ShownTable, Unseen, table_state}
+use Rattle.coverage.specs.Table.{Task}
+use Rattle.coverage.specs.TableCovered.{IsTableKept}
 use Rattle.index_steps.specs.ShownTable.{shown_table}
 
 -- the row in a slot of a table's block, deleted or not

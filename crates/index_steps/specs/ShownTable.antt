@@ -3,10 +3,10 @@ use Rattle.std.specs.Prelude.{ℕ, ◌+◌, ◌==◌, if◌then◌else◌, false
 use Rattle.block_model.specs.declared.row.Row.{Row}
 use Rattle.block_model.specs.declared.schema.Index.{Index}
 use Rattle.store_layout.specs.DiskLayout.{DiskLayout}
-use Rattle.page_store.specs.PageMap.{PageMap}
+use Rattle.page_map.specs.PageMap.{PageMap}
 use Rattle.page_locks.specs.LockHolders.{LockState}
 use Rattle.coverage.specs.IndexView.{Unstarted}
-use Rattle.table_coverage.specs.Machines.{ShownIndex, ShownTable}
+use Rattle.coverage.specs.Machines.{ShownIndex, ShownTable}
 use Rattle.index_contents.specs.IndexContents.{contents}
 use Rattle.index_steps.specs.IndexTuples.{contents_of, index_at, shape_of}
 use Rattle.index_steps.specs.ShownIndex.{lock_in, tuple_in_place}

@@ -1,10 +1,10 @@
 -- what a step of a statement in an index leaves where it is blocked
 use Rattle.std.specs.Prelude.{◌≡◌, ℕ}
 use Rattle.disk_trait.specs.Told.{Told}
-use Rattle.page_store.specs.declared.faults.MachineFault.{MachineFault}
-use Rattle.page_store.specs.declared.faults.MachineFault.TheVariants as faults
-use Rattle.page_store.specs.Keeps.{Keeps}
-use Rattle.page_store.specs.PageMap.{View}
+use Rattle.page_map.specs.declared.faults.MachineFault.{MachineFault}
+use Rattle.page_map.specs.declared.faults.MachineFault.TheVariants as faults
+use Rattle.page_map.specs.Keeps.{Keeps}
+use Rattle.page_map.specs.PageMap.{View}
 use Rattle.page_locks.specs.declared.did.Did.{Did}
 use Rattle.page_locks.specs.declared.did.Did.TheVariants as did
 use Rattle.page_locks.specs.LockHolders.{LockState}

@@ -4,11 +4,11 @@ use Rattle.block_model.specs.declared.place.Place.{Place}
 use Rattle.block_model.specs.declared.place.Spot.{Spot}
 use Rattle.store_layout.specs.DiskLayout.{DiskLayout}
 use Rattle.disk_trait.specs.Told.{Told}
-use Rattle.page_store.specs.declared.faults.MachineFault.{MachineFault}
-use Rattle.page_store.specs.declared.faults.MachineFault.TheVariants as faults
-use Rattle.page_store.specs.Keeps.{Keeps}
-use Rattle.page_store.specs.Outcome.{Outcome, Refused}
-use Rattle.page_store.specs.PageMap.{View}
+use Rattle.page_map.specs.declared.faults.MachineFault.{MachineFault}
+use Rattle.page_map.specs.declared.faults.MachineFault.TheVariants as faults
+use Rattle.page_map.specs.Keeps.{Keeps}
+use Rattle.page_map.specs.Outcome.{Outcome, Refused}
+use Rattle.page_map.specs.PageMap.{View}
 use Rattle.page_locks.specs.declared.held.Held.{Held}
 use Rattle.page_locks.specs.LockChanges.{GivesAll, TakesAll}
 use Rattle.page_locks.specs.LockCounts.{AddsAtMost, locks_of}

@@ -1,14 +1,14 @@
 //! The end of a move: the map names the new tuple, and the old one goes.
 
 ghost use Rattle.std.specs.Prelude.{◌≡◌, ◌<◌, ℕ, Option, length, IfErr, OnOk, OnErr};
-ghost use Rattle.page_store.specs.Keeps.{Keeps, Tells, Untold};
-ghost use Rattle.page_store.specs.Outcome.{Outcome};
-ghost use Rattle.logged_pages.specs.Survives.{Survives};
+ghost use Rattle.page_map.specs.Keeps.{Keeps, Tells, Untold};
+ghost use Rattle.page_map.specs.Outcome.{Outcome};
+ghost use Rattle.heap_rows.specs.Survives.{Survives};
 ghost use Rattle.page_locks.specs.LockHolders.{holder};
 ghost use Rattle.coverage.specs.IndexView.{Building, IndexView};
 ghost use Rattle.index_contents.specs.IndexContents.{contents, relation_of};
 ghost use Rattle.index_contents.specs.IndexChanges.{LeavesOthers};
-ghost use Rattle.index_order.specs.KeepsOrder.{KeepsOrder};
+ghost use Rattle.index_contents.specs.KeepsOrder.{KeepsOrder};
 ghost use Rattle.index_steps.specs.IndexTuples.{shape_of};
 ghost use Rattle.index_steps.specs.MoveEnds.{DropsIn, IsMoving, SetsIn};
 ghost use Rattle.index_steps.specs.Readings.{NamesPageOf};
@@ -19,9 +19,9 @@ use crate::reading::page_at;
 use crate::swapping::Within;
 use block_model::Spot;
 use disk_trait::Disk;
-use logged_pages::PageStore;
+use heap_rows::PageStore;
 use page_locks::Locks;
-use page_store::StoreError;
+use page_map::StoreError;
 use range_store::drop_at;
 use revmap::{SetFault, set};
 

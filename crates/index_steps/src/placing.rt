@@ -1,14 +1,14 @@
 //! A tuple for a range that has none: it is put, and the map comes to name it.
 
 ghost use Rattle.std.specs.Prelude.{◌≡◌, ◌+◌, ◌<◌, ◌≤◌, None, length, IfOk, IfErr, OnOk, OnErr};
-ghost use Rattle.page_store.specs.Keeps.{Keeps, Tells, Untold};
-ghost use Rattle.page_store.specs.Outcome.{Outcome};
-ghost use Rattle.logged_pages.specs.Survives.{Survives};
+ghost use Rattle.page_map.specs.Keeps.{Keeps, Tells, Untold};
+ghost use Rattle.page_map.specs.Outcome.{Outcome};
+ghost use Rattle.heap_rows.specs.Survives.{Survives};
 ghost use Rattle.page_locks.specs.LockHolders.{count_of, holder};
 ghost use Rattle.range_store.specs.Tuples.{IsTupleSize};
 ghost use Rattle.index_contents.specs.IndexContents.{contents, relation_of};
 ghost use Rattle.index_contents.specs.IndexChanges.{LeavesOthers};
-ghost use Rattle.index_order.specs.KeepsOrder.{KeepsOrder};
+ghost use Rattle.index_contents.specs.KeepsOrder.{KeepsOrder};
 ghost use Rattle.index_steps.specs.IndexTuples.{seen, shape_of};
 ghost use Rattle.index_steps.specs.PlaceAnswers.{IsPlacing, IsPutFull, NamesIn, PagesPlaced, PlaceMakes, PlaceWaits, PlacedLocks};
 ghost use Rattle.index_steps.specs.Readings.{NamesPageOf};
@@ -19,10 +19,10 @@ use crate::reading::page_at;
 use crate::swapping::{Within, map_page_of};
 use block_model::Spot;
 use disk_trait::Disk;
+use heap_rows::PageStore;
 use index_contents::relation_of;
-use logged_pages::PageStore;
 use page_locks::{Held, Locks};
-use page_store::{MachineFault, StoreError};
+use page_map::{MachineFault, StoreError};
 use range_store::{a_target_takes_its_tuple, put, room_for};
 use revmap::{SetFault, set};
 

@@ -1,10 +1,10 @@
 //! Reading the map, and copying the tuple of a range.
 
 ghost use Rattle.std.specs.Prelude.{◌≡◌, ◌<◌, true, false, length, IfOk, IfErr, IfSome, OnOk};
-ghost use Rattle.page_store.specs.Keeps.{Keeps, Tells};
-ghost use Rattle.page_store.specs.declared.faults.StoreError.TheVariants as errors;
-ghost use Rattle.page_store.specs.Outcome.{Outcome};
-ghost use Rattle.logged_pages.specs.Survives.{Survives};
+ghost use Rattle.page_map.specs.Keeps.{Keeps, Tells};
+ghost use Rattle.page_map.specs.declared.faults.StoreError.TheVariants as errors;
+ghost use Rattle.page_map.specs.Outcome.{Outcome};
+ghost use Rattle.heap_rows.specs.Survives.{Survives};
 ghost use Rattle.range_tuple.specs.Tuples.{parts_of};
 ghost use Rattle.index_contents.specs.IndexContents.{contents};
 ghost use Rattle.index_steps.specs.IndexTuples.{classes_of, shape_of};
@@ -12,9 +12,9 @@ ghost use Rattle.index_steps.specs.Readings.{HasRangeAt, IsMisnamed, IsMisread, 
 
 use block_model::{Place, Spot};
 use disk_trait::Disk;
+use heap_rows::PageStore;
 use index_contents::relation_of;
-use logged_pages::PageStore;
-use page_store::StoreError;
+use page_map::StoreError;
 use range_store::{Scratch, tuple_at};
 use range_tuple::RangeTuple;
 use revmap::entry;

@@ -1,26 +1,26 @@
 //! A new tuple in the place of the one that was copied.
 
 ghost use Rattle.std.specs.Prelude.{◌≡◌, ◌+◌, ◌<◌, ◌≤◌, List, ℕ, Some, None, length, IfOk, IfErr, IfSome, IfNone, OnOk, OnErr};
-ghost use Rattle.page_store.specs.Keeps.{Keeps, Tells, Untold};
-ghost use Rattle.logged_pages.specs.Survives.{Survives};
+ghost use Rattle.page_map.specs.Keeps.{Keeps, Tells, Untold};
+ghost use Rattle.heap_rows.specs.Survives.{Survives};
 ghost use Rattle.page_locks.specs.LockChanges.{IsAnothers, IsFreeFor, page_of};
 ghost use Rattle.page_locks.specs.LockHolders.{count_of, holder};
 ghost use Rattle.coverage.specs.IndexView.{map_page_of};
 ghost use Rattle.range_store.specs.Tuples.{IsTupleSize};
 ghost use Rattle.index_contents.specs.IndexContents.{contents, relation_of};
 ghost use Rattle.index_contents.specs.IndexChanges.{LeavesOthers};
-ghost use Rattle.index_order.specs.KeepsOrder.{KeepsOrder};
+ghost use Rattle.index_contents.specs.KeepsOrder.{KeepsOrder};
 ghost use Rattle.index_steps.specs.IndexTuples.{seen, shape_of};
 ghost use Rattle.index_steps.specs.ShownIndex.{lock_in};
 ghost use Rattle.index_steps.specs.SwapAnswers.{FaultNamesPageOf, IsSwapFull, LeavesLocks, LocksAfter, MachineOutcome, MustLeave, PagesAfter, SaysFullIn, StaysWhereFull, SwapMakes, TakesAtMost, WaitsFor};
 
 use block_model::{Place, Spot};
 use disk_trait::Disk;
+use heap_rows::PageStore;
 use index_contents::relation_of;
 use index_layout::MAP_ENTRIES;
-use logged_pages::PageStore;
 use page_locks::{Held, Locks};
-use page_store::MachineFault;
+use page_map::MachineFault;
 use range_store::{SwapFault, a_target_takes_its_tuple, put, replace, room_for};
 
 /// Where a statement is at work: in which index, at which range, and for whom.

@@ -1,6 +1,6 @@
 -- what a source and a sink in memory hold
 use Rattle.std.specs.Prelude.{ℕ, ◌-◌, ◌<◌, ◌≤◌, min, List, length}
-use Rattle.call_counts.specs.Calls.{CallCounts}
+use Rattle.disk_trait.specs.Calls.{CallCounts}
 
 -- a source in memory: the bytes that are left, and how many a call gives at most
 pub record Reading : Type 0 where

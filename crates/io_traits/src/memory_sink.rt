@@ -3,12 +3,12 @@
 ghost use Rattle.std.specs.Prelude.{◌≡◌, ◌↔◌, ◌⊎◌, ◌<◌, ◌≤◌, ◌++◌, [], Some, length, take, IfOk, IsOk, IsErr, OnErr};
 ghost use Rattle.std.specs.Io.KnownBytes.{WriteAppends};
 ghost use Rattle.block_model.specs.Causes.{HasCause};
-ghost use Rattle.call_counts.specs.Calls.{FailsNext, fresh, succeeded, failed};
+ghost use Rattle.disk_trait.specs.Calls.{FailsNext, fresh, succeeded, failed};
 ghost use Rattle.io_traits.specs.Memory.{taken_count, IsFullFor};
 
 use crate::sink::{Sink, SinkFault};
 use block_model::NoMemory;
-use call_counts::Calls;
+use disk_trait::Calls;
 use std::alloc::Global;
 use std::marker::Model;
 

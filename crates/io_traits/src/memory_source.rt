@@ -4,11 +4,11 @@ ghost use Rattle.std.specs.Prelude.{◌≡◌, ◌↔◌, ◌<◌, ◌≤◌, So
 ghost use Rattle.std.specs.Io.{ReadsAtMost};
 ghost use Rattle.std.specs.Io.KnownBytes.{ReadConsumes};
 ghost use Rattle.block_model.specs.Causes.{HasCause};
-ghost use Rattle.call_counts.specs.Calls.{FailsNext, fresh, succeeded, failed};
+ghost use Rattle.disk_trait.specs.Calls.{FailsNext, fresh, succeeded, failed};
 ghost use Rattle.io_traits.specs.Memory.{given_count};
 
 use crate::source::{Source, SourceFault};
-use call_counts::Calls;
+use disk_trait::Calls;
 use std::marker::Model;
 
 /// A source that gives bytes of memory in pieces, and fails where it is told to.

@@ -4,10 +4,10 @@ ghost use Rattle.std.specs.Prelude.{◌≡◌, ℕ, List, ◌<◌, ◌≤◌, le
 ghost use Rattle.std.specs.declared.option.Option.{Option};
 ghost use Rattle.std.specs.Io.KnownBytes.{WriteAppends, Appends};
 ghost use Rattle.block_model.specs.Causes.{HasCause};
-ghost use Rattle.call_counts.specs.Calls.{CountsFault};
+ghost use Rattle.disk_trait.specs.Calls.{CountsFault};
 ghost use Rattle.io_traits.specs.Written.{AppendsPart};
 
-use call_counts::counted;
+use disk_trait::counted;
 use std::io::Write;
 use thiserror::Error;
 

@@ -5,9 +5,9 @@ ghost use Rattle.std.specs.declared.option.Option.{Option};
 ghost use Rattle.std.specs.Io.{ReadsAtMost};
 ghost use Rattle.std.specs.Io.KnownBytes.{ReadConsumes};
 ghost use Rattle.block_model.specs.Causes.{HasCause};
-ghost use Rattle.call_counts.specs.Calls.{CountsFault};
+ghost use Rattle.disk_trait.specs.Calls.{CountsFault};
 
-use call_counts::counted;
+use disk_trait::counted;
 use std::io::Read;
 use thiserror::Error;
 

@@ -9,7 +9,7 @@ use Rattle.std.proofs.lemmas.List.Sums.{sum_by-cons}
 use Rattle.block_model.specs.declared.value.Kind.{Kind}
 use Rattle.block_model.specs.declared.value.Value.TheVariants.{Null}
 use Rattle.block_model.specs.RowSize.{value_size, row_size}
-use Rattle.byte_fields.specs.Fields.{AreBytes, number_of, AreBytes-drop, AreBytes-take}
+use Rattle.index_layout.specs.Fields.{AreBytes, number_of, AreBytes-drop, AreBytes-take}
 use Rattle.page_layout.specs.RowBytes.{StoredRow, column_bytes, columns_bytes, head_bytes, row_bytes}
 use Rattle.page_layout.specs.RowReading.{column_in, columns_in, row_in}
 use Rattle.page_layout.specs.RowFaults.{first_of, shifted, fault_unless, column_fault, columns_fault, row_fault, free_fault, slot_fault}

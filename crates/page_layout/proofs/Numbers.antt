@@ -5,9 +5,9 @@ use Rattle.std.specs.Prelude.{Option, None, Some, unwrap_or}
 use Rattle.std.proofs.lemmas.Bool.{eqb-true}
 use Rattle.std.proofs.lemmas.Int.{of_z-to_z, to_z-of_z}
 use Rattle.std.proofs.lemmas.List.{length-take-le}
-use Rattle.byte_fields.specs.Fields.{AreBytes, AreBytes-take, number_of, bytes-number, number-fits, put_at}
-use Rattle.byte_fields.specs.Int8.{int8_bytes, number_back}
-use Rattle.byte_fields.specs.Written.{put-next}
+use Rattle.index_layout.specs.Fields.{AreBytes, AreBytes-take, number_of, bytes-number, number-fits, put_at}
+use Rattle.index_layout.specs.Int8.{int8_bytes, number_back}
+use Rattle.index_layout.specs.Written.{put-next}
 use Rattle.page_layout.specs.RowBytes.{bound_bytes}
 
 -- the bytes of a signed number spell it

@@ -6,7 +6,7 @@ use Rattle.std.proofs.lemmas.List.{length-replicate, take_all, take-append-drop,
 use Rattle.std.proofs.Math.Nat.{suc-mul, mul-le-mul_right}
 use Rattle.block_model.specs.declared.value.Kind.{Kind}
 use Rattle.block_model.specs.RowSize.{row_size}
-use Rattle.byte_fields.specs.Fields.{AreBytes, AreBytes-drop}
+use Rattle.index_layout.specs.Fields.{AreBytes, AreBytes-drop}
 use Rattle.page_layout.specs.declared.page.Form.{Form}
 use Rattle.page_layout.specs.declared.page.Form.TheVariants as forms
 use Rattle.page_layout.specs.RowFaults.{first_of, shifted, slot_fault}

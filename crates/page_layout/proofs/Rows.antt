@@ -9,7 +9,7 @@ use Rattle.std.proofs.lemmas.List.Sums.{sum_by-cons}
 use Rattle.block_model.specs.declared.value.Kind.{Kind}
 use Rattle.block_model.specs.declared.value.Value.{Value}
 use Rattle.block_model.specs.RowSize.{value_size, row_size}
-use Rattle.byte_fields.specs.Fields.{AreBytes, number_of, number-bytes, AreBytes-drop}
+use Rattle.index_layout.specs.Fields.{AreBytes, number_of, number-bytes, AreBytes-drop}
 use Rattle.page_layout.specs.RowBytes.{StoredRow, IsRow, HaveKinds, AreValues, column_bytes, columns_bytes, head_bytes, row_bytes, null_bits, is_null}
 use Rattle.page_layout.specs.RowReading.{column_in, columns_in, row_in}
 use Rattle.page_layout.specs.RowFaults.{first_of, shifted, fault_unless, column_fault, columns_fault, row_fault}

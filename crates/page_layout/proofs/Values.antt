@@ -14,8 +14,8 @@ use Rattle.block_model.specs.declared.value.Value.TheVariants.{Null, Int, Span, 
 use Rattle.block_model.specs.Ranges.{Range, Empty, Between, IsRange, lower_of, upper_of}
 use Rattle.block_model.specs.RowSize.{value_size}
 use Rattle.block_model.specs.ValuesOfKind.{has_kind}
-use Rattle.byte_fields.specs.Int8.{int8_at}
-use Rattle.byte_fields.specs.Fields.{AreBytes, number_of, number-bytes, AreBytes-drop}
+use Rattle.index_layout.specs.Int8.{int8_at}
+use Rattle.index_layout.specs.Fields.{AreBytes, number_of, number-bytes, AreBytes-drop}
 use Rattle.page_layout.specs.RowBytes.{IsValue, IsBound, column_bytes, range_flags, bound_bytes, is_null}
 use Rattle.page_layout.specs.RowReading.{stored_range, value_in, column_in}
 use Rattle.page_layout.specs.RowFaults.{first_of, fault_unless, absent_fault, range_fault, value_fault, null_fault, column_fault}

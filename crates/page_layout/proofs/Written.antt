@@ -2,7 +2,7 @@
 use Rattle.std.proofs.Common.{◌≡◌, ℕ, ◌+◌, ◌≤◌, List, ◌++◌, length, drop, ap, ◌∙◌}
 use Rattle.std.proofs.lemmas.List.{append-nil, drop_all}
 use borrow.Rule.Slice.PartMut.{put_mid}
-use Rattle.byte_fields.specs.Written.{part_next}
+use Rattle.index_layout.specs.Written.{part_next}
 
 -- behind a front of k bytes
 pub all_next : (old out front mid : List ℕ) (k m : ℕ) → out ≡ front ++ drop k old → length front ≡ k → length old ≤ k + m → put_mid k m out mid ≡ front ++ mid

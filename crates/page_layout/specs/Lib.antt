@@ -10,3 +10,11 @@ pub mod PageFaults
 pub mod PageWrites
 pub mod HeapForms
 pub mod RowSizes
+pub use Rattle.index_layout.specs.IndexPages
+pub use Rattle.index_layout.specs.IndexReading
+pub use Rattle.index_layout.specs.IndexWrites
+pub use Rattle.index_layout.specs.declared.format.TheConstants
+pub use Rattle.index_layout.specs.Fields
+pub use Rattle.store_layout.specs.DiskLayout
+pub use Rattle.store_layout.specs.FirstBrokenRule
+pub use Rattle.store_layout.specs.Limits

@@ -5,7 +5,7 @@ use Rattle.block_model.specs.declared.value.Kind.{Kind}
 use Rattle.block_model.specs.declared.value.Kind.TheVariants as kinds
 use Rattle.block_model.specs.RowSize.{value_size}
 use Rattle.page_layout.specs.RowReading.{number_at}
-use Rattle.byte_fields.specs.Int8.{int8_at}
+use Rattle.index_layout.specs.Int8.{int8_at}
 
 -- a fault of the part before, or of the part behind it
 abbrev pub first_of : Option ℕ → Option ℕ → Option ℕ

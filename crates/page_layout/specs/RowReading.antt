@@ -8,8 +8,8 @@ use Rattle.block_model.specs.Ranges.{Range, Empty, Between}
 use Rattle.block_model.specs.Networks.{network_v4}
 use Rattle.block_model.specs.RowSize.{value_size}
 use Rattle.page_layout.specs.RowBytes.{StoredRow}
-use Rattle.byte_fields.specs.Fields.{field_at, number_of}
-use Rattle.byte_fields.specs.Int8.{int8_at}
+use Rattle.index_layout.specs.Fields.{field_at, number_of}
+use Rattle.index_layout.specs.Int8.{int8_at}
 
 -- the number of n bytes from a place
 abbrev pub number_at : List ℕ → ℕ → ℕ → ℕ

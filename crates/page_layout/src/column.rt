@@ -8,7 +8,7 @@ ghost use Rattle.page_layout.specs.RowReading.{column_in, columns_in, value_in, 
 ghost use Rattle.page_layout.specs.RowFaults.{columns_fault, column_fault, value_fault, range_fault};
 
 use block_model::{Kind, Net, Span8, Value, Values};
-use byte_fields::{get_i64, get_u32, put_i64, put_u32};
+use index_layout::{get_i64, get_u32, put_i64, put_u32};
 
 /// The family of addresses of 32 bits.
 pub(crate) const FAMILY_V4: u8 = 4;

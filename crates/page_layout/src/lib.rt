@@ -34,4 +34,5 @@ pub use laws::slots_are_read;
 pub use page::{Form, Page, PageFault};
 pub use readers::{kind_of, row_at, status_at};
 pub use row::{decode_row, encode_row, heap_form, kinds_of, row_in, row_size, write_row};
+pub use store_layout::Layout;
 pub use writers::{clear_slot, is_row, mark_row, put_row, set_status, start_heap};

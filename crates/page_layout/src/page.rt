@@ -2,7 +2,7 @@
 
 ghost use Rattle.std.specs.Prelude.{◌≡◌, ◌+◌, ◌≤◌, length, replicate};
 ghost use Rattle.block_model.specs.declared.limits.TheConstants.{PAGE_SIZE};
-ghost use Rattle.byte_fields.specs.Fields.{AreBytes};
+ghost use Rattle.index_layout.specs.Fields.{AreBytes};
 ghost use borrow.Rule.Slice.PartMut.{put_mid};
 
 use block_model::{Kinds, PAGE_SIZE};

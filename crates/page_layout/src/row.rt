@@ -14,7 +14,7 @@ ghost use Rattle.page_layout.specs.RowBytes.{AreBytesOf, HaveKinds, IsReadAs, Is
 use crate::column::{columns_size, read_columns, write_columns};
 use crate::page::Form;
 use block_model::{Kind, Kinds, RowId, Table, Value, Values};
-use byte_fields::{get_u32, get_u64, put_u32, put_u64};
+use index_layout::{get_u32, get_u64, put_u32, put_u64};
 use store_layout::FORMAT;
 
 /// The first byte of a slot in use, and of a free one.

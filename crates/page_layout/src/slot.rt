@@ -11,7 +11,7 @@ use crate::column::{
 };
 use crate::row::{COLUMNS, DELETER, FREE, ID_K, ID_T, IN_USE, NULL_BITS};
 use block_model::Kind;
-use byte_fields::{get_i64, get_u32, get_u64};
+use index_layout::{get_i64, get_u32, get_u64};
 
 /// The first field of a slot whose rule is broken.
 #[tactic(auto, unfolding(crate::specs::RowFaults::slot_fault))]

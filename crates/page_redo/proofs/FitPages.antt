@@ -1,6 +1,6 @@
 -- A change that begins no page anew fits only a page of the form.
 use Rattle.std.proofs.Common.{◌≡◌, ℕ, inr, List, refl, Bor}
-use Rattle.block_model.specs.declared.place.Place.{Place}
+use Rattle.wal_record.specs.Place.{Place}
 use Rattle.wal_record.specs.declared.change.Change.{Change}
 use Rattle.wal_record.specs.declared.change.Change.TheVariants as code
 use Rattle.wal_record.specs.Changes.{logged}

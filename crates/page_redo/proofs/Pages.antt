@@ -2,14 +2,14 @@
 use Rattle.std.proofs.Common.{◌≡◌, ℕ, suc, ◌+◌, ◌/◌, ◌%◌, ◌<◌, inr, Bool, true, false, eqb, MatchBool, List, [], ◌∷◌, ◌++◌, drop, get_or, refl, sym, ap, subst, ◌∙◌, arith}
 use Rattle.std.specs.Prelude.{Option, None, replicate}
 use Rattle.std.proofs.lemmas.List.{get_or-drop}
-use Rattle.block_model.specs.declared.place.Spot.{Spot}
-use Rattle.byte_fields.specs.Fields.{AreBytes}
+use Rattle.wal_record.specs.Spot.{Spot}
+use Rattle.page_layout.specs.Fields.{AreBytes}
 use Rattle.wal_record.specs.Changes.{LoggedChange, FullPage, PageStart, RowPut, RowMark, RowsDrop, TuplePut, TupleReplace, TupleDrop, Evacuate, MapPage, MapSet, MetaSet, StatusSet}
 use Rattle.page_layout.specs.declared.page.Form.{Form}
 use Rattle.page_layout.specs.declared.page.Form.TheVariants as forms
 use Rattle.page_layout.specs.PageContents.{Slot, HasSlots, IsPageOf, IsStatusPage, header_bytes, statuses}
 use Rattle.page_layout.specs.PageWrites.{IsEmptyHeap, IsOfHeap, IsOfIndex}
-use Rattle.index_layout.specs.IndexPages.{IsMap, IsRegular}
+use Rattle.page_layout.specs.IndexPages.{IsMap, IsRegular}
 use Rattle.page_layout.specs.IndexLaws.{index_page_of, map_page, meta_page, regular_page}
 use Rattle.page_layout.specs.SlotLaws.{has_page, row_has}
 use Rattle.page_redo.specs.Redo.{Fits, IsAnew, IsOfStatuses, Means, Redone}

@@ -1,8 +1,8 @@
 -- Which kinds of pages a change starts, and what they are.
 use Rattle.std.proofs.Common.{◌≡◌, ℕ, ◌||◌, Bool, true, false, eqb, MatchBool, List, [], refl, sym, subst}
 use Rattle.std.proofs.lemmas.Bool.{eqb-true}
-use Rattle.block_model.specs.declared.value.Kind.{Kind}
-use Rattle.index_layout.specs.IndexPages.{IsMap, IsRegular}
+use Rattle.wal_record.specs.Kind.{Kind}
+use Rattle.page_layout.specs.IndexPages.{IsMap, IsRegular}
 use Rattle.page_layout.specs.declared.page.Form.{Form}
 use Rattle.page_layout.specs.declared.page.Form.TheVariants as forms
 use Rattle.page_layout.specs.PageContents.{IsPageOf}

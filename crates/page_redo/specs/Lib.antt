@@ -1,1 +1,17 @@
 pub mod Redo
+pub use Rattle.wal_record.specs.Changes
+pub use Rattle.page_layout.specs.DiskLayout
+pub use Rattle.page_layout.specs.FirstBrokenRule
+pub use Rattle.page_layout.specs.FreeSlots
+pub use Rattle.page_layout.specs.HeapForms
+pub use Rattle.page_layout.specs.IndexLaws
+pub use Rattle.page_layout.specs.IndexReading
+pub use Rattle.page_layout.specs.IndexWrites
+pub use Rattle.page_layout.specs.Limits
+pub use Rattle.page_layout.specs.PageContents
+pub use Rattle.page_layout.specs.PageWrites
+pub use Rattle.page_layout.specs.RowBytes
+pub use Rattle.page_layout.specs.SlotLaws
+pub use Rattle.page_layout.specs.SlotsOnPage
+pub use Rattle.page_layout.specs.TheConstants
+pub use Rattle.page_layout.specs.declared.page.Form

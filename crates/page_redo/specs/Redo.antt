@@ -1,12 +1,12 @@
 -- which pages a change of the log fits, and what it does to them
 use Rattle.std.specs.Prelude.{◌≡◌, ℕ, ◌+◌, ◌*◌, ◌<◌, ◌==◌, ◌&&◌, ◌||◌, Bool, true, false, MatchBool, List, [], ◌∷◌, None, Some, length, nat_le, nat_lt, replicate, set, slice_get, slice_index}
-use Rattle.block_model.specs.declared.limits.TheConstants.{PAGE_SIZE}
-use Rattle.index_layout.specs.declared.format.TheConstants.{EVACUATED, MAP, MAP_ENTRIES, META, REGULAR}
-use Rattle.index_layout.specs.IndexPages.{IsMap, IsMeta, IsRegular}
-use Rattle.index_layout.specs.IndexReading.{entries_of, slots_of}
-use Rattle.index_layout.specs.IndexWrites.{CanDrop, CanPut, CanReplace, dropped as tuples_dropped, entry_for, put_in, trimmed}
+use Rattle.wal_record.specs.TheConstants.{PAGE_SIZE}
+use Rattle.page_layout.specs.TheConstants.{EVACUATED, MAP, MAP_ENTRIES, META, REGULAR}
+use Rattle.page_layout.specs.IndexPages.{IsMap, IsMeta, IsRegular}
+use Rattle.page_layout.specs.IndexReading.{entries_of, slots_of}
+use Rattle.page_layout.specs.IndexWrites.{CanDrop, CanPut, CanReplace, dropped as tuples_dropped, entry_for, put_in, trimmed}
 use Rattle.page_layout.specs.declared.format.TheConstants.{HEAP, STATUS_ENTRIES}
-use Rattle.byte_fields.specs.Fields.{AreBytes}
+use Rattle.page_layout.specs.Fields.{AreBytes}
 use Rattle.page_layout.specs.declared.page.Form.{Form}
 use Rattle.page_layout.specs.declared.page.Form.TheVariants as forms
 use Rattle.page_layout.specs.RowBytes.{StoredRow}

@@ -1,9 +1,9 @@
 //! Whether a page of an index takes a change, and which pages a change starts.
 
 ghost use Rattle.std.specs.Prelude.{◌≡◌, ◌<◌, length, slice_index, true, false};
-ghost use Rattle.index_layout.specs.declared.format.TheConstants.{EVACUATED, MAP, MAP_ENTRIES};
-ghost use Rattle.index_layout.specs.IndexReading.{slots_of};
-ghost use Rattle.index_layout.specs.IndexWrites.{CanDrop, CanPut, CanReplace};
+ghost use Rattle.page_layout.specs.TheConstants.{EVACUATED, MAP, MAP_ENTRIES};
+ghost use Rattle.page_layout.specs.IndexReading.{slots_of};
+ghost use Rattle.page_layout.specs.IndexWrites.{CanDrop, CanPut, CanReplace};
 ghost use Rattle.page_layout.specs.PageContents.{IsPageOf};
 ghost use Rattle.page_redo.specs.Redo.{IsIndexPageOf, IsStart, is_index_start};
 

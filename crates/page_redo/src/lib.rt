@@ -14,4 +14,9 @@ pub use fitting::fits;
 pub use laws::{
     a_changed_page_is_of_its_form, redo_forgets_a_page_begun_anew, redo_goes_on, redo_is_a_function,
 };
+pub use page_layout::{
+    Form, Layout, Page, REGULAR, UNSTARTED, first_free, first_free_from, is_index, kind_of,
+    map_pages, room_for, slots_are_read,
+};
 pub use redoing::{Misfit, redo, redo_checked};
+pub use wal_record::Change;

@@ -1,105 +1,101 @@
-//! What memory keeps of a page.
+//! The facts of pages that are held.
 
-ghost use Rattle.std.specs.Prelude.{◌≡◌};
-ghost use Rattle.index_layout.specs.IndexReading.{map_pages_of};
-ghost use Rattle.index_layout.specs.IndexWrites.{room_on};
-ghost use Rattle.page_layout.specs.PageContents.{IsForm, IsPageOf};
-ghost use Rattle.page_layout.specs.SlotsOnPage.{lowest_on};
-ghost use Rattle.wal_record.specs.Changes.{logged};
-ghost use Rattle.page_store.specs.PageFacts.{HasPutInto, IsMadeFrom, facts_on};
+ghost use Rattle.std.specs.Prelude.{◌≡◌, ◌<◌, ◌≤◌, IsSome, length, set, slice_index_or, IfOk, IfErr, OnOk, OnErr, []};
+ghost use Rattle.store_layout.specs.DiskLayout.{IsPlace};
+ghost use Rattle.page_layout.specs.PageContents.{IsForm};
+ghost use Rattle.page_layout.specs.PageWrites.{IsOfIndex};
+ghost use Rattle.page_map.specs.FactLists.{IsFirstOf, IsFirstOfIndex};
+ghost use Rattle.page_map.specs.Forms.{form_of, forms_of};
+ghost use Rattle.page_map.specs.Keeps.{Untold};
+ghost use Rattle.page_map.specs.Outcome.{NamesPage, Outcome};
+ghost use Rattle.buffer_pool.specs.PoolState.{held_at};
+ghost use Rattle.recovery.specs.PageNumbers.{page_number};
+ghost use Rattle.page_store.specs.KeptPages.{KeptPages};
+ghost use Rattle.page_store.specs.LoggedState.{store_of};
+ghost use Rattle.page_store.specs.StoreFacts.{AreKnown, IsFactPlace, facts_at};
+ghost use Rattle.page_store.specs.Noted.{NotesHeld, noted};
 
-use page_layout::{
-    Form, Page, UNSTARTED, first_free, first_free_from, is_index, kind_of, map_pages, room_for,
-    slots_are_read,
-};
-use wal_record::Change;
+use crate::forms::form_at;
+use crate::logged::LoggedPages;
+use block_model::Place;
+use disk_trait::Disk;
+use page_layout::{Form, is_index, slots_are_read};
+use page_map::{FactList, PageFacts, StoreError, facts_of};
+use store_layout::pages_fill_the_disk;
 
-/// What is kept of a page beside the page: its kind, its lowest free slot where it has one, and of an index the bytes of the
-/// greatest further tuple that it takes and how many pages of the map it counts.
-#[derive(Clone, Copy)]
-pub struct PageFacts {
-    pub kind: u8,
-    pub lowest: Option<u16>,
-    pub room: u16,
-    pub maps: u32,
-}
-
-/// Those of a page that isn't started.
-pub const NO_FACTS: PageFacts = PageFacts {
-    kind: UNSTARTED,
-    lowest: None,
-    room: 0,
-    maps: 0,
-};
-
-/// The facts of a page that passes its check.
-pub fn facts_of(page: &Page, form: &Form) -> PageFacts
-    requires form { IsForm form.now }
-    requires page { IsPageOf form.now page.now }
-    ensures { result ≡ facts_on form.now page.now }
+/// Holds the page at the place, so that its facts are known.
+pub fn hold<D: Disk + Drop>(
+    pages: &mut LoggedPages<D>,
+    facts: &mut Vec<FactList>,
+    forms: &Vec<Form>,
+    place: Place,
+) -> Result<(), StoreError>
+    requires place { IsPlace pages.old.layout place }
+    requires forms { forms.now.items ≡ forms_of pages.old.layout }
+    requires facts { AreKnown D.told pages.old facts.old.items }
+    ensures kept { KeptPages D.told (store_of D.told pages.old) (store_of D.told pages.new) }
+    ensures outcome { Outcome D.told (Untold D.told (store_of D.told pages.old)) (store_of D.told pages.old) (store_of D.told pages.new) result }
+    ensures at { IfErr result (λ error. NamesPage pages.old.layout place error) }
+    ensures held { OnOk result (IsSome (held_at pages.new.pool (page_number pages.new.layout place))) }
+    ensures facts { AreKnown D.told pages.new facts.new.items }
 {
-    PageFacts {
-        kind: kind_of(page),
-        lowest: first_free(page, *form),
-        room: room_of(page, form),
-        maps: maps_of(page, form),
-    }
-}
-
-/// The bytes of the greatest further tuple that a page which passes its check takes: 0 where it isn't of an index.
-fn room_of(page: &Page, form: &Form) -> u16
-    requires { IsPageOf form.now page.now }
-    ensures { result ≡ room_on page.now }
-{
-    if !is_index(form) {
-        return 0;
-    }
-    room_for(page)
-}
-
-/// How many pages of the map a page that passes its check counts: 0 where it is no metapage.
-fn maps_of(page: &Page, form: &Form) -> u32
-    requires { IsPageOf form.now page.now }
-    ensures { result ≡ map_pages_of page.now }
-{
-    if !is_index(form) {
-        return 0;
-    }
-    map_pages(page)
-}
-
-/// The facts of a page that passes its check, after a change, where they were these before.
-pub fn facts_after(page: &Page, form: &Form, change: &Change<'_>, old: &PageFacts) -> PageFacts
-    requires form { IsForm form.now }
-    requires page { IsPageOf form.now page.now }
-    requires made { IsMadeFrom form.now old.now (logged change.now) page.now }
-    ensures { result ≡ facts_on form.now page.now }
-{
+    pages_fill_the_disk(pages.layout());
     slots_are_read();
-    match *change {
-        Change::RowPut { slot, .. } => PageFacts {
-            kind: old.kind,
-            lowest: lowest_after_put(page, form, slot, old.lowest),
-            room: 0,
-            maps: 0,
-        },
-        Change::RowMark { .. } => *old,
-        _ => facts_of(page, form),
+    let form = form_at(forms, pages.layout(), place.relation);
+    if pages.hold(place, form)? {
+        note_held(pages, facts, form, place);
     }
+    Ok(())
 }
 
-/// The lowest free slot of a page into a slot of which a row was put, where it was this one before.
-fn lowest_after_put(page: &Page, form: &Form, slot: u16, old: Option<u16>) -> Option<u16>
-    requires form { IsForm form.now }
-    requires page { IsPageOf form.now page.now }
-    requires put { HasPutInto form.now slot old page.now }
-    ensures { result ≡ lowest_on form.now page.now }
+/// Notes the facts of the page at the place, which is held.
+fn note_held<D: Disk + Drop>(
+    pages: &mut LoggedPages<D>,
+    facts: &mut Vec<FactList>,
+    form: &Form,
+    place: Place,
+)
+    requires place { IsPlace pages.old.layout place }
+    requires form { form.now ≡ form_of pages.old.layout place.relation }
+    requires is { IsForm form.now }
+    requires held { IsSome (held_at pages.old.pool (page_number pages.old.layout place)) }
+    requires facts { IsFactPlace facts.old.items place }
+    ensures same { pages.new ≡ pages.old }
+    ensures noted { NotesHeld form.now (page_number pages.old.layout place) pages.old.pool place facts.old.items facts.new.items }
 {
-    slots_are_read();
-    if let Some(lowest) = old {
-        if lowest == slot {
-            return first_free_from(page, *form, slot);
-        }
+    pages.known();
+    let Some(page) = pages.page(place) else {
+        unreachable!()
+    };
+    let found = facts_of(page, form);
+    note(facts, place, found);
+}
+
+/// The page at the place has these facts.
+pub fn note(facts: &mut Vec<FactList>, place: Place, found: PageFacts)
+    requires { IsFactPlace facts.old.items place }
+    ensures { facts.new.items ≡ noted facts.old.items place found }
+{
+    let at = usize::from(place.relation);
+    facts[at].note(place.block as usize, found);
+}
+
+/// The facts of the page at the place.
+pub fn facts_of_place(facts: &Vec<FactList>, place: Place) -> PageFacts
+    requires { place.relation < length facts.now.items }
+    ensures { result ≡ facts_at facts.now.items place }
+{
+    facts[usize::from(place.relation)].get(place.block as usize)
+}
+
+/// The lowest block that has room by these facts of pages of the form, of an index behind `past` and for that many bytes, else
+/// the lowest one that isn't started.
+pub fn first_room_in(facts: &FactList, form: &Form, need: u16, past: u32) -> Option<u32>
+    ensures index { IsOfIndex form.now → IsFirstOfIndex facts.now need past result }
+    ensures rows { (IsOfIndex form.now → ⊥) → IsFirstOf facts.now result }
+{
+    if is_index(form) {
+        return facts.first_behind(need, past);
     }
-    first_free(page, *form)
+    facts.first_room()
 }

@@ -1,22 +1,18 @@
-//! What a store of pages is, for those that keep one and those that stand on one: a map of places to pages, the record of
-//! specs/PageMap.antt, with what its calls tell of it. A read gives what the changes made, in order, and a call that answers an
-//! error leaves the map as it was. Here stands too what memory keeps of each page of a relation beside the page itself, so that
-//! `FactList` answers which block has room without reading one: a look at one number for each 128 blocks, and at what is kept of
-//! the pages of those that may have room. The crate stands on page_layout, page_redo and a disk.
+//! The pages of a store over its log and its pool: some pages are held in memory, the others stand on the disk, and both are one
+//! map of places to pages that is read and changed. At every moment of every call each image that a crash may leave opens to the
+//! pages after a prefix of all changes, and after a flush to those of now. A page is written only once its log is durable, a
+//! page's first change since the last checkpoint is logged with the whole page, and no call after the start takes memory. The
+//! layer above sees the record of page_map's specs/PageMap.antt and the words of its specs/Keeps.antt, and of what crashes leave
+//! specs/Survives.antt, a word that composes. It stands on recovery, which makes the parts of a store of its disk, and on
+//! log_area, buffer_pool and wal_record.
 #![tactic(auto)]
 
-mod fact_list;
+mod change;
 mod facts;
-mod faults;
 mod forms;
-mod laws;
-mod lowest;
-mod page_room;
-mod tuple_room;
+mod logged;
+mod places;
+mod start;
+mod store;
 
-pub use fact_list::FactList;
-pub use facts::{NO_FACTS, PageFacts, facts_after, facts_of};
-pub use faults::{MachineFault, StoreError};
-pub use forms::tables_have_forms;
-pub use laws::maps_with_the_same_pages_are_equal;
-pub use page_room::Room;
+pub use store::PageStore;

@@ -1,9 +1,9 @@
 //! Control pages that are written out by hand.
 
 use block_model::{PAGE_SIZE, Sizes, Words};
-use control_page::{OPEN, read, write};
-use schema_words::read_declarations;
+use command_line::read_declarations;
 use std::alloc::{AllocError, Global};
+use store_format::{OPEN, read, write};
 use store_layout::Layout;
 
 const ONE: &str = "table t(a int8) rows_per_page 2|index i on t(a minmax) pages_per_range 1";

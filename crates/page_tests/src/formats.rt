@@ -1,10 +1,9 @@
 //! The calls of the disk that make a store, in their order.
 
 use disk_trait::{Disk, MemoryDisk};
-use small_layouts::{LEAST, indexed_layout};
 use std::alloc::Global;
 use store_format::{FormatFault, format};
-use store_layout::Layout;
+use store_layout::{LEAST, Layout, indexed_layout};
 
 /// An offset on the disk, the byte that a new store has there, and a letter for it: the gate, the format of the control page, the
 /// first byte of each area of the log, and the kind of each page: of the statuses, of the table, and three of the index.

@@ -1,5 +1,5 @@
 //! Tests of pages and their changes, and of what stands below the store of pages, over the public calls of page_layout, wal_record,
-//! page_redo, control_page, disk_trait, store_format, log_area and buffer_pool: bytes by number, and which calls of a disk are made, in
+//! page_redo, store_format, disk_trait, store_format, log_area and buffer_pool: bytes by number, and which calls of a disk are made, in
 //! which order. Nothing stands on it.
 #![tactic(auto)]
 

@@ -5,9 +5,8 @@ ghost use Rattle.log_area.specs.Log.{areas_end};
 
 use disk_trait::{Disk, DiskFault, MemoryDisk};
 use log_area::{AppendFault, Frames, LogArea};
-use small_layouts::{LEAST, table_layout};
 use std::alloc::Global;
-use store_layout::Layout;
+use store_layout::{LEAST, Layout, table_layout};
 
 /// The layout of one table, of the least sizes.
 fn small_layout(alloc: Global) -> Option<Layout> {

@@ -2,8 +2,8 @@
 use Rattle.std.proofs.Common.{◌≡◌, ℕ, Bool, true, false, List, [], ◌∷◌, Option, None, Some, refl, cond}
 use Rattle.std.specs.Str.{bytes_eq}
 use Rattle.std.proofs.lemmas.Slice.Eq.{bytes_eq-Decides}
-use Rattle.line_words.specs.Words.{PlacedWord, texts_of}
-use Rattle.line_words.specs.declared.verb.Verb.{Verb}
+use Rattle.query_words.specs.Words.{PlacedWord, texts_of}
+use Rattle.query_words.specs.declared.verb.Verb.{Verb}
 use Rattle.query_words.specs.Syntax.{where_so, after_word, may_end, stop_behind, stop_from}
 use Rattle.query_words.specs.declared.syntax.Expected.{Expected}
 

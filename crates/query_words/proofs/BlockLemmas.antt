@@ -4,8 +4,8 @@ use Rattle.std.specs.List.{list_all}
 use Rattle.std.proofs.lemmas.Str.Parse.{IsNumeralModel, numerals_by_fold}
 use Rattle.std.proofs.lemmas.Fmt.{digits_decimal, digits_value-decimal, decimal_nonempty}
 use Rattle.block_model.specs.Names.{is_digit}
-use Rattle.text_reading.specs.Digits.{digits_from}
-use Rattle.line_words.specs.Blocks.{IsBlockWord, block_of}
+use Rattle.value_text.specs.Digits.{digits_from}
+use Rattle.query_words.specs.Blocks.{IsBlockWord, block_of}
 use Rattle.query_words.proofs.PrintedValues.{IsPrinted, decimal_plain}
 
 own_digits : IsNumeralModel (λ ds. list_all is_digit ds ≡ true) (digits_from 0)

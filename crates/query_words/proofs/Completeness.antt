@@ -6,17 +6,17 @@ use Rattle.std.specs.Str.{bytes_eq}
 use Rattle.std.proofs.lemmas.Bool.{lt-ltb, or_left, or_right}
 use Rattle.std.proofs.lemmas.Option.{same_Some}
 use Rattle.block_model.specs.Names.{is_name, is_digit}
-use Rattle.text_reading.specs.Digits.{digits_from}
+use Rattle.value_text.specs.Digits.{digits_from}
 use Rattle.block_model.specs.declared.value.Kind.TheVariants as kinds
 use Rattle.block_model.specs.declared.value.Op.{Op}
 use Rattle.value_text.specs.ValueOf.{value_of, ValueOfIsDenoted}
-use Rattle.line_words.specs.declared.verb.Verb.{Verb}
-use Rattle.line_words.specs.declared.verb.Verb.TheVariants as verbs
-use Rattle.line_words.specs.Written.{first_written}
-use Rattle.line_words.specs.Verbs.{verb_text, every_verb, has_verb, verb_of}
-use Rattle.line_words.specs.Blocks.{IsBlockWord, is_block}
-use Rattle.line_words.specs.Operators.{op_of}
-use Rattle.line_words.specs.ValueWords.{is_value_word}
+use Rattle.query_words.specs.declared.verb.Verb.{Verb}
+use Rattle.query_words.specs.declared.verb.Verb.TheVariants as verbs
+use Rattle.query_words.specs.Written.{first_written}
+use Rattle.query_words.specs.Verbs.{verb_text, every_verb, has_verb, verb_of}
+use Rattle.query_words.specs.Blocks.{IsBlockWord, is_block}
+use Rattle.query_words.specs.Operators.{op_of}
+use Rattle.query_words.specs.ValueWords.{is_value_word}
 use Rattle.query_words.specs.declared.syntax.Expected.{Expected}
 use Rattle.query_words.specs.declared.syntax.Expected.TheVariants as expected
 use Rattle.query_words.specs.Grammar.{SaidCond, Compared, Null, NotNull, SaidStatement, Begin, Commit, Rollback, Insert, Select, Delete, Explain, Summarize, Desummarize, Vacuum, Work, SaidOrder, Whole, Start, Step, Finish, verb_said, words_behind, words_of_block, words_of_cond, words_of_more, words_of_conds, words_of_statement, words_of_order}

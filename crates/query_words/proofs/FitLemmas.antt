@@ -18,28 +18,28 @@ use Rattle.block_model.specs.declared.schema.Index.{Index}
 use Rattle.block_model.specs.ValuesOfKind.{IsValueOf}
 use Rattle.value_text.specs.Laws.{DenotedIsOfKind}
 use Rattle.value_text.specs.ValueOf.{value_of, ValueOfIsDenoted}
-use Rattle.statements.specs.declared.statement.Statement.{Statement}
-use Rattle.statements.specs.declared.statement.Statement.TheVariants as statements
-use Rattle.line_words.specs.declared.verb.Verb.{Verb}
-use Rattle.line_words.specs.declared.verb.Verb.TheVariants as verbs
-use Rattle.line_words.specs.Words.{PlacedWord}
-use Rattle.line_words.specs.Operators.{op_text, comparisons, op_of}
-use Rattle.line_words.specs.Written.{first_written}
-use Rattle.line_words.specs.Blocks.{block_of}
-use Rattle.line_words.specs.Verbs.{has_verb, statement_verb}
+use Rattle.store_layout.specs.declared.statement.Statement.{Statement}
+use Rattle.store_layout.specs.declared.statement.Statement.TheVariants as statements
+use Rattle.query_words.specs.declared.verb.Verb.{Verb}
+use Rattle.query_words.specs.declared.verb.Verb.TheVariants as verbs
+use Rattle.query_words.specs.Words.{PlacedWord}
+use Rattle.query_words.specs.Operators.{op_text, comparisons, op_of}
+use Rattle.query_words.specs.Written.{first_written}
+use Rattle.query_words.specs.Blocks.{block_of}
+use Rattle.query_words.specs.Verbs.{has_verb, statement_verb}
 use Rattle.query_words.specs.declared.line.Line.{Line}
 use Rattle.query_words.specs.declared.line.Line.TheVariants as lines
 use Rattle.query_words.specs.declared.line.Order.{Order}
 use Rattle.query_words.specs.declared.line.Order.TheVariants as orders
 use Rattle.query_words.specs.declared.line.LineFault.{LineFault}
 use Rattle.query_words.specs.declared.line.LineFault.TheVariants as faults
-use Rattle.statements.specs.OperatorKinds.{takes_operator}
+use Rattle.store_layout.specs.OperatorKinds.{takes_operator}
 use Rattle.query_words.specs.Grammar.{SaidCond, Compared, Null, NotNull, SaidStatement, Begin, Commit, Rollback, Insert, Select, Delete, Explain, Summarize, Desummarize, Vacuum, Work, SaidOrder, Whole, Start, Step, Finish, SaidLine, Nothing, Say, verb_said, IsSaidOrder, IsSaid, statement_texts, order_texts, said_texts}
 use Rattle.query_words.specs.Syntax.{stop_of}
 use Rattle.query_words.specs.Parsed.{said_of}
 use Rattle.query_words.specs.Statements.{◌>>=◌, or_fault, table_from, table_said, column_from, column_said, op_in, op_said, value_said, cond_on, test_said, cond_said, conds_said, values_said, query_said, insert_said, index_from, index_said, vacuum_said, statement_said, order_said}
 use Rattle.query_words.specs.Lines.{line_said, line_judged}
-use Rattle.statements.specs.StatementFits.{HasKeyFor, IsCondFor, AreValuesFor, IsIndexOf, IsQueryFor, IsInsertFor, IsTableOf, IsStatementFor}
+use Rattle.store_layout.specs.StatementFits.{HasKeyFor, IsCondFor, AreValuesFor, IsIndexOf, IsQueryFor, IsInsertFor, IsTableOf, IsStatementFor}
 use Rattle.query_words.specs.LineFits.{IsOrderFor, IsLineFor, is_order_in, is_line_in}
 use Rattle.query_words.proofs.LineLawLemmas.{unstopped}
 

@@ -2,9 +2,9 @@
 use Rattle.std.proofs.Common.{◌≡◌, ℕ, ◌≤◌, Bool, true, false, cond, List, length, Option, None, Some, Result, Ok, Err, IfOk, sym, ap, ◌∙◌, subst}
 use Rattle.std.specs.Result.{is_err}
 use Rattle.block_model.specs.declared.schema.Schema.{Schema}
-use Rattle.line_words.specs.declared.limits.TheConstants.{MAX_LINE}
-use Rattle.line_words.specs.declared.verb.Verb.{Verb}
-use Rattle.line_words.specs.Words.{PlacedWord, words_of}
+use Rattle.query_words.specs.declared.line_length.TheConstants.{MAX_LINE}
+use Rattle.query_words.specs.declared.verb.Verb.{Verb}
+use Rattle.query_words.specs.Words.{PlacedWord, words_of}
 use Rattle.query_words.specs.declared.line.Line.{Line}
 use Rattle.query_words.specs.declared.line.LineFault.{LineFault}
 use Rattle.query_words.specs.declared.line.LineFault.TheVariants as faults

@@ -8,9 +8,9 @@ use Rattle.std.proofs.Common.{inl, inr}
 use Rattle.block_model.specs.Names.{is_name, is_lower, is_more}
 use Rattle.block_model.specs.declared.schema.Schema.{Schema}
 use Rattle.value_text.specs.ValueOf.{ValueOfIsDenoted}
-use Rattle.line_words.specs.declared.verb.Verb.{Verb}
-use Rattle.line_words.specs.Words.{PlacedWord, placed, words_of, texts_of, place_or}
-use Rattle.line_words.specs.declared.limits.TheConstants.{MAX_LINE}
+use Rattle.query_words.specs.declared.verb.Verb.{Verb}
+use Rattle.query_words.specs.Words.{PlacedWord, placed, words_of, texts_of, place_or}
+use Rattle.query_words.specs.declared.line_length.TheConstants.{MAX_LINE}
 use Rattle.query_words.specs.declared.syntax.Expected.TheVariants as expected
 use Rattle.query_words.specs.declared.line.Line.{Line}
 use Rattle.query_words.specs.declared.line.LineFault.{LineFault}

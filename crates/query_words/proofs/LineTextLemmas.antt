@@ -4,7 +4,7 @@ use Rattle.block_model.specs.declared.value.Value.{Value}
 use Rattle.block_model.specs.declared.value.Op.{Op}
 use Rattle.block_model.specs.declared.value.Op.TheVariants as ops
 use Rattle.value_text.specs.CanonicalTexts.{canonical_text}
-use Rattle.line_words.specs.Operators.{op_text}
+use Rattle.query_words.specs.Operators.{op_text}
 use Rattle.query_words.specs.Grammar.{words_of_cond}
 use Rattle.query_words.specs.LineTexts.{test_of}
 

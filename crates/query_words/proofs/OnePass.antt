@@ -12,15 +12,15 @@ use Rattle.block_model.specs.declared.schema.Schema.{Schema}
 use Rattle.block_model.specs.declared.schema.Column.{Column}
 use Rattle.block_model.specs.declared.limits.TheConstants.{MAX_CONDITIONS}
 use Rattle.value_text.specs.ValueOf.{value_of, ValueOfIsDenoted}
-use Rattle.statements.specs.declared.statement.Statement.{Statement}
-use Rattle.statements.specs.declared.statement.Statement.TheVariants as statements
-use Rattle.line_words.specs.declared.verb.Verb.{Verb}
-use Rattle.line_words.specs.declared.verb.Verb.TheVariants as verbs
-use Rattle.line_words.specs.Words.{PlacedWord, texts_of}
-use Rattle.line_words.specs.ValueWords.{is_value_word}
-use Rattle.line_words.specs.Operators.{op_of}
-use Rattle.line_words.specs.Blocks.{is_block, block_of}
-use Rattle.line_words.specs.Verbs.{verb_of}
+use Rattle.store_layout.specs.declared.statement.Statement.{Statement}
+use Rattle.store_layout.specs.declared.statement.Statement.TheVariants as statements
+use Rattle.query_words.specs.declared.verb.Verb.{Verb}
+use Rattle.query_words.specs.declared.verb.Verb.TheVariants as verbs
+use Rattle.query_words.specs.Words.{PlacedWord, texts_of}
+use Rattle.query_words.specs.ValueWords.{is_value_word}
+use Rattle.query_words.specs.Operators.{op_of}
+use Rattle.query_words.specs.Blocks.{is_block, block_of}
+use Rattle.query_words.specs.Verbs.{verb_of}
 use Rattle.query_words.specs.declared.line.Line.{Line}
 use Rattle.query_words.specs.declared.line.Line.TheVariants as lines
 use Rattle.query_words.specs.declared.line.Order.{Order}

@@ -2,10 +2,10 @@
 use Rattle.std.proofs.Common.{◌≡◌, ℕ, Bool, true, false, List, [], ◌∷◌, ◌++◌, map, codes, Option, None, Some, refl, ap, ◌∙◌, cond}
 use Rattle.std.specs.Option.{option_map, option_and_then}
 use Rattle.std.specs.Str.{bytes_eq}
-use Rattle.line_words.specs.declared.verb.Verb.{Verb}
-use Rattle.line_words.specs.declared.verb.Verb.TheVariants as verbs
-use Rattle.line_words.specs.Words.{PlacedWord, texts_of}
-use Rattle.line_words.specs.Verbs.{verb_text, has_verb, verb_of}
+use Rattle.query_words.specs.declared.verb.Verb.{Verb}
+use Rattle.query_words.specs.declared.verb.Verb.TheVariants as verbs
+use Rattle.query_words.specs.Words.{PlacedWord, texts_of}
+use Rattle.query_words.specs.Verbs.{verb_text, has_verb, verb_of}
 use Rattle.query_words.specs.Grammar.{SaidCond, Compared, Null, NotNull, SaidStatement, Begin, Commit, Rollback, Insert, Select, Delete, Explain, Summarize, Desummarize, Vacuum, Work, SaidOrder, Whole, Start, Step, Finish, verb_said, words_behind, words_of_cond, words_of_more, words_of_conds, words_of_statement, words_of_order}
 use Rattle.query_words.specs.Grammar.{IsSaidCond, AreSaidConds, HasSaidParts, IsSaidOrder, cond_texts, statement_texts, order_texts}
 use Rattle.query_words.specs.Parsed.{conds_behind, conds_from, statement_behind, statement_of_words, order_behind, order_of_words}

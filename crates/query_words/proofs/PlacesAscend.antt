@@ -4,10 +4,10 @@ use Rattle.std.specs.List.{flat_map}
 use Rattle.std.specs.Option.{option_map, option_and_then}
 use Rattle.std.specs.Str.{bytes_eq}
 use Rattle.std.proofs.lemmas.List.{map-append}
-use Rattle.line_words.specs.Words.{PlacedWord, ended, words_from, words_of}
-use Rattle.line_words.specs.Verbs.{verb_of}
-use Rattle.line_words.specs.declared.verb.Verb.{Verb}
-use Rattle.line_words.specs.declared.verb.Verb.TheVariants as verbs
+use Rattle.query_words.specs.Words.{PlacedWord, ended, words_from, words_of}
+use Rattle.query_words.specs.Verbs.{verb_of}
+use Rattle.query_words.specs.declared.verb.Verb.{Verb}
+use Rattle.query_words.specs.declared.verb.Verb.TheVariants as verbs
 use Rattle.query_words.specs.Grammar.{SaidCond, Compared, Null, NotNull, SaidStatement, Begin, Commit, Rollback, Insert, Select, Delete, Explain, Summarize, Desummarize, Vacuum, Work, SaidOrder, Whole, Start, Nothing, Say, is_comment}
 use Rattle.query_words.specs.Parsed.{cond_of_words, conds_behind, conds_from, statement_behind, statement_of_words, order_behind, order_of_words, said_of}
 use Rattle.query_words.specs.RefusalPlaces.{places_of, places_behind, Ascends, StatementAscends}

@@ -14,14 +14,14 @@ use Rattle.block_model.specs.declared.schema.Column.{Column}
 use Rattle.store_layout.specs.FirstBrokenRule.{KeepsLimits}
 use Rattle.value_text.specs.CanonicalTexts.{canonical_text}
 use Rattle.value_text.specs.ValueOf.{value_of}
-use Rattle.statements.specs.declared.statement.Statement.{Statement}
-use Rattle.statements.specs.declared.statement.Statement.TheVariants as statements
-use Rattle.line_words.specs.Words.{PlacedWord, texts_of}
-use Rattle.line_words.specs.Verbs.{verb_text, has_verb, statement_verb}
-use Rattle.line_words.specs.Blocks.{block_of}
-use Rattle.line_words.specs.declared.verb.Verb.{Verb}
-use Rattle.line_words.specs.declared.verb.Verb.TheVariants as verbs
-use Rattle.line_words.specs.declared.limits.TheConstants.{MAX_LINE}
+use Rattle.store_layout.specs.declared.statement.Statement.{Statement}
+use Rattle.store_layout.specs.declared.statement.Statement.TheVariants as statements
+use Rattle.query_words.specs.Words.{PlacedWord, texts_of}
+use Rattle.query_words.specs.Verbs.{verb_text, has_verb, statement_verb}
+use Rattle.query_words.specs.Blocks.{block_of}
+use Rattle.query_words.specs.declared.verb.Verb.{Verb}
+use Rattle.query_words.specs.declared.verb.Verb.TheVariants as verbs
+use Rattle.query_words.specs.declared.line_length.TheConstants.{MAX_LINE}
 use Rattle.query_words.specs.declared.line.Line.{Line}
 use Rattle.query_words.specs.declared.line.Line.TheVariants as lines
 use Rattle.query_words.specs.declared.line.Order.{Order}
@@ -32,7 +32,7 @@ use Rattle.query_words.specs.Grammar.{SaidCond, SaidStatement, Begin, Commit, Ro
 use Rattle.block_model.specs.declared.limits.TheConstants.{MAX_CONDITIONS}
 use Rattle.query_words.specs.Grammar.{AreValueWords, IsSaidQuery, HasSaidParts, IsSaidStatement, IsSaidOrder, cond_texts, statement_texts, order_texts, said_texts}
 use Rattle.query_words.specs.LineFits.{IsOrderFor, IsLineFor, is_order_in, is_line_in}
-use Rattle.statements.specs.StatementFits.{IsTableOf, IsStatementFor, IsCondFor, AreValuesFor, IsIndexOf, IsQueryFor, IsInsertFor}
+use Rattle.store_layout.specs.StatementFits.{IsTableOf, IsStatementFor, IsCondFor, AreValuesFor, IsIndexOf, IsQueryFor, IsInsertFor}
 use Rattle.query_words.specs.Statements.{◌>>=◌, or_fault, table_from, index_from, conds_said, values_said, query_said, statement_said, order_said}
 use Rattle.query_words.specs.Lines.{line_said, line_in}
 use Rattle.query_words.specs.LineTexts.{table_name, index_name, cond_of, conds_of, statement_of, order_of, joined}

@@ -3,8 +3,8 @@ use Rattle.std.proofs.Common.{◌≡◌, ◌≢◌, ℕ, ◌+◌, ◌*◌, ◌�
 use Rattle.std.specs.List.{list_all, AllByRecursion}
 use Rattle.std.proofs.lemmas.Bool.{false≢true, and_parts}
 use Rattle.std.proofs.lemmas.Bool.Decides.{eqb_tells}
-use Rattle.line_words.specs.Words.{words_from, words_of, texts_of}
-use Rattle.line_words.proofs.PlacedWords.{space_first, byte_first, ended_is, space_behind}
+use Rattle.query_words.specs.Words.{words_from, words_of, texts_of}
+use Rattle.query_words.proofs.PlacedWords.{space_first, byte_first, ended_is, space_behind}
 use Rattle.query_words.specs.LineTexts.{spaced, joined}
 use Rattle.query_words.proofs.PrintedValues.{no_space, IsPrinted}
 

@@ -24,15 +24,15 @@ use Rattle.value_text.specs.CanonicalTexts.{canonical_text}
 use Rattle.block_model.specs.ValuesOfKind.{IsValueOf}
 use Rattle.value_text.specs.Laws.{CanonicalTextDenotes}
 use Rattle.value_text.specs.ValueOf.{value_of, ValueOfIsDenoted}
-use Rattle.line_words.specs.Words.{PlacedWord}
-use Rattle.line_words.specs.Operators.{op_text, op_of}
+use Rattle.query_words.specs.Words.{PlacedWord}
+use Rattle.query_words.specs.Operators.{op_text, op_of}
 use Rattle.query_words.specs.declared.line.LineFault.{LineFault}
 use Rattle.query_words.specs.declared.line.LineFault.TheVariants as faults
-use Rattle.statements.specs.OperatorKinds.{takes_operator}
+use Rattle.store_layout.specs.OperatorKinds.{takes_operator}
 use Rattle.query_words.specs.Grammar.{SaidCond, Compared, Null, NotNull, words_of_cond, words_of_more}
 use Rattle.query_words.specs.Grammar.{IsNameWord, IsValueWord, IsSaidCond, AreSaidConds, cond_texts}
 use Rattle.query_words.specs.Statements.{◌>>=◌, or_fault, table_from, index_from, column_from, op_in, op_said, value_said, cond_on, test_said, cond_said, conds_said}
-use Rattle.statements.specs.StatementFits.{HasKeyFor, IsCondFor}
+use Rattle.store_layout.specs.StatementFits.{HasKeyFor, IsCondFor}
 use Rattle.query_words.specs.LineTexts.{table_name, index_name, columns_at, column_name, test_of, cond_of}
 use Rattle.query_words.specs.LineLaws.{IsNamedTable, HasNames}
 use Rattle.query_words.proofs.Accepting.{text_same}

@@ -6,8 +6,8 @@ use Rattle.block_model.specs.declared.value.Kind.TheVariants as kinds
 use Rattle.block_model.specs.declared.value.Value.TheVariants as values
 use Rattle.value_text.specs.ValueTexts.{Null as NullText}
 use Rattle.value_text.specs.ValueOf.{ValueOfIsDenoted}
-use Rattle.line_words.specs.declared.verb.Verb.{Verb}
-use Rattle.line_words.specs.Words.{PlacedWord, texts_of, place_or}
+use Rattle.query_words.specs.declared.verb.Verb.{Verb}
+use Rattle.query_words.specs.Words.{PlacedWord, texts_of, place_or}
 use Rattle.query_words.specs.declared.syntax.Expected.{Expected}
 use Rattle.query_words.specs.declared.syntax.Expected.TheVariants as expected
 use Rattle.query_words.specs.Grammar.{Whole, IsValueWord, words_of_statement}

@@ -1,6 +1,6 @@
 -- the words of a condition, without where they lie in memory
-use Rattle.line_words.specs.Words.{PlacedWord}
-use Rattle.line_words.specs.LineParts.{word_here}
+use Rattle.query_words.specs.Words.{PlacedWord}
+use Rattle.query_words.specs.LineParts.{word_here}
 use Rattle.query_words.specs.declared.query.CondWords.{CondWords}
 use Rattle.query_words.specs.declared.query.CondWords.TheVariants as words
 use Rattle.query_words.specs.Grammar.{SaidCond, Compared, Null, NotNull}

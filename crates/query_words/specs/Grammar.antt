@@ -8,12 +8,12 @@ use Rattle.block_model.specs.declared.value.Kind.{Kind}
 use Rattle.block_model.specs.declared.value.Value.{Value}
 use Rattle.block_model.specs.declared.value.Op.{Op}
 use Rattle.value_text.specs.ValueTexts.{Denotes}
-use Rattle.line_words.specs.declared.verb.Verb.{Verb}
-use Rattle.line_words.specs.declared.verb.Verb.TheVariants as verbs
-use Rattle.line_words.specs.Words.{PlacedWord}
-use Rattle.line_words.specs.Operators.{op_of}
-use Rattle.line_words.specs.Blocks.{IsBlockWord}
-use Rattle.line_words.specs.Verbs.{verb_text, has_verb}
+use Rattle.query_words.specs.declared.verb.Verb.{Verb}
+use Rattle.query_words.specs.declared.verb.Verb.TheVariants as verbs
+use Rattle.query_words.specs.Words.{PlacedWord}
+use Rattle.query_words.specs.Operators.{op_of}
+use Rattle.query_words.specs.Blocks.{IsBlockWord}
+use Rattle.query_words.specs.Verbs.{verb_text, has_verb}
 
 -- a condition: its column, operator and value, or a column that is null, or isn't
 pub data SaidCond (W : Type 0) : Type 0 where

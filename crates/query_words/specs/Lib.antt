@@ -10,3 +10,10 @@ pub mod LineTexts
 pub mod LineLaws
 pub mod LineRefusals
 pub mod RefusalPlaces
+pub mod Words
+pub mod LineParts
+pub mod Written
+pub mod Operators
+pub mod Verbs
+pub mod Blocks
+pub mod ValueWords

@@ -1,12 +1,12 @@
 -- the lines that fit a schema, and those of a language
 use Rattle.std.specs.Prelude.{Bool, true, ◌&&◌, List}
 use Rattle.block_model.specs.declared.schema.Schema.{Schema}
-use Rattle.statements.specs.StatementFits.{IsStatementFor}
-use Rattle.statements.specs.declared.statement.Statement.{Statement}
-use Rattle.statements.specs.declared.statement.Statement.TheVariants as statements
-use Rattle.line_words.specs.declared.verb.Verb.{Verb}
-use Rattle.line_words.specs.declared.verb.Verb.TheVariants as verbs
-use Rattle.line_words.specs.Verbs.{has_verb, statement_verb}
+use Rattle.store_layout.specs.StatementFits.{IsStatementFor}
+use Rattle.store_layout.specs.declared.statement.Statement.{Statement}
+use Rattle.store_layout.specs.declared.statement.Statement.TheVariants as statements
+use Rattle.query_words.specs.declared.verb.Verb.{Verb}
+use Rattle.query_words.specs.declared.verb.Verb.TheVariants as verbs
+use Rattle.query_words.specs.Verbs.{has_verb, statement_verb}
 use Rattle.query_words.specs.declared.line.Line.{Line}
 use Rattle.query_words.specs.declared.line.Line.TheVariants as lines
 use Rattle.query_words.specs.declared.line.Order.{Order}

@@ -4,10 +4,10 @@ use Rattle.std.proofs.Common.{arith, sym, ap, ◌∙◌}
 use Rattle.std.proofs.lemmas.Bool.{ltb-true, ltb-false, lt-ltb}
 use Rattle.std.proofs.lemmas.List.{take_all, length-take}
 use Rattle.block_model.specs.declared.schema.Schema.{Schema}
-use Rattle.line_words.specs.declared.limits.TheConstants.{MAX_LINE}
-use Rattle.line_words.specs.declared.verb.Verb.{Verb}
-use Rattle.line_words.specs.Words.{PlacedWord, words_of}
-use Rattle.line_words.specs.Verbs.{answered}
+use Rattle.query_words.specs.declared.line_length.TheConstants.{MAX_LINE}
+use Rattle.query_words.specs.declared.verb.Verb.{Verb}
+use Rattle.query_words.specs.Words.{PlacedWord, words_of}
+use Rattle.query_words.specs.Verbs.{answered}
 use Rattle.query_words.specs.declared.line.Line.{Line}
 use Rattle.query_words.specs.declared.line.Line.TheVariants as lines
 use Rattle.query_words.specs.declared.line.LineFault.{LineFault}

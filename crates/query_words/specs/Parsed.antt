@@ -2,10 +2,10 @@
 use Rattle.std.specs.Prelude.{◌≡◌, List, [], ◌∷◌, ◌++◌, codes, Option, None, Some, if◌then◌else◌}
 use Rattle.std.specs.Option.{option_map, option_and_then}
 use Rattle.std.specs.Str.{bytes_eq}
-use Rattle.line_words.specs.Words.{PlacedWord, texts_of}
-use Rattle.line_words.specs.Verbs.{verb_of}
-use Rattle.line_words.specs.declared.verb.Verb.{Verb}
-use Rattle.line_words.specs.declared.verb.Verb.TheVariants as verbs
+use Rattle.query_words.specs.Words.{PlacedWord, texts_of}
+use Rattle.query_words.specs.Verbs.{verb_of}
+use Rattle.query_words.specs.declared.verb.Verb.{Verb}
+use Rattle.query_words.specs.declared.verb.Verb.TheVariants as verbs
 use Rattle.query_words.specs.Grammar.{SaidCond, Compared, Null, NotNull, SaidStatement, Begin, Commit, Rollback, Insert, Select, Delete, Explain, Summarize, Desummarize, Vacuum, Work, SaidOrder, Whole, Start, Step, Finish, SaidLine, Nothing, Say, is_comment, words_of_cond, cond_texts}
 
 -- four words are a condition with the word in front of it, unless they go on with `is not`

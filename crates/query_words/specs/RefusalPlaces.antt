@@ -9,11 +9,11 @@ use Rattle.block_model.specs.declared.schema.Table.{Table}
 use Rattle.block_model.specs.declared.schema.Column.{Column}
 use Rattle.block_model.specs.declared.schema.Index.{Index}
 use Rattle.value_text.specs.ValueTexts.{Denotes}
-use Rattle.statements.specs.OperatorKinds.{takes_operator}
-use Rattle.statements.specs.declared.statement.Statement.{Statement}
-use Rattle.line_words.specs.Words.{PlacedWord, words_of}
-use Rattle.line_words.specs.Operators.{op_of}
-use Rattle.line_words.specs.declared.verb.Verb.{Verb}
+use Rattle.store_layout.specs.OperatorKinds.{takes_operator}
+use Rattle.store_layout.specs.declared.statement.Statement.{Statement}
+use Rattle.query_words.specs.Words.{PlacedWord, words_of}
+use Rattle.query_words.specs.Operators.{op_of}
+use Rattle.query_words.specs.declared.verb.Verb.{Verb}
 use Rattle.query_words.specs.declared.line.LineFault.{LineFault}
 use Rattle.query_words.specs.declared.line.LineFault.TheVariants as faults
 use Rattle.query_words.specs.Parsed.{conds_from, said_of}

@@ -14,16 +14,16 @@ use Rattle.block_model.specs.declared.schema.Table.{Table}
 use Rattle.block_model.specs.declared.schema.Column.{Column}
 use Rattle.block_model.specs.declared.schema.Index.{Index}
 use Rattle.value_text.specs.ValueOf.{value_of}
-use Rattle.statements.specs.declared.statement.Statement.{Statement}
-use Rattle.statements.specs.declared.statement.Statement.TheVariants as statements
-use Rattle.line_words.specs.Words.{PlacedWord}
-use Rattle.line_words.specs.Operators.{op_of}
-use Rattle.line_words.specs.Blocks.{block_of}
+use Rattle.store_layout.specs.declared.statement.Statement.{Statement}
+use Rattle.store_layout.specs.declared.statement.Statement.TheVariants as statements
+use Rattle.query_words.specs.Words.{PlacedWord}
+use Rattle.query_words.specs.Operators.{op_of}
+use Rattle.query_words.specs.Blocks.{block_of}
 use Rattle.query_words.specs.declared.line.Order.{Order}
 use Rattle.query_words.specs.declared.line.Order.TheVariants as orders
 use Rattle.query_words.specs.declared.line.LineFault.{LineFault}
 use Rattle.query_words.specs.declared.line.LineFault.TheVariants as faults
-use Rattle.statements.specs.OperatorKinds.{takes_operator}
+use Rattle.store_layout.specs.OperatorKinds.{takes_operator}
 use Rattle.query_words.specs.Parsed.{conds_from}
 use Rattle.query_words.specs.Grammar.{SaidCond, Compared, Null, NotNull, SaidStatement, Begin, Commit, Rollback, Insert, Select, Delete, Explain, Summarize, Desummarize, Vacuum, Work, SaidOrder, Whole, Start, Step, Finish}
 

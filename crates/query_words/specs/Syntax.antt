@@ -4,13 +4,13 @@ use Rattle.std.specs.Option.{is_some, option_map, option_and_then}
 use Rattle.std.specs.Str.{bytes_eq}
 use Rattle.block_model.specs.Names.{is_name}
 use Rattle.block_model.specs.declared.limits.TheConstants.{MAX_CONDITIONS}
-use Rattle.line_words.specs.Words.{PlacedWord}
-use Rattle.line_words.specs.Operators.{op_of}
-use Rattle.line_words.specs.ValueWords.{is_value_word}
-use Rattle.line_words.specs.Blocks.{is_block}
-use Rattle.line_words.specs.Verbs.{verb_of}
-use Rattle.line_words.specs.declared.verb.Verb.{Verb}
-use Rattle.line_words.specs.declared.verb.Verb.TheVariants as verbs
+use Rattle.query_words.specs.Words.{PlacedWord}
+use Rattle.query_words.specs.Operators.{op_of}
+use Rattle.query_words.specs.ValueWords.{is_value_word}
+use Rattle.query_words.specs.Blocks.{is_block}
+use Rattle.query_words.specs.Verbs.{verb_of}
+use Rattle.query_words.specs.declared.verb.Verb.{Verb}
+use Rattle.query_words.specs.declared.verb.Verb.TheVariants as verbs
 use Rattle.query_words.specs.Grammar.{is_comment}
 use Rattle.query_words.specs.declared.syntax.Expected.{Expected}
 use Rattle.query_words.specs.declared.syntax.Expected.TheVariants as expected

@@ -1,8 +1,8 @@
 //! What a line of a script says.
 
 ghost use Rattle.std.specs.Prelude.{◌≡◌, length, true, None, IfOk, if◌then◌else◌};
-ghost use Rattle.line_words.specs.LineParts.{words_left};
-ghost use Rattle.line_words.specs.Verbs.{answered};
+ghost use Rattle.query_words.specs.LineParts.{words_left};
+ghost use Rattle.query_words.specs.Verbs.{answered};
 ghost use Rattle.query_words.specs.LineFits.{IsLineFor, is_line_in};
 ghost use Rattle.query_words.specs.Lines.{ReadsAs, ReadsOnce, line_in, line_of, line_judged};
 ghost use Rattle.query_words.specs.Parsed.{said_of};
@@ -11,11 +11,10 @@ ghost use Rattle.query_words.specs.Syntax.{stop_of};
 
 use crate::order::read_order;
 use crate::syntax::{is_comment, stop_of};
+use crate::{ANSWERED, MAX_LINE, Rest, Verb, next_word};
 use block_model::{Name, Refusal, Schema};
-use line_words::{ANSWERED, MAX_LINE, Rest, Verb, next_word};
-use statements::Statement;
 use std::alloc::Global;
-use store_layout::Layout;
+use store_layout::{Layout, Statement};
 use thiserror::Error;
 use value_text::{denoted_is_of_kind, value_of_is_denoted};
 

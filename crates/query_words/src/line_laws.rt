@@ -5,11 +5,10 @@ ghost use Rattle.query_words.specs.Grammar.{IsNameWord};
 ghost use Rattle.query_words.specs.LineFits.{IsLineFor, is_line_in};
 ghost use Rattle.query_words.specs.LineLaws.{GrammarIsRead, ReadIsGrammar, FaultIsStop, HasNames, IsNamedTable, IsNamedLine, HasItsType, IsOfItsType, ReadsBack};
 
+use crate::Verb;
 use crate::line::{Line, Order};
 use block_model::{Index, Schema, Table};
-use line_words::Verb;
-use statements::Statement;
-use store_layout::Layout;
+use store_layout::{Layout, Statement};
 use value_text::{canonical_text_denotes, value_of_is_denoted};
 
 /// A line of a language is read as what its words say, and its faults are at those words.

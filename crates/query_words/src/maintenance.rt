@@ -2,8 +2,8 @@
 
 ghost use Rattle.std.specs.Prelude.{◌≡◌, ℕ, length, true, None, Some, Ok, Err, ◌∷◌, IfSome, IfOk};
 ghost use Rattle.block_model.specs.Names.{is_name};
-ghost use Rattle.line_words.specs.Blocks.{block_of};
-ghost use Rattle.line_words.specs.LineParts.{words_left, word_here};
+ghost use Rattle.query_words.specs.Blocks.{block_of};
+ghost use Rattle.query_words.specs.LineParts.{words_left, word_here};
 ghost use Rattle.query_words.specs.Lines.{ReadsOnce};
 ghost use Rattle.query_words.specs.Parsed.{summarize_of_words, desummarize_of_words, vacuum_of_words};
 ghost use Rattle.query_words.specs.SmallSchemas.{IsSmallSchema};
@@ -13,9 +13,9 @@ ghost use Rattle.query_words.specs.declared.syntax.Expected.TheVariants as expec
 
 use crate::line::LineFault;
 use crate::statement::{read_end, read_table};
+use crate::{Rest, Word, is_word, next_word, read_block};
 use block_model::Schema;
-use line_words::{Rest, Word, is_word, next_word, read_block};
-use statements::Statement;
+use store_layout::Statement;
 
 /// An index, and perhaps a block.
 pub fn read_summarize(

@@ -1,7 +1,7 @@
 //! What the words behind a session's name mean where tables are declared.
 
 ghost use Rattle.std.specs.Prelude.{ℕ, Option, Result, Ok};
-ghost use Rattle.line_words.specs.LineParts.{words_left};
+ghost use Rattle.query_words.specs.LineParts.{words_left};
 ghost use Rattle.query_words.specs.Lines.{ReadsOnce};
 ghost use Rattle.query_words.specs.Parsed.{order_behind, order_of_words, insert_of_words, statement_of_words};
 ghost use Rattle.query_words.specs.SmallSchemas.{IsSmallSchema};
@@ -11,14 +11,14 @@ ghost use Rattle.query_words.specs.declared.syntax.Expected.TheVariants as expec
 ghost use Rattle.query_words.specs.declared.line.Line.TheVariants as lines;
 ghost use Rattle.query_words.specs.declared.line.Order.TheVariants as orders;
 ghost use Rattle.query_words.specs.declared.line.LineFault.{LineFault as OneFault};
-ghost use Rattle.statements.specs.declared.statement.Statement.{Statement as OneStatement};
+ghost use Rattle.store_layout.specs.declared.statement.Statement.{Statement as OneStatement};
 
 use crate::line::{Line, LineFault, Order};
 use crate::statement::{read_end, read_row, read_statement};
+use crate::{Rest, Verb, next_word, read_verb};
 use block_model::{Name, Schema, Values};
-use line_words::{Rest, Verb, next_word, read_verb};
-use statements::Statement;
 use std::alloc::Global;
+use store_layout::Statement;
 
 /// The line of the session that the words are, or a fault of theirs, in a line of that length.
 pub fn read_order(

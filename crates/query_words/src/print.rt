@@ -9,11 +9,10 @@ ghost use Rattle.query_words.specs.LineFits.{IsLineFor};
 ghost use Rattle.query_words.specs.LineTexts.{line_text, spaced, table_name, index_name, columns_at, column_name, cond_of, conds_of, statement_of, order_of, test_of};
 
 use crate::line::{Line, Order};
+use crate::{Verb, op_text, statement_verb, verb_text};
 use block_model::{Column, Cond, NoMemory, Op, Query, Schema, Value};
 use itoa::Buffer;
-use line_words::{Verb, op_text, statement_verb, verb_text};
-use statements::Statement;
-use store_layout::Layout;
+use store_layout::{Layout, Statement};
 use value_text::{append, write_value, write_values};
 
 /// Appends the text of a line, without a line feed; nothing for a line that says nothing. The line's numbers are those of

@@ -3,7 +3,7 @@
 ghost use Rattle.std.specs.Prelude.{◌≡◌, ◌-◌, ◌<◌, ◌≤◌, true, [], ◌∷◌, length, None, Some, ◌+◌, ◌++◌, IsTrue, MatchOption, IfOk, IfSome};
 ghost use Rattle.block_model.specs.Names.{is_name};
 ghost use Rattle.block_model.specs.declared.limits.TheConstants.{MAX_COLUMNS, MAX_CONDITIONS};
-ghost use Rattle.line_words.specs.LineParts.{words_left, word_here};
+ghost use Rattle.query_words.specs.LineParts.{words_left, word_here};
 ghost use Rattle.query_words.specs.CondParts.{cond_here};
 ghost use Rattle.query_words.specs.Lines.{ReadsOnce};
 ghost use Rattle.query_words.specs.Parsed.{conds_from, BeginsWith};
@@ -13,8 +13,8 @@ ghost use Rattle.query_words.specs.Syntax.{after_word, where_so, behind_conds, s
 ghost use Rattle.query_words.specs.declared.syntax.Expected.TheVariants as expected;
 
 use crate::line::LineFault;
+use crate::{Rest, Word, is_word, next_word, read_op, takes_operator, value_in};
 use block_model::{Column, Cond, Conds, Kind, MAX_CONDITIONS, NoMemory, Op, Value};
-use line_words::{Rest, Word, is_word, next_word, read_op, takes_operator, value_in};
 use std::alloc::Global;
 use value_text::value_of_is_denoted;
 

@@ -3,22 +3,22 @@
 ghost use Rattle.std.specs.Prelude.{◌≡◌, ◌≤◌, ℕ, length, true, None, Some, Ok, Err, [], MatchOption, MatchResult, IfSome, IfOk, IfErr};
 ghost use Rattle.block_model.specs.Names.{is_name};
 ghost use Rattle.block_model.specs.declared.limits.TheConstants.{MAX_COLUMNS};
-ghost use Rattle.line_words.specs.LineParts.{words_left, word_here};
+ghost use Rattle.query_words.specs.LineParts.{words_left, word_here};
 ghost use Rattle.query_words.specs.Lines.{ReadsOnce};
 ghost use Rattle.query_words.specs.Parsed.{insert_of_words, statement_behind};
 ghost use Rattle.query_words.specs.SmallSchemas.{IsSmallSchema};
 ghost use Rattle.query_words.specs.Statements.{made_of, table_from, table_said, values_said, query_judged, statement_judged};
 ghost use Rattle.query_words.specs.Syntax.{after_verb, stop_after};
 ghost use Rattle.query_words.specs.declared.syntax.Expected.TheVariants as expected;
-ghost use Rattle.statements.specs.declared.statement.Statement.TheVariants as asked;
+ghost use Rattle.store_layout.specs.declared.statement.Statement.TheVariants as asked;
 
 use crate::line::LineFault;
 use crate::maintenance::{read_desummarize, read_summarize, read_vacuum};
 use crate::query::{read_conds, read_key};
+use crate::{Rest, Verb, Word, is_word, next_word};
 use block_model::{Column, Query, Schema, Values};
-use line_words::{Rest, Verb, Word, is_word, next_word};
-use statements::Statement;
 use std::alloc::Global;
+use store_layout::Statement;
 
 /// The statement that the verb and the words behind it are, or a fault of theirs, in a line of that length. Takes memory for
 /// its conditions, and answers a fault of the words before want of it.

@@ -1,14 +1,14 @@
 //! How far the words of a line go on as one of a language: the grammar, one word after the other.
 
 ghost use Rattle.std.specs.Prelude.{◌≡◌, [], length};
-ghost use Rattle.line_words.specs.LineParts.{words_left};
+ghost use Rattle.query_words.specs.LineParts.{words_left};
 ghost use Rattle.query_words.specs.Syntax.{where_so, after_verb, after_started, after_word, after_column, after_is, may_end, stop_from, stop_of};
 ghost use Rattle.block_model.specs.Names.{is_name};
 ghost use Rattle.query_words.specs.Grammar.{is_comment};
 
 use crate::limits::MORE_CONDITIONS;
+use crate::{Rest, Verb, is_block, is_value_word, is_word, next_word, read_op, read_verb};
 use block_model::Name;
-use line_words::{Rest, Verb, is_block, is_value_word, is_word, next_word, read_op, read_verb};
 
 /// What the words of a line may go on with. A number says how many conditions may follow.
 #[derive(Clone, Copy, Debug, PartialEq, Eq)]

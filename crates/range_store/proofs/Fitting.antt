@@ -11,13 +11,13 @@ use Rattle.page_layout.specs.declared.page.Form.TheVariants as forms
 use Rattle.page_layout.specs.PageContents.{IsPageOf}
 use Rattle.page_layout.specs.PageWrites.{IsOfIndex}
 use Rattle.page_layout.specs.IndexLaws.{regular_page}
-use Rattle.index_layout.specs.declared.format.TheConstants.{REGULAR}
-use Rattle.index_layout.specs.IndexPages.{IsRegular, Slot, taken}
-use Rattle.index_layout.specs.IndexReading.{free_of, is_regular, slots_of}
-use Rattle.index_layout.specs.IndexWrites.{CanPut, CanReplace, IsRoom, are_ascending, dropped, put_in, trimmed}
-use Rattle.page_redo.specs.Redo.{IsIndexPageOf, Redone}
-use Rattle.page_store.specs.Changed.{redone_once, redone_twice}
-use Rattle.page_store.specs.Forms.{FitInTurn, FitsIn, IsPageIn, form_of}
+use Rattle.index_contents.specs.TheConstants.{REGULAR}
+use Rattle.index_contents.specs.IndexPages.{IsRegular, Slot, taken}
+use Rattle.index_contents.specs.IndexReading.{free_of, is_regular, slots_of}
+use Rattle.index_contents.specs.IndexWrites.{CanPut, CanReplace, IsRoom, are_ascending, dropped, put_in, trimmed}
+use Rattle.page_map.specs.Redo.{IsIndexPageOf, Redone}
+use Rattle.page_map.specs.Changed.{redone_once, redone_twice}
+use Rattle.page_map.specs.Forms.{FitInTurn, FitsIn, IsPageIn, form_of}
 use Rattle.wal_record.specs.Changes.{PageStart, TupleDrop, TuplePut, TupleReplace}
 use Rattle.range_store.specs.Tuples.{IsTupleSize, TakesInPlace}
 use Rattle.range_store.proofs.Found.{room_there}

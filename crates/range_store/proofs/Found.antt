@@ -5,12 +5,12 @@ use Rattle.std.proofs.lemmas.List.{drop-drop, get_or_past}
 use Rattle.std.proofs.lemmas.Bool.{cases_lt, le-ltb, lt-ltb, ne_eqb}
 use Rattle.std.proofs.lemmas.Option.{none-some}
 use Rattle.byte_fields.specs.Fields.{field_at, number_of}
-use Rattle.index_layout.specs.declared.format.TheConstants.{REGULAR}
-use Rattle.index_layout.specs.IndexPages.{AreSlots, IsRegular, IsSlot, Slot, taken, tuple_bytes}
-use Rattle.index_layout.specs.IndexReading.{free_of, is_regular, number_at, slot_in, slots_in, slots_of}
+use Rattle.index_contents.specs.TheConstants.{REGULAR}
+use Rattle.index_contents.specs.IndexPages.{AreSlots, IsRegular, IsSlot, Slot, taken, tuple_bytes}
+use Rattle.index_contents.specs.IndexReading.{free_of, is_regular, number_at, slot_in, slots_in, slots_of}
 use Rattle.index_contents.specs.IndexContents.{beside, room_in_place, tuple_on}
 use Rattle.index_contents.specs.Reading.{unstarted_kind}
-use Rattle.page_store.specs.PageMap.{unstarted_page}
+use Rattle.page_map.specs.PageMap.{unstarted_page}
 use Rattle.range_store.specs.Tuples.{place_on, size_of, tuple_from}
 use Rattle.range_store.proofs.PageWrites.{used_below}
 

@@ -3,9 +3,9 @@ use Rattle.std.specs.Prelude.{ℕ, ◌<◌, Ok, Err}
 use Rattle.block_model.specs.declared.place.Place.{Place}
 use Rattle.store_layout.specs.DiskLayout.{DiskLayout}
 use Rattle.disk_trait.specs.Told.{Told}
-use Rattle.page_store.specs.Keeps.{Untold}
-use Rattle.page_store.specs.Outcome.{Outcome}
-use Rattle.page_store.specs.PageMap.{View}
+use Rattle.page_map.specs.Keeps.{Untold}
+use Rattle.page_map.specs.Outcome.{Outcome}
+use Rattle.page_map.specs.PageMap.{View}
 use Rattle.range_store.specs.declared.faults.SwapFault.{SwapFault}
 use Rattle.range_store.specs.declared.faults.SwapFault.TheVariants as faults
 use Rattle.range_store.specs.Tuples.{FaultNamesPlace, IsMisfit, StandsWithin, SwapOutcome}

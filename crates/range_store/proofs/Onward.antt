@@ -2,10 +2,10 @@
 use Rattle.std.proofs.Common.{◌≡◌, ◌≢◌, ℕ, ◌<◌, ◌≤◌, ◌==◌, Bool, true, false, inl, inr, List, length, refl, sym, ap, subst}
 use Rattle.std.specs.Prelude.{slice_index, slice_index_or, None, Some, if◌then◌else◌}
 use Rattle.std.proofs.lemmas.Bool.{eqb-true}
-use Rattle.index_layout.specs.declared.format.TheConstants.{REGULAR, UNSTARTED}
-use Rattle.index_layout.specs.IndexPages.{IsRegular, Slot}
-use Rattle.index_layout.specs.IndexReading.{free_slot_of, slots_of}
-use Rattle.index_layout.specs.IndexWrites.{put_in}
+use Rattle.index_contents.specs.TheConstants.{REGULAR, UNSTARTED}
+use Rattle.index_contents.specs.IndexPages.{IsRegular, Slot}
+use Rattle.index_contents.specs.IndexReading.{free_slot_of, slots_of}
+use Rattle.index_contents.specs.IndexWrites.{put_in}
 use Rattle.range_store.specs.PageTuples.{PutsOn, TakesOn}
 use Rattle.range_store.specs.declared.putting.Opening.{Opening}
 use Rattle.range_store.specs.declared.putting.Opening.TheVariants as openings

@@ -4,10 +4,10 @@ use Rattle.std.specs.Prelude.{slice_index, slice_index_or, None, Some}
 use Rattle.std.proofs.lemmas.Bool.{cases_lt, false≢true}
 use Rattle.std.proofs.lemmas.List.{get_or_past, get_or-set_same, get_or-set_other}
 use Rattle.std.proofs.lemmas.Option.{none-some}
-use Rattle.index_layout.specs.declared.format.TheConstants.{UNSTARTED, REGULAR}
-use Rattle.index_layout.specs.IndexPages.{HasSlots, IsRegular, Slot}
-use Rattle.index_layout.specs.IndexReading.{free_slot_of, is_regular, slots_of}
-use Rattle.index_layout.specs.IndexWrites.{put_in, trimmed}
+use Rattle.index_contents.specs.TheConstants.{UNSTARTED, REGULAR}
+use Rattle.index_contents.specs.IndexPages.{HasSlots, IsRegular, Slot}
+use Rattle.index_contents.specs.IndexReading.{free_slot_of, is_regular, slots_of}
+use Rattle.index_contents.specs.IndexWrites.{put_in, trimmed}
 use Rattle.index_contents.specs.IndexContents.{tuple_on}
 use Rattle.range_store.specs.PageTuples.{DropsOn, PutsOn, ReplacesOn}
 use Rattle.range_store.proofs.TupleKinds.{kind_of, regular_says_none, tuples_say_none, unstarted_has_none, unstarted_says_none}

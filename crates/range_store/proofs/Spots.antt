@@ -5,10 +5,10 @@ use Rattle.std.proofs.lemmas.Bool.{cases_eq}
 use Rattle.block_model.specs.declared.place.Spot.{Spot}
 use Rattle.store_layout.specs.DiskLayout.{DiskLayout}
 use Rattle.disk_trait.specs.Told.{Told}
-use Rattle.page_store.specs.Keeps.{Tells}
-use Rattle.page_store.specs.PageMap.{PageMap, View, block_at, unstarted_page}
-use Rattle.index_layout.specs.declared.format.TheConstants.{REGULAR}
-use Rattle.index_layout.specs.IndexWrites.{room_on}
+use Rattle.page_map.specs.Keeps.{Tells}
+use Rattle.page_map.specs.PageMap.{PageMap, View, block_at, unstarted_page}
+use Rattle.index_contents.specs.TheConstants.{REGULAR}
+use Rattle.index_contents.specs.IndexWrites.{room_on}
 use Rattle.coverage.specs.IndexView.{Pages, Regular, Unstarted}
 use Rattle.index_contents.specs.IndexContents.{contents, contents_in, index_page, relation_of, tuple_on}
 use Rattle.index_contents.specs.IndexChanges.{DropsBytes, LeavesOtherPages, PutsBytes, ReplacesBytes}

@@ -7,10 +7,10 @@ use Rattle.page_layout.specs.declared.page.Form.{Form}
 use Rattle.page_layout.specs.declared.page.Form.TheVariants as forms
 use Rattle.page_layout.specs.PageContents.{IsPageOf, IsUnstarted}
 use Rattle.page_layout.specs.SlotLaws.{unstarted_front}
-use Rattle.page_store.specs.FirstRoom.{IsFirstRoom}
-use Rattle.page_store.specs.PageMap.{PageMap, block_at}
-use Rattle.index_layout.specs.IndexReading.{map_pages_of}
-use Rattle.index_layout.specs.declared.format.TheConstants.{UNSTARTED}
+use Rattle.page_map.specs.FirstRoom.{IsFirstRoom}
+use Rattle.page_map.specs.PageMap.{PageMap, block_at}
+use Rattle.index_contents.specs.IndexReading.{map_pages_of}
+use Rattle.index_contents.specs.TheConstants.{UNSTARTED}
 use Rattle.coverage.specs.IndexView.{PageKind, Pages, Regular, Unstarted}
 use Rattle.coverage.specs.Verdicts.{IsLowestNumber, IsPageUnstarted, IsTarget, OnNew, OnStarted, PageHasRoom}
 use Rattle.index_contents.specs.IndexContents.{contents, index_page, pages_in, relation_of}

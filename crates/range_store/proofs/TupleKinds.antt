@@ -2,9 +2,9 @@
 use Rattle.std.proofs.Common.{◌≡◌, ℕ, ◌==◌, true, inl, inr, List, [], refl, ap}
 use Rattle.std.specs.Prelude.{drop, slice_index, slice_index_or, None, if◌then◌else◌}
 use Rattle.std.proofs.lemmas.Bool.{eqb-true, or_cases}
-use Rattle.index_layout.specs.declared.format.TheConstants.{UNSTARTED, REGULAR, EVACUATED}
-use Rattle.index_layout.specs.IndexPages.{IsRegular, Slot, regular_bytes}
-use Rattle.index_layout.specs.IndexReading.{is_regular, number_at, slots_in, slots_of}
+use Rattle.index_contents.specs.TheConstants.{UNSTARTED, REGULAR, EVACUATED}
+use Rattle.index_contents.specs.IndexPages.{IsRegular, Slot, regular_bytes}
+use Rattle.index_contents.specs.IndexReading.{is_regular, number_at, slots_in, slots_of}
 use Rattle.index_contents.specs.IndexContents.{tuple_on}
 use Rattle.index_contents.specs.PageLaws.{IsNoMap, no_map}
 

@@ -1,8 +1,8 @@
 -- the first page of an index for a further tuple, by the page of each block
 use Rattle.std.specs.Prelude.{◌≡◌, ℕ, ◌<◌, ◌≤◌, ◌⊎◌, List, slice_index, Option, None, Some}
-use Rattle.index_layout.specs.declared.format.TheConstants.{REGULAR, UNSTARTED}
-use Rattle.index_layout.specs.IndexReading.{map_pages_of}
-use Rattle.index_layout.specs.IndexWrites.{room_on}
+use Rattle.index_contents.specs.TheConstants.{REGULAR, UNSTARTED}
+use Rattle.index_contents.specs.IndexReading.{map_pages_of}
+use Rattle.index_contents.specs.IndexWrites.{room_on}
 
 -- a page behind the map pages takes tuples, and has room for so many bytes
 abbrev pub HasRoomIn : (ℕ → List ℕ) → ℕ → ℕ → Type 0

@@ -1,8 +1,8 @@
 -- what changes of one page make of its tuples
 use Rattle.std.specs.Prelude.{◌≡◌, false, ◌≢◌, ◌⊎◌, ℕ, ◌<◌, ◌≤◌, List, slice_index, None, Some}
-use Rattle.index_layout.specs.declared.format.TheConstants.{REGULAR, UNSTARTED}
-use Rattle.index_layout.specs.IndexReading.{is_regular}
-use Rattle.index_layout.specs.IndexWrites.{room_on}
+use Rattle.index_contents.specs.TheConstants.{REGULAR, UNSTARTED}
+use Rattle.index_contents.specs.IndexReading.{is_regular}
+use Rattle.index_contents.specs.IndexWrites.{room_on}
 use Rattle.index_contents.specs.IndexContents.{tuple_on}
 use Rattle.index_contents.specs.PageLaws.{ChangesSlot, IsNoMap}
 

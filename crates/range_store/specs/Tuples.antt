@@ -5,12 +5,12 @@ use Rattle.block_model.specs.declared.place.Spot.{Spot}
 use Rattle.byte_fields.specs.Fields.{field_at, number_of}
 use Rattle.store_layout.specs.DiskLayout.{DiskLayout}
 use Rattle.disk_trait.specs.Told.{Told}
-use Rattle.page_store.specs.Keeps.{Untold}
-use Rattle.page_store.specs.Outcome.{NamesPage, Outcome, Refused}
-use Rattle.page_store.specs.PageMap.{View}
-use Rattle.index_layout.specs.declared.format.TheConstants.{REGULAR, UNSTARTED}
-use Rattle.index_layout.specs.IndexPages.{Slot, tuple_bytes}
-use Rattle.index_layout.specs.IndexReading.{free_slot_of, number_at, slots_of}
+use Rattle.page_map.specs.Keeps.{Untold}
+use Rattle.page_map.specs.Outcome.{NamesPage, Outcome, Refused}
+use Rattle.page_map.specs.PageMap.{View}
+use Rattle.index_contents.specs.TheConstants.{REGULAR, UNSTARTED}
+use Rattle.index_contents.specs.IndexPages.{Slot, tuple_bytes}
+use Rattle.index_contents.specs.IndexReading.{free_slot_of, number_at, slots_of}
 use Rattle.coverage.specs.IndexView.{Pages, Regular, most_bytes}
 use Rattle.coverage.specs.Verdicts.{IsLowestNumber, IsPageUnstarted, MustMove}
 use Rattle.index_contents.specs.IndexContents.{IndexContents, room_in_place, tuple_on}

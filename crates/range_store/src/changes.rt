@@ -3,23 +3,23 @@
 ghost use Rattle.std.specs.Prelude.{◌≡◌, ◌≢◌, ◌<◌, ◌*◌, ◌+◌, ◌∷◌, [], List, Option, None, Some, ℕ, set, length, slice_index, slice_index_or, true, OnOk, OnErr, IfErr};
 ghost use Rattle.store_layout.specs.DiskLayout.{IsPlace};
 ghost use Rattle.page_layout.specs.declared.page.Form.TheVariants as forms;
-ghost use Rattle.page_store.specs.Forms.{form_of};
-ghost use Rattle.page_store.specs.Keeps.{Keeps, Tells, Untold};
-ghost use Rattle.page_store.specs.Outcome.{NamesPage, Outcome};
-ghost use Rattle.page_store.specs.PageMap.{page_at};
-ghost use Rattle.logged_pages.specs.Survives.{Survives};
-ghost use Rattle.index_layout.specs.declared.format.TheConstants.{REGULAR};
-ghost use Rattle.index_layout.specs.IndexPages.{IsRegular};
-ghost use Rattle.index_layout.specs.IndexReading.{is_regular, slots_of};
-ghost use Rattle.index_layout.specs.IndexWrites.{CanPut, CanReplace, put_in, trimmed};
+ghost use Rattle.page_map.specs.Forms.{form_of};
+ghost use Rattle.page_map.specs.Keeps.{Keeps, Tells, Untold};
+ghost use Rattle.page_map.specs.Outcome.{NamesPage, Outcome};
+ghost use Rattle.page_map.specs.PageMap.{page_at};
+ghost use Rattle.page_store.specs.Survives.{Survives};
+ghost use Rattle.index_contents.specs.TheConstants.{REGULAR};
+ghost use Rattle.index_contents.specs.IndexPages.{IsRegular};
+ghost use Rattle.index_contents.specs.IndexReading.{is_regular, slots_of};
+ghost use Rattle.index_contents.specs.IndexWrites.{CanPut, CanReplace, put_in, trimmed};
 ghost use Rattle.index_contents.specs.IndexChanges.{LeavesOtherPages};
 ghost use Rattle.range_store.specs.Tuples.{IsTupleSize};
 
 use block_model::Place;
 use disk_trait::Disk;
-use index_layout::{REGULAR, an_index_page_has_one_list};
-use logged_pages::PageStore;
-use page_store::StoreError;
+use index_contents::{REGULAR, an_index_page_has_one_list};
+use page_map::StoreError;
+use page_store::PageStore;
 use wal_record::Change;
 
 /// The tuple stands in the slot, which was free or is the next one.

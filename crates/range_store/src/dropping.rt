@@ -3,26 +3,28 @@
 ghost use Rattle.std.specs.Prelude.{◌≡◌, ◌≢◌, ◌<◌, ◌≤◌, Bool, true, false, None, length, slice_index, IfOk, IfErr, OnOk, OnErr};
 ghost use Rattle.store_layout.specs.DiskLayout.{IsPlace};
 ghost use Rattle.page_layout.specs.declared.page.Form.TheVariants as forms;
-ghost use Rattle.page_store.specs.Forms.{form_of};
-ghost use Rattle.page_store.specs.Keeps.{Keeps, Tells, Untold};
-ghost use Rattle.page_store.specs.Outcome.{NamesPage, Outcome};
-ghost use Rattle.page_store.specs.PageMap.{page_at};
-ghost use Rattle.logged_pages.specs.Survives.{Survives};
-ghost use Rattle.index_layout.specs.IndexPages.{IsIndexPage};
-ghost use Rattle.index_layout.specs.IndexReading.{is_regular, slots_of};
+ghost use Rattle.page_map.specs.Forms.{form_of};
+ghost use Rattle.page_map.specs.Keeps.{Keeps, Tells, Untold};
+ghost use Rattle.page_map.specs.Outcome.{NamesPage, Outcome};
+ghost use Rattle.page_map.specs.PageMap.{page_at};
+ghost use Rattle.page_store.specs.Survives.{Survives};
+ghost use Rattle.index_contents.specs.IndexPages.{IsIndexPage};
+ghost use Rattle.index_contents.specs.IndexReading.{is_regular, slots_of};
 ghost use Rattle.index_contents.specs.IndexContents.{contents, index_page, relation_of, tuple_on};
 ghost use Rattle.index_contents.specs.IndexChanges.{DropsBytes, LeavesOtherPages, LeavesOthers};
-ghost use Rattle.index_order.specs.KeepsOrder.{KeepsOrder};
+ghost use Rattle.index_contents.specs.KeepsOrder.{KeepsOrder};
 ghost use Rattle.range_store.specs.PageTuples.{DropsOn, StaysWithoutTuples};
 
 use crate::changes::drop_tuple;
 use block_model::{Place, Spot};
 use disk_trait::Disk;
-use index_contents::{index_pages_are_known, relation_of};
-use index_layout::{a_put_changes_one_slot, an_index_page_has_one_list, tuple_at};
-use logged_pages::PageStore;
+use index_contents::{
+    a_put_changes_one_slot, an_index_page_has_one_list, index_pages_are_known, relation_of,
+    tuple_at,
+};
 use page_layout::Page;
-use page_store::StoreError;
+use page_map::StoreError;
+use page_store::PageStore;
 
 /// The spot has no tuple any more, whatever stood there. Where none did, and after an error, nothing is changed; so a page that isn't
 /// one of tuples stays as it is.

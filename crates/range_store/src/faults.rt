@@ -1,6 +1,6 @@
 //! Why a tuple isn't replaced.
 
-use page_store::StoreError;
+use page_map::StoreError;
 use thiserror::Error;
 
 /// Why a tuple doesn't give way to another. Nothing is changed then.

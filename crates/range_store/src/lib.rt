@@ -3,7 +3,7 @@
 //! copies it out by `tuple_at` into a `Scratch`, whose memory it takes once. It sees an index as what its pages have, a
 //! function of the pages of the store (index_contents). A call that answers an error leaves every page as it was, and none
 //! takes memory or copies a page. A crash in the middle of a call leaves an image that opens to the pages from before it, or as
-//! one of that time did. The crate stands on index_contents and logged_pages.
+//! one of that time did. The crate stands on index_contents and page_store.
 #![tactic(auto)]
 
 mod changes;

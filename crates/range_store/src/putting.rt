@@ -3,29 +3,28 @@
 ghost use Rattle.std.specs.Prelude.{◌≡◌, ◌<◌, length, IfOk, IfErr, OnErr};
 ghost use Rattle.store_layout.specs.DiskLayout.{IsPlace};
 ghost use Rattle.page_layout.specs.declared.page.Form.TheVariants as forms;
-ghost use Rattle.page_store.specs.Forms.{form_of};
-ghost use Rattle.page_store.specs.Keeps.{Keeps, Tells, Untold};
-ghost use Rattle.page_store.specs.Outcome.{NamesPage, Outcome};
-ghost use Rattle.page_store.specs.PageMap.{page_at};
-ghost use Rattle.logged_pages.specs.Survives.{Survives};
-ghost use Rattle.index_layout.specs.IndexPages.{IsIndexPage};
+ghost use Rattle.page_map.specs.Forms.{form_of};
+ghost use Rattle.page_map.specs.Keeps.{Keeps, Tells, Untold};
+ghost use Rattle.page_map.specs.Outcome.{NamesPage, Outcome};
+ghost use Rattle.page_map.specs.PageMap.{page_at};
+ghost use Rattle.page_store.specs.Survives.{Survives};
+ghost use Rattle.index_contents.specs.IndexPages.{IsIndexPage};
 ghost use Rattle.index_contents.specs.IndexContents.{contents, relation_of};
 ghost use Rattle.index_contents.specs.IndexChanges.{LeavesOtherPages, LeavesOthers, PutsBytes};
 ghost use Rattle.range_store.specs.PageTuples.{PutsOn, TakesOn};
-ghost use Rattle.index_order.specs.KeepsOrder.{KeepsOrder};
+ghost use Rattle.index_contents.specs.KeepsOrder.{KeepsOrder};
 ghost use Rattle.range_store.specs.Tuples.{IsFirstUnstarted, IsTupleSize, TakesBytes, opening_of};
 
 use crate::changes::{put_tuple, start_with};
 use block_model::{Place, Spot};
 use disk_trait::Disk;
-use index_contents::{index_pages_are_known, relation_of};
-use index_layout::{
-    REGULAR, UNSTARTED, a_put_changes_one_slot, an_index_page_has_one_list, free_slot, kind_of,
-    the_lowest_free_slot_has_room,
+use index_contents::{
+    REGULAR, UNSTARTED, a_put_changes_one_slot, an_index_page_has_one_list, free_slot,
+    index_pages_are_known, kind_of, relation_of, the_lowest_free_slot_has_room,
 };
-use logged_pages::PageStore;
 use page_layout::Page;
-use page_store::StoreError;
+use page_map::StoreError;
+use page_store::PageStore;
 
 /// Where a further tuple may stand on a page.
 #[derive(Clone, Copy, Debug)]

@@ -3,23 +3,22 @@
 ghost use Rattle.std.specs.Prelude.{◌≡◌, ◌<◌, ◌≤◌, ℕ, List, Some, None, true, false, length, IfOk, IfErr, OnErr};
 ghost use Rattle.block_model.specs.declared.limits.TheConstants.{PAGE_SIZE};
 ghost use Rattle.page_layout.specs.declared.page.Form.TheVariants as forms;
-ghost use Rattle.page_store.specs.Forms.{form_of};
-ghost use Rattle.page_store.specs.Keeps.{Keeps, Tells, Untold};
-ghost use Rattle.page_store.specs.Outcome.{NamesPage, Outcome};
-ghost use Rattle.logged_pages.specs.Survives.{Survives};
+ghost use Rattle.page_map.specs.Forms.{form_of};
+ghost use Rattle.page_map.specs.Keeps.{Keeps, Tells, Untold};
+ghost use Rattle.page_map.specs.Outcome.{NamesPage, Outcome};
+ghost use Rattle.page_store.specs.Survives.{Survives};
 ghost use Rattle.std.specs.Option.{option_map};
-ghost use Rattle.index_layout.specs.IndexPages.{IsIndexPage};
+ghost use Rattle.index_contents.specs.IndexPages.{IsIndexPage};
 ghost use Rattle.index_contents.specs.IndexContents.{contents, relation_of, tuple_on};
 ghost use Rattle.range_store.specs.Tuples.{IsOfRange};
 
 use crate::scratch::Scratch;
 use block_model::{PAGE_SIZE, Place, Spot};
 use disk_trait::Disk;
-use index_contents::{index_pages_are_known, relation_of};
-use index_layout::{an_index_page_has_one_list, tuple_range};
-use logged_pages::PageStore;
+use index_contents::{an_index_page_has_one_list, index_pages_are_known, relation_of, tuple_range};
 use page_layout::Page;
-use page_store::StoreError;
+use page_map::StoreError;
+use page_store::PageStore;
 
 /// How many bytes the number of a tuple's range has.
 const RANGE_SIZE: usize = 4;
@@ -88,5 +87,5 @@ fn tuple_in(page: &Page, slot: u16) -> Option<&[u8]>
     ensures found { option_map (λ tuple. tuple.now) result ≡ tuple_on page.now slot }
 {
     an_index_page_has_one_list();
-    index_layout::tuple_at(page.as_bytes(), slot)
+    index_contents::tuple_at(page.as_bytes(), slot)
 }

@@ -4,15 +4,15 @@ ghost use Rattle.std.specs.Prelude.{◌≡◌, ◌≢◌, ◌<◌, ◌≤◌, �
 ghost use Rattle.block_model.specs.declared.limits.TheConstants.{PAGE_SIZE};
 ghost use Rattle.store_layout.specs.DiskLayout.{IsPlace};
 ghost use Rattle.page_layout.specs.declared.page.Form.TheVariants as forms;
-ghost use Rattle.page_store.specs.Forms.{form_of};
-ghost use Rattle.page_store.specs.Keeps.{Keeps, Tells, Untold};
-ghost use Rattle.page_store.specs.Outcome.{NamesPage, Outcome};
-ghost use Rattle.page_store.specs.PageMap.{page_at};
-ghost use Rattle.logged_pages.specs.Survives.{Survives};
-ghost use Rattle.index_layout.specs.IndexPages.{IsIndexPage};
+ghost use Rattle.page_map.specs.Forms.{form_of};
+ghost use Rattle.page_map.specs.Keeps.{Keeps, Tells, Untold};
+ghost use Rattle.page_map.specs.Outcome.{NamesPage, Outcome};
+ghost use Rattle.page_map.specs.PageMap.{page_at};
+ghost use Rattle.page_store.specs.Survives.{Survives};
+ghost use Rattle.index_contents.specs.IndexPages.{IsIndexPage};
 ghost use Rattle.index_contents.specs.IndexContents.{contents, index_page, relation_of, room_in_place, tuple_on};
 ghost use Rattle.index_contents.specs.IndexChanges.{LeavesOtherPages, LeavesOthers, ReplacesBytes};
-ghost use Rattle.index_order.specs.KeepsOrder.{KeepsOrder};
+ghost use Rattle.index_contents.specs.KeepsOrder.{KeepsOrder};
 ghost use Rattle.range_store.specs.PageTuples.{ReplacesOn};
 ghost use Rattle.range_store.specs.Tuples.{FaultNamesPlace, IsFound, IsMisfit, IsTupleSize, MisfitsOn, ShowsMisfit, StandsWithin, SwapOutcome, TakesInPlace, size_of};
 
@@ -21,11 +21,13 @@ use crate::faults::SwapFault;
 use block_model::{Place, Spot};
 use byte_fields::get_u16;
 use disk_trait::Disk;
-use index_contents::{index_pages_are_known, relation_of};
-use index_layout::{REGULAR, an_index_page_has_one_list, free_bytes, kind_of, slots};
-use logged_pages::PageStore;
+use index_contents::{
+    REGULAR, an_index_page_has_one_list, free_bytes, index_pages_are_known, kind_of, relation_of,
+    slots,
+};
 use page_layout::Page;
-use page_store::StoreError;
+use page_map::StoreError;
+use page_store::PageStore;
 
 /// Where the directory of a page of tuples begins, and how many bytes each slot has.
 const DIRECTORY: usize = 32;
@@ -139,7 +141,7 @@ fn misfit_on(page: &Page, slot: u16, expect: &[u8], need: u16) -> Option<SwapFau
     ensures misfit { (fault : SwapFault) → result ≡ Some fault → IsMisfit fault }
 {
     let bytes = page.as_bytes();
-    let same = match index_layout::tuple_at(bytes, slot) {
+    let same = match index_contents::tuple_at(bytes, slot) {
         Some(tuple) => tuple == expect,
         None => false,
     };
@@ -190,7 +192,7 @@ fn size_at(page: &[u8], slot: u16) -> u16
     ensures { result ≡ size_of (tuple_on page.now slot) }
 {
     an_index_page_has_one_list();
-    match index_layout::tuple_at(page, slot) {
+    match index_contents::tuple_at(page, slot) {
         Some(tuple) => tuple.len() as u16,
         None => 0,
     }

@@ -3,9 +3,9 @@
 ghost use Rattle.std.specs.Prelude.{◌≡◌, ◌<◌, ℕ, None, length, IfSome};
 ghost use Rattle.store_layout.specs.DiskLayout.{relation_blocks};
 ghost use Rattle.page_layout.specs.declared.page.Form.TheVariants as forms;
-ghost use Rattle.page_store.specs.Forms.{form_of};
-ghost use Rattle.page_store.specs.Keeps.{Tells};
-ghost use Rattle.page_store.specs.PageMap.{block_at, block_limit};
+ghost use Rattle.page_map.specs.Forms.{form_of};
+ghost use Rattle.page_map.specs.Keeps.{Tells};
+ghost use Rattle.page_map.specs.PageMap.{block_at, block_limit};
 ghost use Rattle.index_contents.specs.IndexContents.{contents};
 ghost use Rattle.coverage.specs.IndexView.{Pages};
 ghost use Rattle.coverage.specs.Verdicts.{IsTarget};
@@ -14,7 +14,7 @@ ghost use Rattle.range_store.specs.Tuples.{IsFirstUnstarted, TakesBytes};
 
 use disk_trait::Disk;
 use index_contents::relation_of;
-use logged_pages::PageStore;
+use page_store::PageStore;
 
 /// The page for a tuple of so many bytes: the lowest one behind the map pages that takes tuples and has room, else the next one that
 /// isn't started, if the index may have it; else none. A page on which no further tuple fits is one

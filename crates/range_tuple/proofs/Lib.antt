@@ -13,3 +13,17 @@ pub mod TupleRead
 pub mod TuplesInForm
 pub mod Uniting
 pub mod WholeTuples
+pub mod Numbers
+pub mod Forms
+pub mod Placed
+pub mod MinMax
+pub mod Multi
+pub mod Spans
+pub mod Nets
+pub mod Blooms
+pub mod Classes
+pub mod SoundColumns
+pub mod Reading
+pub mod TupleParts
+pub mod Asking
+pub mod SoundUniting

@@ -11,3 +11,7 @@ pub mod TupleFaults
 pub mod TupleIncludes
 pub mod TupleReading
 pub mod Tuples
+pub mod OwnKinds
+pub mod SoundClasses
+pub mod SoundTuples
+pub mod RowsUnited

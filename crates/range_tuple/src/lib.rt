@@ -1,8 +1,8 @@
-//! Range tuples: what an index keeps of a range of blocks. For each indexed column a tuple has which of nulls and values
-//! rows had there, and a summary of the values; it is a placeholder or final. No call loses a row, and a final tuple that
-//! doesn't keep conditions has no row that matches them. It stands on block_model, byte_fields, opclass_api and opclass_any, and
-//! names no class. The layers above use `RangeTuple`, which is made once an index and read from
-//! bytes, `ListedTuple` in lists, `ScanKeys` for the conditions of a scan, the laws, and the words in specs/.
+//! Range tuples: what an index keeps of a range of blocks. For each indexed column a tuple has which of nulls and values rows had there,
+//! and a summary of the values; it is a placeholder or final. No call loses a row, and a final tuple that doesn't keep conditions has no
+//! row that matches them. Laws say the same of all tuples and all bytes, whichever class a column has (`tuples_are_sound`), as the protocol
+//! of an index asks. It stands on byte_fields, opclass_api and the classes. The layers above use `RangeTuple`, which is made once an index
+//! and read from bytes, `ListedTuple` in lists, `ScanKeys` for the conditions of a scan, the laws, and the words in specs/.
 #![tactic(auto)]
 
 mod column;
@@ -11,6 +11,7 @@ mod head;
 mod laws;
 mod listed;
 mod scan_keys;
+mod soundness;
 mod spare;
 mod state;
 mod tuple;
@@ -21,5 +22,9 @@ pub use laws::{
 };
 pub use listed::ListedTuple;
 pub use scan_keys::ScanKeys;
+pub use soundness::{
+    a_tuple_excludes_what_it_does_not_keep, a_union_adds_the_rows, classes_are_sound,
+    lawful_classes_are_within_limits, tuples_are_sound,
+};
 pub use state::NullState;
 pub use tuple::RangeTuple;

@@ -13,9 +13,9 @@ use Rattle.page_layout.specs.declared.page.Form.TheVariants as forms
 use Rattle.page_layout.specs.PageContents.{IsPageOf}
 use Rattle.page_layout.specs.PageWrites.{IsOfIndex}
 use Rattle.wal_record.specs.Changes.{MapSet}
-use Rattle.page_store.specs.Forms.{FitsIn, IsPageIn, form_of}
-use Rattle.page_store.specs.Keeps.{Tells}
-use Rattle.page_store.specs.PageMap.{PageMap, View, block_at, unstarted_page}
+use Rattle.page_map.specs.Forms.{FitsIn, IsPageIn, form_of}
+use Rattle.page_map.specs.Keeps.{Tells}
+use Rattle.page_map.specs.PageMap.{PageMap, View, block_at, unstarted_page}
 use Rattle.index_layout.specs.declared.format.TheConstants.{MAP, MAP_ENTRIES}
 use Rattle.index_layout.specs.IndexPages.{IsMap}
 use Rattle.index_layout.specs.IndexReading.{entries_in, entries_of, map_pages_of}
@@ -25,8 +25,8 @@ use Rattle.index_contents.specs.IndexChanges.{LeavesOtherPages, SetsEntry}
 use Rattle.index_contents.specs.MapLaws.{is_of_map, sets_entry}
 use Rattle.index_contents.specs.PageLaws.{StayBeside, blocks_stay}
 use Rattle.index_contents.specs.Reading.{counted_entry, is_map, map_byte, no_entry, uncounted, unstarted_kind}
-use Rattle.index_order.specs.KeepsOrder.{KeepsOrder}
-use Rattle.index_order.specs.OrderedCalls.{keeps_by_entries}
+use Rattle.index_contents.specs.KeepsOrder.{KeepsOrder}
+use Rattle.index_contents.specs.OrderedCalls.{keeps_by_entries}
 use Rattle.revmap.specs.MapEntries.{HoldsRange}
 
 -- the page that holds a range is of the map

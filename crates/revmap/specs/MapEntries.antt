@@ -4,10 +4,10 @@ use Rattle.block_model.specs.declared.place.Place.{Place}
 use Rattle.block_model.specs.declared.place.Spot.{Spot}
 use Rattle.store_layout.specs.DiskLayout.{DiskLayout}
 use Rattle.disk_trait.specs.Told.{Told}
-use Rattle.page_store.specs.declared.faults.StoreError.{StoreError}
-use Rattle.page_store.specs.Keeps.{Untold}
-use Rattle.page_store.specs.Outcome.{NamesPage, Outcome, Refused}
-use Rattle.page_store.specs.PageMap.{View}
+use Rattle.page_map.specs.declared.faults.StoreError.{StoreError}
+use Rattle.page_map.specs.Keeps.{Untold}
+use Rattle.page_map.specs.Outcome.{NamesPage, Outcome, Refused}
+use Rattle.page_map.specs.PageMap.{View}
 use Rattle.index_layout.specs.declared.format.TheConstants.{MAP_ENTRIES}
 use Rattle.index_layout.specs.IndexPages.{IsMap}
 use Rattle.index_layout.specs.IndexReading.{entries_of}

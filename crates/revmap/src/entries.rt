@@ -3,16 +3,16 @@
 ghost use Rattle.std.specs.Prelude.{◌≡◌, ◌≢◌, ◌*◌, ◌/◌, ◌%◌, ◌+◌, ◌<◌, ◌≤◌, Option, true, false, length, IfOk, IfErr, OnOk, OnErr};
 ghost use Rattle.store_layout.specs.DiskLayout.{IsPlace, page_offset};
 ghost use Rattle.page_layout.specs.declared.page.Form.TheVariants as forms;
-ghost use Rattle.page_store.specs.Forms.{form_of};
-ghost use Rattle.page_store.specs.Keeps.{Keeps, Tells, Untold};
-ghost use Rattle.page_store.specs.Outcome.{IsReopen, NamesPage, Outcome, Refused};
-ghost use Rattle.page_store.specs.PageMap.{page_at};
-ghost use Rattle.logged_pages.specs.Survives.{Survives};
+ghost use Rattle.page_map.specs.Forms.{form_of};
+ghost use Rattle.page_map.specs.Keeps.{Keeps, Tells, Untold};
+ghost use Rattle.page_map.specs.Outcome.{IsReopen, NamesPage, Outcome, Refused};
+ghost use Rattle.page_map.specs.PageMap.{page_at};
+ghost use Rattle.page_store.specs.Survives.{Survives};
 ghost use Rattle.index_contents.specs.IndexContents.{contents, relation_of};
 ghost use Rattle.index_contents.specs.IndexChanges.{LeavesOtherPages, LeavesOthers, SetsEntry};
 ghost use Rattle.index_layout.specs.declared.format.TheConstants.{MAP_ENTRIES};
 ghost use Rattle.coverage.specs.IndexView.{map_page_of};
-ghost use Rattle.index_order.specs.KeepsOrder.{KeepsOrder};
+ghost use Rattle.index_contents.specs.KeepsOrder.{KeepsOrder};
 ghost use Rattle.revmap.specs.MapEntries.{FaultNamesMap, HoldsRange, IsNameable, NamesMap, SetOutcome, SetsOnPage, ShowsOther, map_place};
 
 use crate::faults::SetFault;
@@ -21,8 +21,8 @@ use block_model::{Place, Spot};
 use disk_trait::Disk;
 use index_contents::relation_of;
 use index_layout::{MAP_ENTRIES, an_index_page_has_one_list};
-use logged_pages::PageStore;
-use page_store::StoreError;
+use page_map::StoreError;
+use page_store::PageStore;
 
 /// The block of the page that counts the pages of the map.
 const METAPAGE: u32 = 0;

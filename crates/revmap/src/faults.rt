@@ -1,7 +1,7 @@
 //! Why an entry isn't set.
 
 use block_model::Spot;
-use page_store::StoreError;
+use page_map::StoreError;
 use thiserror::Error;
 
 /// Why an entry of the map isn't set. Nothing is changed then.

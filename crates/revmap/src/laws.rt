@@ -3,7 +3,7 @@
 ghost use Rattle.std.specs.Prelude.{◌≡◌, ℕ, Option, None, Some};
 ghost use Rattle.block_model.specs.declared.place.Spot.{Spot as AnySpot};
 ghost use Rattle.store_layout.specs.DiskLayout.{DiskLayout};
-ghost use Rattle.page_store.specs.PageMap.{PageMap};
+ghost use Rattle.page_map.specs.PageMap.{PageMap};
 ghost use Rattle.coverage.specs.IndexView.{IsPastMap};
 ghost use Rattle.index_contents.specs.IndexContents.{contents};
 ghost use Rattle.revmap.specs.MapEntries.{HoldsRange};

@@ -3,11 +3,11 @@
 ghost use Rattle.std.specs.Prelude.{◌≡◌, ◌<◌, List, Option, None, Some, ℕ, set, slice_index, slice_index_or, IfOk, IfErr, OnOk, OnErr};
 ghost use Rattle.store_layout.specs.DiskLayout.{IsPlace};
 ghost use Rattle.page_layout.specs.declared.page.Form.TheVariants as forms;
-ghost use Rattle.page_store.specs.Forms.{form_of};
-ghost use Rattle.page_store.specs.Keeps.{Keeps, Tells, Untold};
-ghost use Rattle.page_store.specs.Outcome.{NamesPage, Outcome};
-ghost use Rattle.page_store.specs.PageMap.{block_at, page_at};
-ghost use Rattle.logged_pages.specs.Survives.{Survives};
+ghost use Rattle.page_map.specs.Forms.{form_of};
+ghost use Rattle.page_map.specs.Keeps.{Keeps, Tells, Untold};
+ghost use Rattle.page_map.specs.Outcome.{NamesPage, Outcome};
+ghost use Rattle.page_map.specs.PageMap.{block_at, page_at};
+ghost use Rattle.page_store.specs.Survives.{Survives};
 ghost use Rattle.index_layout.specs.declared.format.TheConstants.{MAP, MAP_ENTRIES};
 ghost use Rattle.index_layout.specs.IndexPages.{IsMap};
 ghost use Rattle.index_layout.specs.IndexReading.{entries_of};
@@ -16,8 +16,8 @@ ghost use Rattle.revmap.specs.MapEntries.{IsNameable};
 
 use block_model::{Place, Spot};
 use disk_trait::Disk;
-use logged_pages::PageStore;
-use page_store::StoreError;
+use page_map::StoreError;
+use page_store::PageStore;
 use wal_record::Change;
 
 /// That entry of the page; none where it isn't of the map.

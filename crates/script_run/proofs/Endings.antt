@@ -6,12 +6,12 @@ use Rattle.std.specs.Borrow.{Bor}
 use Rattle.std.specs.List.{concat}
 use Rattle.std.specs.Io.KnownBytes.{Keeps, IsAtEnd}
 use Rattle.io_traits.specs.Written.{AppendsPart}
-use Rattle.script_lines.specs.declared.end.Stage.{Stage}
-use Rattle.script_lines.specs.declared.end.Stage.TheVariants as stages
-use Rattle.script_lines.specs.declared.end.LinesEnd.{LinesEnd}
-use Rattle.script_lines.specs.declared.end.LinesEnd.TheVariants as stops
-use Rattle.script_lines.specs.Script.{script_lines, ended_lines, ended_from, rest_from, ended_append}
-use Rattle.script_lines.specs.Reading.{LineReading, HasRead, ReadsOn, Next, SeesEnd, lines_at, beyond}
+use Rattle.script_run.specs.declared.end.Stage.{Stage}
+use Rattle.script_run.specs.declared.end.Stage.TheVariants as stages
+use Rattle.script_run.specs.declared.end.LinesEnd.{LinesEnd}
+use Rattle.script_run.specs.declared.end.LinesEnd.TheVariants as stops
+use Rattle.script_run.specs.Script.{script_lines, ended_lines, ended_from, rest_from, ended_append}
+use Rattle.script_run.specs.Reading.{LineReading, HasRead, ReadsOn, Next, SeesEnd, lines_at, beyond}
 use Rattle.script_run.specs.declared.engine.AnswerFault.{AnswerFault}
 use Rattle.script_run.specs.declared.engine.AnswerFault.TheVariants.{Memory}
 use Rattle.script_run.specs.declared.fault.RunFault.{RunFault}

@@ -6,8 +6,8 @@ use Rattle.std.proofs.KnownBytes.{Appends-trans, Appends-nil, Consumes-nil, Cons
 use Rattle.std.specs.Borrow.{Bor}
 use Rattle.std.specs.List.{concat}
 use Rattle.std.specs.Io.KnownBytes.{Appends, Consumes}
-use Rattle.script_lines.specs.declared.end.Stage.TheVariants as stages
-use Rattle.script_lines.specs.Reading.{LineReading, HasRead, Next, SeesEnd, fresh}
+use Rattle.script_run.specs.declared.end.Stage.TheVariants as stages
+use Rattle.script_run.specs.Reading.{LineReading, HasRead, Next, SeesEnd, fresh}
 use Rattle.script_run.specs.Answers.{AreAnswers}
 
 -- the lines of this script that were handed out are answered, and their texts written

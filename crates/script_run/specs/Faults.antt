@@ -1,6 +1,6 @@
 -- why a run ends, from why there is no next line
-use Rattle.script_lines.specs.declared.end.LinesEnd.{LinesEnd}
-use Rattle.script_lines.specs.declared.end.LinesEnd.TheVariants as ends
+use Rattle.script_run.specs.declared.end.LinesEnd.{LinesEnd}
+use Rattle.script_run.specs.declared.end.LinesEnd.TheVariants as ends
 use Rattle.script_run.specs.declared.fault.RunFault.{RunFault}
 use Rattle.script_run.specs.declared.fault.RunFault.TheVariants as faults
 

@@ -4,10 +4,10 @@ ghost use Rattle.std.specs.Prelude.{◌≡◌};
 ghost use Rattle.script_run.specs.declared.engine.AnswerFault.TheVariants as unanswered;
 ghost use Rattle.script_run.specs.declared.fault.RunFault.TheVariants as faults;
 
+use crate::LinesEnd;
 use crate::engine::AnswerFault;
 use block_model::NoMemory;
 use io_traits::SinkFault;
-use script_lines::LinesEnd;
 use thiserror::Error;
 
 /// Why a run ends before the end of its script.

@@ -5,10 +5,10 @@ ghost use Rattle.block_model.specs.Causes.{Rose};
 ghost use Rattle.script_run.specs.Serving.{Serves};
 ghost use Rattle.script_run.specs.Runs.{Ran};
 
+use crate::Lines;
 use crate::engine::Engine;
 use crate::fault::RunFault;
 use io_traits::{Sink, Source, write_all};
-use script_lines::Lines;
 use std::alloc::Global;
 
 /// Runs the script of the source, of up to `limit` bytes: each line is answered by the engine, and the answer written to

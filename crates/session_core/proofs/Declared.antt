@@ -12,7 +12,7 @@ use Rattle.block_model.specs.ValuesOfKind.{IsValueOf, has_kind}
 use Rattle.heap_rows.specs.Heaps.{kinds_at, no_table}
 use Rattle.page_layout.specs.HeapForms.{kinds_of}
 use Rattle.page_layout.specs.RowBytes.{HaveKinds}
-use Rattle.statements.specs.StatementFits.{AreValuesFor, IsIndexOf, IsInsertFor, IsTableOf}
+use Rattle.store_layout.specs.StatementFits.{AreValuesFor, IsIndexOf, IsInsertFor, IsTableOf}
 use Rattle.store_layout.specs.DiskLayout.{DiskLayout}
 
 one_kind : (kind : Kind) (v : Value) → IsValueOf kind v → has_kind kind v ≡ true

@@ -6,61 +6,61 @@ use Rattle.std.proofs.lemmas.List.{length-map}
 use Rattle.std.proofs.lemmas.Option.{none-some, same_Some}
 use Rattle.block_model.specs.declared.place.Spot.{Spot}
 use Rattle.block_model.specs.declared.row.Row.{Row}
-use Rattle.statements.specs.declared.statement.Statement.{Statement}
-use Rattle.statements.specs.declared.statement.Statement.TheVariants as statements
+use Rattle.store_layout.specs.declared.statement.Statement.{Statement}
+use Rattle.store_layout.specs.declared.statement.Statement.TheVariants as statements
 use Rattle.store_layout.specs.DiskLayout.{DiskLayout, HasBoundedSizes}
 use Rattle.store_layout.specs.FirstBrokenRule.{KeepsLimits}
 use Rattle.page_layout.specs.PageContents.{Slot}
-use Rattle.row_versions.specs.declared.sessions.Open.{Open}
-use Rattle.row_versions.specs.StoredVersions.{transaction_of}
+use Rattle.snapshot_core.specs.declared.sessions.Open.{Open}
+use Rattle.snapshot_core.specs.StoredVersions.{transaction_of}
 use Rattle.snapshot_core.specs.declared.statuses.Status.{Status}
 use Rattle.tx_table.specs.TxState.{TxState}
-use Rattle.table_coverage.specs.Accounts.{Asked}
-use Rattle.table_coverage.specs.Table.{Resting, Task, TableState}
+use Rattle.coverage.specs.Accounts.{Asked}
+use Rattle.coverage.specs.Table.{Resting, Task, TableState}
 use Rattle.index_steps.specs.IndexTuples.{index_at}
 use Rattle.index_steps.specs.ShownTable.{indexes_of}
 use Rattle.index_steps.proofs.Lawful.{its_table}
 use Rattle.index_steps.proofs.Listed.{is_counted}
-use Rattle.brin_desummarise.specs.declared.stage.Stage.{Stage as DesummariseStage}
-use Rattle.brin_desummarise.specs.declared.stage.Stage.TheVariants as desummarise_stages
-use Rattle.brin_desummarise.specs.Desummarises.{range_of}
-use Rattle.brin_desummarise.specs.TableSteps as desummarises
+use Rattle.summarise_core.specs.declared.desummarise_stage.Stage.{Stage as DesummariseStage}
+use Rattle.summarise_core.specs.declared.desummarise_stage.Stage.TheVariants as desummarise_stages
+use Rattle.summarise_core.specs.Desummarises.{range_of}
+use Rattle.summarise_core.specs.DesummariseTable as desummarises
 use Rattle.brin_insert.specs.declared.insert.Insert.{Insert}
 use Rattle.brin_insert.specs.AskedFor.{AreRequestsOf, IsRequestOf, NoRequests, OneMoreRequest}
 use Rattle.brin_insert.specs.InsertHands.{InsertHand}
 use Rattle.brin_insert.specs.Inserts as inserts
-use Rattle.brin_scan.specs.declared.stage.Stage.{Stage}
-use Rattle.brin_scan.specs.declared.stage.Stage.TheVariants as stages
-use Rattle.brin_scan.specs.Explains.{explaining}
-use Rattle.brin_scan.specs.Finds.{FindHand, scanning}
-use Rattle.brin_scan.specs.ScanHands.{IsHand, IsScanOf, ScanHand}
-use Rattle.brin_scan.specs.TableScans as scans
-use Rattle.brin_scan.specs.TableScans.{Beside}
-use Rattle.brin_summarise.specs.declared.course.Standing.{Standing}
-use Rattle.brin_summarise.specs.declared.course.Standing.TheVariants as standings
-use Rattle.brin_summarise.specs.declared.wish.Wish.{Wish}
-use Rattle.brin_summarise.specs.declared.wish.Wish.TheVariants as wishes
-use Rattle.brin_summarise.specs.Summarises.{SummariseState}
-use Rattle.brin_summarise.specs.TableSteps as summarises
-use Rattle.brin_vacuum.specs.declared.standing.Standing.{Standing as CleaningStanding}
-use Rattle.brin_vacuum.specs.declared.standing.Standing.TheVariants as cleaning_standings
-use Rattle.brin_vacuum.specs.TableSteps as vacuums
-use Rattle.brin_vacuum.specs.Vacuums.{VacuumState}
-use Rattle.line_texts.specs.Beginnings.{IsIn, IsWorkIn}
-use Rattle.line_texts.specs.Place.{Hand as HandAt, Place}
-use Rattle.step_bounds.specs.Bounds.{IsBounded, IsTaskBounded, most_blocks}
-use Rattle.step_bounds.specs.Moves.{IsBoundedAt, IsInOneTable}
-use Rattle.step_bounds.specs.ShownBounds.{HasIndexPages, ShownTablesAreBounded}
-use Rattle.store_parts.specs.declared.hand.Hand.{Hand}
-use Rattle.store_parts.specs.declared.hand.Hand.TheVariants as hands
-use Rattle.store_parts.specs.declared.hand.Hit.{Hit}
-use Rattle.store_parts.specs.declared.hand.Marking.{Marking}
-use Rattle.store_parts.specs.declared.hand.Requested.{Requested}
-use Rattle.store_parts.specs.HandFits.{FitsHand, IsHandFor}
-use Rattle.store_parts.specs.Hands.{HandShows, hits_left, ids_of, statement_of}
-use Rattle.store_parts.specs.HandsInTables.{InItsTable, IsCompletingAt, IsDesummariseAt, IsExplainAt, IsMarkingBy, IsScanBy, IsSummariseAt, IsTaskOf}
-use Rattle.store_parts.specs.ShowsPlace.{ShowsPlace, ShowsTable}
-use Rattle.store_parts.specs.StoreStates.{StoreState, hand_at, shown_of}
+use Rattle.session_parts.specs.Stage.{Stage}
+use Rattle.session_parts.specs.Stage.TheVariants as stages
+use Rattle.session_parts.specs.Explains.{explaining}
+use Rattle.session_parts.specs.Finds.{FindHand, scanning}
+use Rattle.session_parts.specs.ScanHands.{IsHand, IsScanOf, ScanHand}
+use Rattle.session_parts.specs.TableScans as scans
+use Rattle.session_parts.specs.TableScans.{Beside}
+use Rattle.summarise_core.specs.declared.course.Standing.{Standing}
+use Rattle.summarise_core.specs.declared.course.Standing.TheVariants as standings
+use Rattle.summarise_core.specs.declared.wish.Wish.{Wish}
+use Rattle.summarise_core.specs.declared.wish.Wish.TheVariants as wishes
+use Rattle.summarise_core.specs.Summarises.{SummariseState}
+use Rattle.summarise_core.specs.SummariseTable as summarises
+use Rattle.session_parts.specs.Standing.{Standing as CleaningStanding}
+use Rattle.session_parts.specs.Standing.TheVariants as cleaning_standings
+use Rattle.session_parts.specs.TableSteps as vacuums
+use Rattle.session_parts.specs.Vacuums.{VacuumState}
+use Rattle.script_semantics.specs.Beginnings.{IsIn, IsWorkIn}
+use Rattle.script_semantics.specs.Place.{Hand as HandAt, Place}
+use Rattle.script_semantics.specs.Bounds.{IsBounded, IsTaskBounded, most_blocks}
+use Rattle.script_semantics.specs.Moves.{IsBoundedAt, IsInOneTable}
+use Rattle.script_semantics.specs.ShownBounds.{HasIndexPages, ShownTablesAreBounded}
+use Rattle.session_parts.specs.declared.hand.Hand.{Hand}
+use Rattle.session_parts.specs.declared.hand.Hand.TheVariants as hands
+use Rattle.session_parts.specs.declared.hand.Hit.{Hit}
+use Rattle.session_parts.specs.declared.hand.Marking.{Marking}
+use Rattle.session_parts.specs.declared.hand.Requested.{Requested}
+use Rattle.session_parts.specs.HandFits.{FitsHand, IsHandFor}
+use Rattle.session_parts.specs.Hands.{HandShows, hits_left, ids_of, statement_of}
+use Rattle.session_parts.specs.HandsInTables.{InItsTable, IsCompletingAt, IsDesummariseAt, IsExplainAt, IsMarkingBy, IsScanBy, IsSummariseAt, IsTaskOf}
+use Rattle.session_parts.specs.ShowsPlace.{ShowsPlace, ShowsTable}
+use Rattle.session_parts.specs.StoreStates.{StoreState, hand_at, shown_of}
 use Rattle.session_core.specs.Ending.{GoesWithin}
 
 -- ---- what a statement is at

@@ -2,19 +2,19 @@
 use Rattle.std.proofs.Common.{◌≡◌, ◌≢◌, inl, inr, ℕ, ◌<◌, ◌≤◌, List, length, Option, Some, sym, subst, ◌∙◌, arith}
 use Rattle.std.proofs.lemmas.Bool.{cases_eq, cases_lt}
 use Rattle.disk_trait.specs.Told.{Told}
-use Rattle.statements.specs.declared.limits.TheConstants.{MAX_SESSIONS}
+use Rattle.store_layout.specs.declared.limits.TheConstants.{MAX_SESSIONS}
 use Rattle.page_locks.specs.LockCounts.{locks_of}
-use Rattle.row_versions.specs.StoredVersions.{transaction_of}
+use Rattle.snapshot_core.specs.StoredVersions.{transaction_of}
 use Rattle.brin_insert.specs.declared.insert.Insert.{Insert}
-use Rattle.store_parts.specs.declared.hand.Hand.{Hand}
-use Rattle.store_parts.specs.declared.limits.TheConstants.{LOCKS_A_SESSION}
-use Rattle.store_parts.specs.declared.parts.Parts.{Parts}
-use Rattle.store_parts.specs.HandFits.{FitsStore}
-use Rattle.store_parts.specs.ShareLaws.{shares_below}
-use Rattle.store_parts.specs.Shares.{share_of}
-use Rattle.store_parts.specs.StepAnswers.{LeavesSessions}
-use Rattle.store_parts.specs.StoreLaws.{HasHand}
-use Rattle.store_parts.specs.StoreStates.{hand_in, store_of}
+use Rattle.session_parts.specs.declared.hand.Hand.{Hand}
+use Rattle.session_parts.specs.declared.limits.TheConstants.{LOCKS_A_SESSION}
+use Rattle.session_parts.specs.declared.parts.Parts.{Parts}
+use Rattle.session_parts.specs.HandFits.{FitsStore}
+use Rattle.session_parts.specs.ShareLaws.{shares_below}
+use Rattle.session_parts.specs.Shares.{share_of}
+use Rattle.session_parts.specs.StepAnswers.{LeavesSessions}
+use Rattle.session_parts.specs.StoreLaws.{HasHand}
+use Rattle.session_parts.specs.StoreStates.{hand_in, store_of}
 use Rattle.session_core.specs.SessionLaws.{SessionLaws}
 use Rattle.session_core.specs.StoreKept.{HoldsNothing, IsStoreKept}
 use Rattle.session_core.proofs.Lists.{inside}

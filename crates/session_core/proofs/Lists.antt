@@ -5,9 +5,9 @@ use Rattle.std.proofs.lemmas.Bool.{cases_eq, false≢true}
 use Rattle.std.proofs.lemmas.List.{length-map, map-set, set-get_or}
 use Rattle.std.proofs.lemmas.Option.{none-some}
 use Rattle.brin_insert.specs.declared.insert.Insert.{Insert}
-use Rattle.store_parts.specs.declared.hand.Hand.{Hand}
-use Rattle.store_parts.specs.StoreLaws.{HasHand}
-use Rattle.store_parts.specs.StoreStates.{hand_in, with_hand}
+use Rattle.session_parts.specs.declared.hand.Hand.{Hand}
+use Rattle.session_parts.specs.StoreLaws.{HasHand}
+use Rattle.session_parts.specs.StoreStates.{hand_in, with_hand}
 use Rattle.session_core.specs.declared.sessions.Session.{Session}
 use Rattle.session_core.specs.SessionLists.{hands_of, names_of, spare_in, spares_of}
 

@@ -3,21 +3,21 @@ use Rattle.std.proofs.Common.{◌≡◌, inl, inr, ℕ, ◌+◌, ◌<◌, ◌≤
 use Rattle.std.specs.Prelude.{nat_lt}
 use Rattle.std.proofs.lemmas.Bool.{cases_lt, le-leb, le-ltb, lt-leb, lt-ltb}
 use Rattle.disk_trait.specs.Told.{Told}
-use Rattle.statements.specs.declared.limits.TheConstants.{MAX_SESSIONS}
-use Rattle.statements.specs.SessionNumbers.{is_past_sessions, session_number, with_session}
+use Rattle.store_layout.specs.declared.limits.TheConstants.{MAX_SESSIONS}
+use Rattle.store_layout.specs.SessionNumbers.{is_past_sessions, session_number, with_session}
 use Rattle.page_locks.specs.LockCounts.{locks_of}
-use Rattle.row_versions.specs.StoredVersions.{transaction_of}
+use Rattle.snapshot_core.specs.StoredVersions.{transaction_of}
 use Rattle.brin_insert.specs.declared.insert.Insert.{Insert}
 use Rattle.brin_insert.specs.Inserts.{IsInsertFor}
-use Rattle.line_texts.specs.LineTexts.{named}
-use Rattle.store_parts.specs.declared.hand.Hand.{Hand}
-use Rattle.store_parts.specs.declared.parts.Parts.{Parts}
-use Rattle.store_parts.specs.HandFits.{FitsHand, FitsStore, locks_held, right_held}
-use Rattle.store_parts.specs.ShareLaws.{shares_below}
-use Rattle.store_parts.specs.Shares.{share_of}
-use Rattle.store_parts.specs.ShowsPlace.{IsPlaceOf}
-use Rattle.store_parts.specs.StepIs.{LeadsOn}
-use Rattle.store_parts.specs.StoreStates.{StoreState, hand_in, shown_of, store_of}
+use Rattle.script_semantics.specs.LineTexts.{named}
+use Rattle.session_parts.specs.declared.hand.Hand.{Hand}
+use Rattle.session_parts.specs.declared.parts.Parts.{Parts}
+use Rattle.session_parts.specs.HandFits.{FitsHand, FitsStore, locks_held, right_held}
+use Rattle.session_parts.specs.ShareLaws.{shares_below}
+use Rattle.session_parts.specs.Shares.{share_of}
+use Rattle.session_parts.specs.ShowsPlace.{IsPlaceOf}
+use Rattle.session_parts.specs.StepIs.{LeadsOn}
+use Rattle.session_parts.specs.StoreStates.{StoreState, hand_in, shown_of, store_of}
 use Rattle.session_core.specs.SessionLaws.{SessionLaws}
 use Rattle.session_core.specs.declared.sessions.Session.{Session}
 use Rattle.session_core.specs.SessionLists.{names_of}

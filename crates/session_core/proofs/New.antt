@@ -2,18 +2,18 @@
 use Rattle.std.proofs.Common.{◌≡◌, ℕ, zero, suc, ◌<◌, List, [], get_or, Option, None, sym, refl, ◌∙◌, arith}
 use Rattle.std.proofs.lemmas.Option.{none-some}
 use Rattle.disk_trait.specs.Told.{Told}
-use Rattle.statements.specs.declared.limits.TheConstants.{MAX_SESSIONS}
-use Rattle.page_store.specs.Keeps.{Tells}
-use Rattle.line_texts.specs.Place.{Place}
-use Rattle.row_versions.specs.declared.sessions.Open.{Open}
-use Rattle.row_versions.specs.StoredVersions.{transaction_of}
-use Rattle.store_parts.specs.declared.parts.Parts.{Parts}
-use Rattle.store_parts.specs.HandFits.{FitsStore}
-use Rattle.store_parts.specs.ShareLaws.{shares_below}
-use Rattle.store_parts.specs.ShowsPlace.{ShowsPlace}
-use Rattle.store_parts.specs.Shares.{share_of}
-use Rattle.store_parts.specs.StoreStates.{hand_in, store_of}
-use Rattle.store_starts.specs.OpenedParts.{AreOpened}
+use Rattle.store_layout.specs.declared.limits.TheConstants.{MAX_SESSIONS}
+use Rattle.page_map.specs.Keeps.{Tells}
+use Rattle.script_semantics.specs.Place.{Place}
+use Rattle.snapshot_core.specs.declared.sessions.Open.{Open}
+use Rattle.snapshot_core.specs.StoredVersions.{transaction_of}
+use Rattle.session_parts.specs.declared.parts.Parts.{Parts}
+use Rattle.session_parts.specs.HandFits.{FitsStore}
+use Rattle.session_parts.specs.ShareLaws.{shares_below}
+use Rattle.session_parts.specs.ShowsPlace.{ShowsPlace}
+use Rattle.session_parts.specs.Shares.{share_of}
+use Rattle.session_parts.specs.StoreStates.{hand_in, store_of}
+use Rattle.session_starts.specs.OpenedParts.{AreOpened}
 use Rattle.session_core.specs.StoreKept.{IsStoreKept}
 
 none_there : {A : Type 0} (n : ℕ) → get_or {A = Option A} [] n None ≡ None

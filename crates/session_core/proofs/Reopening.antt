@@ -3,25 +3,25 @@ use Rattle.std.proofs.Common.{◌≡◌, ℕ, List, Option, None, Some, IfSome, 
 use Rattle.std.proofs.lemmas.Bool.{false≢true}
 use Rattle.disk_trait.specs.Told.{Told}
 use Rattle.brin_insert.specs.declared.insert.Insert.{Insert}
-use Rattle.logged_pages.specs.Survives.{Survives}
-use Rattle.page_store.specs.declared.faults.StoreError.{StoreError}
-use Rattle.page_store.specs.declared.faults.StoreError.TheVariants as errors
-use Rattle.page_store.specs.Keeps.{Leaves}
-use Rattle.page_store.specs.Outcome.{IsReopen}
-use Rattle.line_texts.specs.Place.{Place}
-use Rattle.store_parts.specs.declared.faults.Step.{Step}
-use Rattle.store_parts.specs.declared.faults.StoreFault.{StoreFault}
-use Rattle.store_parts.specs.declared.faults.StoreFault.TheVariants as stops
-use Rattle.store_parts.specs.declared.hand.Hand.{Hand}
-use Rattle.store_parts.specs.declared.hand.Hand.TheVariants as hands
-use Rattle.store_parts.specs.declared.parts.Parts.{Parts}
-use Rattle.store_parts.specs.HandFits.{FitsStore}
-use Rattle.store_parts.specs.ShowsPlace.{ShowsPlace}
-use Rattle.store_parts.specs.StoreFaults.{fault_of}
-use Rattle.store_parts.specs.StoreStates.{StoreState, hand_at, hand_in, store_of}
-use Rattle.store_starts.specs.StopRule.{AllHaveTable, StepStopsWhole, StopsWhole}
-use Rattle.store_starts.specs.Stops.{StopsSo}
-use Rattle.store_transactions.proofs.Stopping.{passes_no_commit, passes_nothing}
+use Rattle.page_store.specs.Survives.{Survives}
+use Rattle.page_map.specs.declared.faults.StoreError.{StoreError}
+use Rattle.page_map.specs.declared.faults.StoreError.TheVariants as errors
+use Rattle.page_map.specs.Keeps.{Leaves}
+use Rattle.page_map.specs.Outcome.{IsReopen}
+use Rattle.script_semantics.specs.Place.{Place}
+use Rattle.session_parts.specs.declared.faults.Step.{Step}
+use Rattle.session_parts.specs.declared.faults.StoreFault.{StoreFault}
+use Rattle.session_parts.specs.declared.faults.StoreFault.TheVariants as stops
+use Rattle.session_parts.specs.declared.hand.Hand.{Hand}
+use Rattle.session_parts.specs.declared.hand.Hand.TheVariants as hands
+use Rattle.session_parts.specs.declared.parts.Parts.{Parts}
+use Rattle.session_parts.specs.HandFits.{FitsStore}
+use Rattle.session_parts.specs.ShowsPlace.{ShowsPlace}
+use Rattle.session_parts.specs.StoreFaults.{fault_of}
+use Rattle.session_parts.specs.StoreStates.{StoreState, hand_at, hand_in, store_of}
+use Rattle.session_starts.specs.StopRule.{AllHaveTable, StepStopsWhole, StopsWhole}
+use Rattle.session_starts.specs.Stops.{StopsSo}
+use Rattle.session_transactions.proofs.Stopping.{passes_no_commit, passes_nothing}
 use Rattle.session_core.specs.StoreKept.{IsStoreKept}
 use Rattle.session_core.proofs.Lists.{inside}
 

@@ -3,29 +3,29 @@ use Rattle.std.proofs.Common.{◌≡◌, inl, inr, ℕ, ◌<◌, List, length, s
 use Rattle.std.proofs.lemmas.Bool.{cases_lt}
 use Rattle.std.proofs.lemmas.Option.{none-some}
 use Rattle.disk_trait.specs.Told.{Told}
-use Rattle.page_store.specs.Keeps.{Leaves, Tells}
+use Rattle.page_map.specs.Keeps.{Leaves, Tells}
 use Rattle.brin_insert.specs.declared.insert.Insert.{Insert}
 use Rattle.brin_insert.specs.Inserts.{IsInsertFor}
-use Rattle.line_texts.specs.Place.{Place}
+use Rattle.script_semantics.specs.Place.{Place}
 use Rattle.store_layout.specs.DiskLayout.{DiskLayout}
-use Rattle.store_parts.specs.declared.faults.Step.{Step}
-use Rattle.store_parts.specs.declared.faults.StoreFault.{StoreFault}
-use Rattle.store_parts.specs.declared.faults.StoreFault.TheVariants as stops
-use Rattle.store_parts.specs.declared.hand.Hand.{Hand}
-use Rattle.store_parts.specs.declared.hand.Stepped.{Stepped}
-use Rattle.store_parts.specs.declared.hand.Stepped.TheVariants as stepped
-use Rattle.store_parts.specs.declared.parts.Parts.{Parts}
-use Rattle.store_parts.specs.ShowsPlace.{ShowsPlace}
-use Rattle.store_parts.specs.StepAnswers.{HasCause, HasFaultCause, IsHolderOf, LeavesSessions, StaysReady, StaysWhereUndone}
-use Rattle.store_parts.specs.StepIs.{LeadsOn, StepIs, answer_of, hand_after}
-use Rattle.store_parts.specs.StoreLaws.{HasHand}
-use Rattle.store_parts.specs.UndoneLaws.{StepsSo}
-use Rattle.store_parts.specs.StoreStates.{StoreState, hand_at, hand_in, store_of, with_hand}
+use Rattle.session_parts.specs.declared.faults.Step.{Step}
+use Rattle.session_parts.specs.declared.faults.StoreFault.{StoreFault}
+use Rattle.session_parts.specs.declared.faults.StoreFault.TheVariants as stops
+use Rattle.session_parts.specs.declared.hand.Hand.{Hand}
+use Rattle.session_parts.specs.declared.hand.Stepped.{Stepped}
+use Rattle.session_parts.specs.declared.hand.Stepped.TheVariants as stepped
+use Rattle.session_parts.specs.declared.parts.Parts.{Parts}
+use Rattle.session_parts.specs.ShowsPlace.{ShowsPlace}
+use Rattle.session_parts.specs.StepAnswers.{HasCause, HasFaultCause, IsHolderOf, LeavesSessions, StaysReady, StaysWhereUndone}
+use Rattle.session_parts.specs.StepIs.{LeadsOn, StepIs, answer_of, hand_after}
+use Rattle.session_parts.specs.StoreLaws.{HasHand}
+use Rattle.session_parts.specs.UndoneLaws.{StepsSo}
+use Rattle.session_parts.specs.StoreStates.{StoreState, hand_at, hand_in, store_of, with_hand}
 use Rattle.session_core.specs.SessionLaws.{SessionLaws}
 use Rattle.session_core.specs.SessionLists.{spare_in}
 use Rattle.session_core.specs.Sessions.{IsInHandThen, IsSameStatement, LeavesTheRest, NamesASession, StaysStill}
 use Rattle.session_core.specs.StoreKept.{IsStoreKept}
-use Rattle.store_starts.specs.Stops.{StopsSo}
+use Rattle.session_starts.specs.Stops.{StopsSo}
 use Rattle.session_core.proofs.Kept.{fits_now, nobody_now, promised_now, session_below}
 use Rattle.session_core.proofs.Lists.{spares_set}
 

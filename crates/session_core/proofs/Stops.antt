@@ -2,17 +2,17 @@
 use Rattle.std.proofs.Common.{◌≡◌, ℕ, List, refl}
 use Rattle.block_model.specs.declared.value.Value.{Value}
 use Rattle.disk_trait.specs.Told.{Told}
-use Rattle.page_store.specs.PageMap.{View}
+use Rattle.page_map.specs.PageMap.{View}
 use Rattle.block_model.specs.declared.reply.Reply.TheVariants as replies
-use Rattle.store_parts.specs.declared.faults.StoreFault.TheVariants as stops
-use Rattle.store_parts.specs.declared.hand.Hand.{Hand}
-use Rattle.store_parts.specs.declared.hand.Hand.TheVariants as hands
-use Rattle.store_parts.specs.declared.hand.Stepped.{Stepped}
-use Rattle.store_parts.specs.declared.hand.Stepped.TheVariants as stepped
-use Rattle.store_parts.specs.StepIs.{answer_of}
-use Rattle.store_transactions.specs.Stops.{IsSureThen}
+use Rattle.session_parts.specs.declared.faults.StoreFault.TheVariants as stops
+use Rattle.session_parts.specs.declared.hand.Hand.{Hand}
+use Rattle.session_parts.specs.declared.hand.Hand.TheVariants as hands
+use Rattle.session_parts.specs.declared.hand.Stepped.{Stepped}
+use Rattle.session_parts.specs.declared.hand.Stepped.TheVariants as stepped
+use Rattle.session_parts.specs.StepIs.{answer_of}
+use Rattle.session_transactions.specs.Stops.{IsSureThen}
 use Rattle.session_core.specs.Sessions.{IsNoPut}
-use Rattle.store_starts.specs.Stops.{IsSureBehind}
+use Rattle.session_starts.specs.Stops.{IsSureBehind}
 
 pub sure_behind : {D : Type 0} (told : D → Told) (old new : View D) (answer : Stepped) → IsSureThen told old new answer → IsSureBehind told old new (answer_of answer)
 sure_behind told old new (stepped.Moved point hand) sure = tt

@@ -3,7 +3,7 @@ use Rattle.std.proofs.Common.{◌≡◌, ◌≢◌, ℕ, suc, ◌+◌, ◌<◌, 
 use Rattle.std.proofs.lemmas.Bool.{eq-eqb, ne_eqb}
 use Rattle.std.proofs.lemmas.List.{map-append}
 use Rattle.block_model.specs.declared.schema.Index.{Index}
-use Rattle.brin_summarise.specs.Summarises.{SummariseState}
+use Rattle.summarise_core.specs.Summarises.{SummariseState}
 use Rattle.index_steps.specs.ShownTable.{numbers_from}
 
 abbrev pub numbers_of : List SummariseState → List ℕ

@@ -6,34 +6,34 @@ use Rattle.block_model.specs.declared.reply.Refusal.TheVariants as refusals
 use Rattle.block_model.specs.declared.request.Entry.{Entry}
 use Rattle.block_model.specs.DatabaseState.{OpenTransaction}
 use Rattle.disk_trait.specs.Told.{Told}
-use Rattle.statements.specs.declared.limits.TheConstants.{MAX_ENTRIES}
-use Rattle.statements.specs.declared.statement.Statement.{Statement}
-use Rattle.statements.specs.declared.statement.Statement.TheVariants as statements
-use Rattle.statements.specs.StatementRequests.{refusal_at, submission_refusal}
+use Rattle.store_layout.specs.declared.limits.TheConstants.{MAX_ENTRIES}
+use Rattle.store_layout.specs.declared.statement.Statement.{Statement}
+use Rattle.store_layout.specs.declared.statement.Statement.TheVariants as statements
+use Rattle.store_layout.specs.StatementRequests.{refusal_at, submission_refusal}
 use Rattle.store_layout.specs.DiskLayout.{DiskLayout}
-use Rattle.row_versions.specs.declared.sessions.Open.{Open}
-use Rattle.row_versions.specs.declared.standing.Standing.{Standing}
-use Rattle.row_versions.specs.declared.standing.Standing.TheVariants as standings
-use Rattle.row_versions.specs.StoredVersions.{transaction_of}
-use Rattle.row_versions.specs.VersionsState.{standing_of}
+use Rattle.snapshot_core.specs.declared.sessions.Open.{Open}
+use Rattle.snapshot_core.specs.declared.standing.Standing.{Standing}
+use Rattle.snapshot_core.specs.declared.standing.Standing.TheVariants as standings
+use Rattle.snapshot_core.specs.StoredVersions.{transaction_of}
+use Rattle.snapshot_core.specs.VersionsState.{standing_of}
 use Rattle.transactions.specs.Sessions.{open_standing}
-use Rattle.table_coverage.specs.Accounts.{Account}
+use Rattle.coverage.specs.Accounts.{Account}
 use Rattle.brin_insert.specs.declared.insert.Insert.{Insert}
-use Rattle.line_texts.specs.LineTexts.{NotTaken, Submits, Taken, WantsMemory, block_refusal, in_hand_refusal, may_want_memory, or_else, submit_refusal, with_statement}
-use Rattle.line_texts.specs.Place.{Hand as HandAt, Place, database_at}
+use Rattle.script_semantics.specs.LineTexts.{NotTaken, Submits, Taken, WantsMemory, block_refusal, in_hand_refusal, may_want_memory, or_else, submit_refusal, with_statement}
+use Rattle.script_semantics.specs.Place.{Hand as HandAt, Place, database_at}
 use Rattle.reply_texts.specs.declared.dropped.Dropped.{Dropped}
-use Rattle.store_parts.specs.declared.hand.Hand.{Hand}
-use Rattle.store_parts.specs.declared.parts.Parts.{Parts}
-use Rattle.store_parts.specs.HandFits.{FitsHand, FitsStore, IsHandFor, IsUnderWay, locks_held, right_held}
-use Rattle.store_parts.specs.Hands.{HandShows, statement_of}
-use Rattle.store_parts.specs.JournalState.{JournalState}
-use Rattle.store_parts.specs.Shares.{hand_share}
-use Rattle.store_parts.specs.ShowsPlace.{IsPlaceOf, ShowsPlace}
-use Rattle.store_parts.specs.StepAnswers.{LeavesSessions}
-use Rattle.store_parts.specs.StepIs.{LeadsOn}
-use Rattle.store_parts.specs.StoreLaws.{HasHand}
-use Rattle.store_parts.specs.StoreStates.{StoreState, hand_at, hand_in, shown_of, store_of, with_hand}
-use Rattle.store_parts.specs.SubmitLaws.{ForgetsDropped, HasNotBegun}
+use Rattle.session_parts.specs.declared.hand.Hand.{Hand}
+use Rattle.session_parts.specs.declared.parts.Parts.{Parts}
+use Rattle.session_parts.specs.HandFits.{FitsHand, FitsStore, IsHandFor, IsUnderWay, locks_held, right_held}
+use Rattle.session_parts.specs.Hands.{HandShows, statement_of}
+use Rattle.session_parts.specs.JournalState.{JournalState}
+use Rattle.session_parts.specs.Shares.{hand_share}
+use Rattle.session_parts.specs.ShowsPlace.{IsPlaceOf, ShowsPlace}
+use Rattle.session_parts.specs.StepAnswers.{LeavesSessions}
+use Rattle.session_parts.specs.StepIs.{LeadsOn}
+use Rattle.session_parts.specs.StoreLaws.{HasHand}
+use Rattle.session_parts.specs.StoreStates.{StoreState, hand_at, hand_in, shown_of, store_of, with_hand}
+use Rattle.session_parts.specs.SubmitLaws.{ForgetsDropped, HasNotBegun}
 use Rattle.session_core.specs.SessionLaws.{SessionLaws}
 use Rattle.session_core.specs.StoreKept.{IsStoreKept}
 use Rattle.session_core.specs.Submitting.{Allows, IsTakenUp, TakesHand, begin_refusal, end_refusal, refusal_here, request_refusal, standing_refusal}

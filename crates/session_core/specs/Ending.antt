@@ -1,14 +1,14 @@
 -- how far a statement in hand goes, and that it ends
 use Rattle.std.specs.Prelude.{◌≡◌, ℕ, Some}
 use Rattle.disk_trait.specs.Told.{Told}
-use Rattle.page_store.specs.Keeps.{Tells}
-use Rattle.brin_scan.specs.ScanHands.{IsHand}
-use Rattle.line_texts.specs.Place.{Hand as HandAt, Place}
-use Rattle.step_bounds.specs.Moves.{IsBoundedAt}
-use Rattle.store_parts.specs.declared.hand.Hand.{Hand}
-use Rattle.store_parts.specs.declared.hand.Hand.TheVariants as hands
-use Rattle.store_parts.specs.ShowsPlace.{ShowsPlace}
-use Rattle.store_parts.specs.StoreStates.{StoreState}
+use Rattle.page_map.specs.Keeps.{Tells}
+use Rattle.session_parts.specs.ScanHands.{IsHand}
+use Rattle.script_semantics.specs.Place.{Hand as HandAt, Place}
+use Rattle.script_semantics.specs.Moves.{IsBoundedAt}
+use Rattle.session_parts.specs.declared.hand.Hand.{Hand}
+use Rattle.session_parts.specs.declared.hand.Hand.TheVariants as hands
+use Rattle.session_parts.specs.ShowsPlace.{ShowsPlace}
+use Rattle.session_parts.specs.StoreStates.{StoreState}
 
 -- a scan goes no further than its table may reach
 abbrev pub GoesWithin : Hand → Type 0

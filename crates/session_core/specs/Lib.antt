@@ -5,3 +5,10 @@ pub mod SessionLaws
 pub mod Submitting
 pub mod Sessions
 pub mod Ending
+pub use Rattle.session_starts.specs.FreshPages
+pub use Rattle.session_starts.specs.ImageLaws
+pub use Rattle.session_starts.specs.OpenedParts
+pub use Rattle.session_starts.specs.Started
+pub use Rattle.session_starts.specs.StopRule
+pub use Rattle.session_starts.specs.Stops
+pub use Rattle.session_starts.specs.StoreImage

@@ -1,9 +1,9 @@
 -- what a store of sessions takes of the laws of its parts
 use Rattle.disk_trait.specs.Told.{Told}
 use Rattle.transactions.specs.Laws.{SessionsAreShown}
-use Rattle.store_parts.specs.ShareLaws.{FewLocksEach, PromisesStay, ShareIsWithin}
-use Rattle.store_parts.specs.StoreLaws.{FitEverywhere, HandChanges, OthersStayFit}
-use Rattle.store_parts.specs.SubmitLaws.{NamedIsShown, SubmittedIsShown}
+use Rattle.session_parts.specs.ShareLaws.{FewLocksEach, PromisesStay, ShareIsWithin}
+use Rattle.session_parts.specs.StoreLaws.{FitEverywhere, HandChanges, OthersStayFit}
+use Rattle.session_parts.specs.SubmitLaws.{NamedIsShown, SubmittedIsShown}
 
 pub record SessionLaws {D : Type 0} (told : D → Told) : Type 0 where
   pub changes : HandChanges

@@ -1,7 +1,7 @@
 -- sessions by their numbers
 use Rattle.std.specs.Prelude.{ℕ, List, map, slice_index_or, Option, None}
 use Rattle.brin_insert.specs.declared.insert.Insert.{Insert}
-use Rattle.store_parts.specs.declared.hand.Hand.{Hand}
+use Rattle.session_parts.specs.declared.hand.Hand.{Hand}
 use Rattle.session_core.specs.declared.sessions.Session.{Session}
 
 -- the sessions' names

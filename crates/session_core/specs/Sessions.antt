@@ -2,17 +2,17 @@
 use Rattle.std.specs.Prelude.{◌≡◌, ◌≢◌, ℕ, ◌<◌, nat_lt, List, ◌++◌, [], ◌∷◌, length, true, false, Option, None, Some, IsSome, Result, Ok, Err, if◌then◌else◌}
 use Rattle.block_model.specs.declared.reply.Refusal.{Refusal}
 use Rattle.disk_trait.specs.Told.{Told}
-use Rattle.statements.specs.declared.limits.TheConstants.{MAX_SESSIONS}
-use Rattle.statements.specs.SessionNumbers.{session_number, with_session, is_past_sessions}
-use Rattle.store_parts.specs.declared.faults.Step.{Step}
-use Rattle.store_parts.specs.declared.faults.Step.TheVariants as steps
-use Rattle.store_parts.specs.declared.faults.StoreFault.{StoreFault}
-use Rattle.store_parts.specs.declared.faults.StoreFault.TheVariants as stops
-use Rattle.store_parts.specs.declared.hand.Hand.{Hand}
-use Rattle.store_parts.specs.declared.hand.Hand.TheVariants as hands
-use Rattle.store_parts.specs.Hands.{statement_of}
-use Rattle.store_parts.specs.StepAnswers.{LeavesSessions, StaysAsItWas}
-use Rattle.store_parts.specs.StoreStates.{StoreState, hand_at}
+use Rattle.store_layout.specs.declared.limits.TheConstants.{MAX_SESSIONS}
+use Rattle.store_layout.specs.SessionNumbers.{session_number, with_session, is_past_sessions}
+use Rattle.session_parts.specs.declared.faults.Step.{Step}
+use Rattle.session_parts.specs.declared.faults.Step.TheVariants as steps
+use Rattle.session_parts.specs.declared.faults.StoreFault.{StoreFault}
+use Rattle.session_parts.specs.declared.faults.StoreFault.TheVariants as stops
+use Rattle.session_parts.specs.declared.hand.Hand.{Hand}
+use Rattle.session_parts.specs.declared.hand.Hand.TheVariants as hands
+use Rattle.session_parts.specs.Hands.{statement_of}
+use Rattle.session_parts.specs.StepAnswers.{LeavesSessions, StaysAsItWas}
+use Rattle.session_parts.specs.StoreStates.{StoreState, hand_at}
 use Rattle.session_core.specs.declared.faults.SessionFault.{SessionFault}
 use Rattle.session_core.specs.declared.faults.SessionFault.TheVariants as faults
 

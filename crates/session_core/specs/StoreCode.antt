@@ -4,16 +4,16 @@ use Rattle.std.specs.Coded.{Coded, code_by, coded×, coded_list, coded_option, c
 use Rattle.block_model.specs.contracts.schema.Schema as schema_contract
 use Rattle.block_model.specs.contracts.schema.Sizes as sizes_contract
 use Rattle.page_locks.specs.LockHolders.{coded_locks}
-use Rattle.page_store.specs.PageMap.{View}
-use Rattle.row_versions.specs.contracts.sessions.Open as open_contract
+use Rattle.page_map.specs.PageMap.{View}
+use Rattle.snapshot_core.specs.contracts.sessions.Open as open_contract
 use Rattle.store_layout.specs.DiskLayout.{DiskLayout}
 use Rattle.transactions.specs.TransactionsState.{TransactionsState}
 use Rattle.reply_texts.specs.contracts.dropped.Dropped as dropped_contract
-use Rattle.store_parts.specs.contracts.hand.Hand as hand_contract
+use Rattle.session_parts.specs.contracts.hand.Hand as hand_contract
 use Rattle.reply_texts.specs.declared.dropped.Dropped.{Dropped}
-use Rattle.store_parts.specs.declared.hand.Hand.{Hand}
-use Rattle.store_parts.specs.JournalState.{coded_journal}
-use Rattle.store_parts.specs.StoreStates.{StoreState}
+use Rattle.session_parts.specs.declared.hand.Hand.{Hand}
+use Rattle.session_parts.specs.JournalState.{coded_journal}
+use Rattle.session_parts.specs.StoreStates.{StoreState}
 
 abbrev pub coded_layout : Coded DiskLayout
 coded_layout = code_by _ (coded× schema_contract.the_row.coded sizes_contract.the_row.coded) (λ (d : DiskLayout). (d.schema, d.sizes)) (λ p. record { schema = p.0; sizes = p.1 }) (λ _. refl)

@@ -1,18 +1,18 @@
 -- what holds of every store
 use Rattle.std.specs.Prelude.{◌≡◌, ◌≢◌, ℕ, ◌≤◌, ◌<◌, List, length, IfSome, Option, None, Some}
 use Rattle.disk_trait.specs.Told.{Told}
-use Rattle.statements.specs.declared.limits.TheConstants.{MAX_SESSIONS}
+use Rattle.store_layout.specs.declared.limits.TheConstants.{MAX_SESSIONS}
 use Rattle.page_locks.specs.LockCounts.{locks_of}
 use Rattle.page_locks.specs.RightHolders.{right_of}
-use Rattle.page_store.specs.Keeps.{Tells}
-use Rattle.row_versions.specs.StoredVersions.{transaction_of}
+use Rattle.page_map.specs.Keeps.{Tells}
+use Rattle.snapshot_core.specs.StoredVersions.{transaction_of}
 use Rattle.brin_insert.specs.declared.insert.Insert.{Insert}
 use Rattle.brin_insert.specs.Inserts.{IsInsertFor}
-use Rattle.line_texts.specs.Place.{Place}
-use Rattle.store_parts.specs.HandFits.{FitsStore}
-use Rattle.store_parts.specs.ShareLaws.{shares_below}
-use Rattle.store_parts.specs.ShowsPlace.{ShowsPlace}
-use Rattle.store_parts.specs.StoreStates.{StoreState}
+use Rattle.script_semantics.specs.Place.{Place}
+use Rattle.session_parts.specs.HandFits.{FitsStore}
+use Rattle.session_parts.specs.ShareLaws.{shares_below}
+use Rattle.session_parts.specs.ShowsPlace.{ShowsPlace}
+use Rattle.session_parts.specs.StoreStates.{StoreState}
 use Rattle.session_core.specs.SessionLists.{spare_in}
 
 -- a session of that number has no transaction, and holds no page lock and no summarise lock

@@ -2,21 +2,21 @@
 use Rattle.std.specs.Prelude.{◌≡◌, ◌≢◌, ℕ, ◌+◌, true, Option, None, Some, IsSome, Result, Ok, Err, MatchOption}
 use Rattle.block_model.specs.declared.reply.Refusal.{Refusal}
 use Rattle.block_model.specs.declared.reply.Refusal.TheVariants as refusals
-use Rattle.statements.specs.declared.statement.Statement.{Statement}
-use Rattle.statements.specs.declared.statement.Statement.TheVariants as statements
-use Rattle.row_versions.specs.declared.sessions.Open.{Open}
-use Rattle.row_versions.specs.declared.standing.Standing.{Standing}
-use Rattle.row_versions.specs.declared.standing.Standing.TheVariants as standings
-use Rattle.row_versions.specs.StoredVersions.{transaction_of}
+use Rattle.store_layout.specs.declared.statement.Statement.{Statement}
+use Rattle.store_layout.specs.declared.statement.Statement.TheVariants as statements
+use Rattle.snapshot_core.specs.declared.sessions.Open.{Open}
+use Rattle.snapshot_core.specs.declared.standing.Standing.{Standing}
+use Rattle.snapshot_core.specs.declared.standing.Standing.TheVariants as standings
+use Rattle.snapshot_core.specs.StoredVersions.{transaction_of}
 use Rattle.transactions.specs.Sessions.{open_standing}
-use Rattle.line_texts.specs.LineTexts.{block_refusal, in_hand_refusal, may_want_memory, or_else}
-use Rattle.store_parts.specs.declared.hand.Hand.{Hand}
-use Rattle.store_parts.specs.declared.parts.Parts.{Parts}
-use Rattle.store_parts.specs.HandFits.{IsHandFor, IsUnderWay}
-use Rattle.store_parts.specs.Hands.{statement_of}
-use Rattle.store_parts.specs.Shares.{hand_share}
-use Rattle.store_parts.specs.StoreStates.{StoreState, hand_at}
-use Rattle.store_parts.specs.SubmitLaws.{ForgetsDropped, HasNotBegun}
+use Rattle.script_semantics.specs.LineTexts.{block_refusal, in_hand_refusal, may_want_memory, or_else}
+use Rattle.session_parts.specs.declared.hand.Hand.{Hand}
+use Rattle.session_parts.specs.declared.parts.Parts.{Parts}
+use Rattle.session_parts.specs.HandFits.{IsHandFor, IsUnderWay}
+use Rattle.session_parts.specs.Hands.{statement_of}
+use Rattle.session_parts.specs.Shares.{hand_share}
+use Rattle.session_parts.specs.StoreStates.{StoreState, hand_at}
+use Rattle.session_parts.specs.SubmitLaws.{ForgetsDropped, HasNotBegun}
 
 -- by how the session stands: a begin where a transaction is under way, an end where none is, and the rest of a transaction but in one that hasn't failed
 abbrev pub begin_refusal : Standing → Option Refusal

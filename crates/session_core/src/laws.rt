@@ -3,7 +3,7 @@
 ghost use Rattle.session_core.specs.SessionLaws.{SessionLaws};
 
 use disk_trait::Disk;
-use store_parts::{
+use session_parts::{
     Parts, a_fit_step_fits_everywhere, a_submitted_statement_is_shown,
     each_session_holds_few_locks, one_hand_changes, other_sessions_stay_fit, shares_are_summed,
 };

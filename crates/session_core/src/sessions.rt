@@ -2,14 +2,14 @@
 
 ghost use Rattle.std.specs.Prelude.{◌≡◌, ◌<◌, ◌≤◌, [], ◌∷◌, ◌++◌, None, Some, IfSome, IsSome, OnOk, OnErr, length, slice_set};
 ghost use Rattle.std.specs.Option.{is_some};
-ghost use Rattle.statements.specs.SessionNumbers.{session_number};
-ghost use Rattle.store_parts.specs.StoreStates.{hand_in};
+ghost use Rattle.store_layout.specs.SessionNumbers.{session_number};
+ghost use Rattle.session_parts.specs.StoreStates.{hand_in};
 ghost use Rattle.session_core.specs.Ending.{GoesWithin};
 ghost use Rattle.session_core.specs.SessionLists.{hands_of, names_of, spares_of};
 
 use block_model::{Name, NoMemory};
 use brin_insert::Insert;
-use store_parts::Hand;
+use session_parts::Hand;
 
 /// A session: the statement that it has in hand, and the machine of its last insert, for the next row of that table.
 #[derive(Drop)]

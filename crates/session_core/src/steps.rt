@@ -3,23 +3,23 @@
 ghost use Rattle.std.specs.Prelude.{◌≡◌, ◌+◌, ◌≤◌, None, Some, IfSome};
 ghost use Rattle.page_locks.specs.LockHolders.{count_of};
 ghost use Rattle.brin_insert.specs.Inserts.{IsInsertFor};
-ghost use Rattle.store_parts.specs.declared.limits.TheConstants.{LOCKS_A_SESSION, MAX_LOCKS};
-ghost use Rattle.store_parts.specs.StepIs.{answer_of, hand_after};
-ghost use Rattle.store_parts.specs.Stepping.{IsFit, IsShown};
-ghost use Rattle.store_parts.specs.UndoneLaws.{StepsSo};
-ghost use Rattle.store_inserts.specs.Settling.{SettlesSo};
+ghost use Rattle.session_parts.specs.declared.limits.TheConstants.{LOCKS_A_SESSION, MAX_LOCKS};
+ghost use Rattle.session_parts.specs.StepIs.{answer_of, hand_after};
+ghost use Rattle.session_parts.specs.Stepping.{IsFit, IsShown};
+ghost use Rattle.session_parts.specs.UndoneLaws.{StepsSo};
+ghost use Rattle.session_inserts.specs.Settling.{SettlesSo};
 ghost use Rattle.session_core.specs.Sessions.{IsNoPut};
-ghost use Rattle.store_starts.specs.Stops.{StopsSo};
+ghost use Rattle.session_starts.specs.Stops.{StopsSo};
 
 use brin_insert::Insert;
 use disk_trait::Disk;
-use store_inserts::{insert_on, put_row};
-use store_parts::{Hand, Parts, Step, Stepped, StoreFault};
-use store_scans::{begin_delete, begin_select, delete_on, select_on};
-use store_transactions::{begin, commit, mark, roll_back};
-use store_upkeep::{
+use session_inserts::{insert_on, put_row};
+use session_maintenance::{
     begin_work, clean_on, complete_on, desummarise_on, explain_on, summarise_on, work_on,
 };
+use session_parts::{Hand, Parts, Step, Stepped, StoreFault};
+use session_scans::{begin_delete, begin_select, delete_on, select_on};
+use session_transactions::{begin, commit, mark, roll_back};
 
 /// Makes the next step of the statement; what is left of it comes into `left`. The session's spare machine serves the next row of its table.
 pub(crate) fn step_of<D: Disk + Drop>(

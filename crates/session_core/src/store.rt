@@ -2,25 +2,25 @@
 
 ghost use Rattle.std.specs.Prelude.{◌≡◌, ◌≤◌, ◌<◌, [], length, slice_index_or, None, Err, IfOk, IfErr, IfSome, IsTrue, MatchResult, OnOk, OnErr, IsSome};
 ghost use Rattle.std.specs.Option.{is_some};
-ghost use Rattle.statements.specs.StatementFits.{IsStatementFor};
-ghost use Rattle.store_opening.specs.Opens.{OpensAs};
-ghost use Rattle.store_opening.specs.StartCauses.{HasStore};
-ghost use Rattle.store_opening.specs.Untouched.{IsUntouched};
-ghost use Rattle.logged_pages.specs.Refused.{IsRefused};
-ghost use Rattle.page_store.specs.Keeps.{Leaves, Tells};
-ghost use Rattle.fresh_store.specs.FreshPages.{fresh_pages};
-ghost use Rattle.line_texts.specs.LineTexts.{Submits, dropped_at, named};
-ghost use Rattle.line_texts.specs.Place.{Place};
-ghost use Rattle.store_parts.specs.ShowsPlace.{ShowsPlace};
-ghost use Rattle.store_parts.specs.StepAnswers.{HasFaultCause, StaysReady};
-ghost use Rattle.store_parts.specs.StepIs.{LeadsOn, StepIs};
-ghost use Rattle.store_parts.specs.StoreStates.{hand_at};
-ghost use Rattle.store_starts.specs.OpenedParts.{ShowsStart};
-ghost use Rattle.store_starts.specs.Started.{HoldsImage, ImagesStay, OpensTable};
-ghost use Rattle.store_starts.specs.StopRule.{AllHaveTable, StopsWhole};
+ghost use Rattle.store_layout.specs.StatementFits.{IsStatementFor};
+ghost use Rattle.recovery.specs.Opens.{OpensAs};
+ghost use Rattle.recovery.specs.StartCauses.{HasStore};
+ghost use Rattle.recovery.specs.Untouched.{IsUntouched};
+ghost use Rattle.page_store.specs.Refused.{IsRefused};
+ghost use Rattle.page_map.specs.Keeps.{Leaves, Tells};
+ghost use Rattle.session_starts.specs.FreshPages.{fresh_pages};
+ghost use Rattle.script_semantics.specs.LineTexts.{Submits, dropped_at, named};
+ghost use Rattle.script_semantics.specs.Place.{Place};
+ghost use Rattle.session_parts.specs.ShowsPlace.{ShowsPlace};
+ghost use Rattle.session_parts.specs.StepAnswers.{HasFaultCause, StaysReady};
+ghost use Rattle.session_parts.specs.StepIs.{LeadsOn, StepIs};
+ghost use Rattle.session_parts.specs.StoreStates.{hand_at};
+ghost use Rattle.session_starts.specs.OpenedParts.{ShowsStart};
+ghost use Rattle.session_starts.specs.Started.{HoldsImage, ImagesStay, OpensTable};
+ghost use Rattle.session_starts.specs.StopRule.{AllHaveTable, StopsWhole};
 ghost use Rattle.session_core.specs.Ending.{EndsSoon};
 ghost use Rattle.session_core.specs.Sessions.{HasSession, IsInHandThen, IsSameStatement, LeavesTheRest, NamesASession, StaysStill, refusal_in};
-ghost use Rattle.store_starts.specs.Stops.{StopsSo};
+ghost use Rattle.session_starts.specs.Stops.{StopsSo};
 ghost use Rattle.session_core.specs.Submitting.{IsJudged, IsTakenUp, refusal_here};
 
 use crate::faults::SessionFault;
@@ -31,15 +31,14 @@ use crate::submitting::{block_refusal, hand_for, standing_refusal};
 use block_model::{Entry, Name, Refusal};
 use disk_trait::Disk;
 use heap_rows::blocks;
+use recovery::StartFault;
 use reply_texts::Dropped;
-use statements::{MAX_SESSIONS, Statement};
+use script_semantics::shown_tables_are_bounded;
+use session_parts::{Parts, Step, StoreFault, fault_of, few_locks_are_held};
+use session_starts::{a_step_stops_whole, start_parts};
 use std::alloc::Global;
 use std::marker::Model;
-use step_bounds::shown_tables_are_bounded;
-use store_layout::Layout;
-use store_opening::StartFault;
-use store_parts::{Parts, Step, StoreFault, fault_of, few_locks_are_held};
-use store_starts::{a_step_stops_whole, start_parts};
+use store_layout::{Layout, MAX_SESSIONS, Statement};
 
 /// A store of sessions over pages on a disk.
 #[derive(Drop)]
@@ -50,7 +49,7 @@ pub struct Store<D: Disk + Drop> {
 }
 
 impl<D: Disk + Drop> Model for Store<D> {
-    ghost use Rattle.store_parts.specs.StoreStates.{StoreState, store_of};
+    ghost use Rattle.session_parts.specs.StoreStates.{StoreState, store_of};
     ghost use Rattle.session_core.specs.SessionLists.{hands_of, names_of, spares_of};
     ghost use Rattle.session_core.specs.StoreCode.{coded_store};
     ghost use Rattle.session_core.specs.StoreKept.{IsStoreKept};

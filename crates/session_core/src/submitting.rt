@@ -2,20 +2,17 @@
 
 ghost use Rattle.std.specs.Prelude.{◌≡◌, ◌+◌, ◌<◌, length, true, None, Some, IfOk, OnErr, if◌then◌else◌, nat_le};
 ghost use Rattle.block_model.specs.declared.reply.Refusal.TheVariants as refusals;
-ghost use Rattle.line_texts.specs.LineTexts.{block_refusal, may_want_memory};
-ghost use Rattle.statements.specs.StatementFits.{IsQueryFor, IsStatementFor};
+ghost use Rattle.script_semantics.specs.LineTexts.{block_refusal, may_want_memory};
+ghost use Rattle.store_layout.specs.StatementFits.{IsQueryFor, IsStatementFor};
 ghost use Rattle.session_core.specs.Submitting.{TakesHand, begin_refusal, end_refusal, request_refusal, standing_refusal};
 
 use crate::vacuuming::vacuum_hand;
 use block_model::{NoMemory, Query, Refusal, Values};
-use brin_desummarise::Desummarise;
-use brin_scan::Explain;
-use brin_summarise::{Summarise, Wish};
 use disk_trait::Disk;
-use row_versions::Standing;
-use statements::{MAX_SESSIONS, Statement};
-use store_layout::Layout;
-use store_parts::{ENTRIES_A_BEGIN, Hand, Parts};
+use session_parts::{ENTRIES_A_BEGIN, Explain, Hand, Parts};
+use snapshot_core::Standing;
+use store_layout::{Layout, MAX_SESSIONS, Statement};
+use summarise_core::{Desummarise, Summarise, Wish};
 
 /// Why a statement isn't taken whose block isn't below the greatest number of blocks.
 pub(crate) fn block_refusal(layout: &Layout, statement: &Statement) -> Option<Refusal>

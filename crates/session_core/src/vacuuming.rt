@@ -1,19 +1,17 @@
 //! What a vacuum has in hand before its first step.
 
 ghost use Rattle.std.specs.Prelude.{◌≡◌, ◌<◌, length, All, IfOk};
-ghost use Rattle.brin_summarise.specs.declared.course.Standing.TheVariants as standings;
-ghost use Rattle.store_parts.specs.HandFits.{AreSummariesOf};
+ghost use Rattle.summarise_core.specs.declared.course.Standing.TheVariants as standings;
+ghost use Rattle.session_parts.specs.HandFits.{AreSummariesOf};
 ghost use Rattle.session_core.specs.Submitting.{TakesHand};
 
 use block_model::NoMemory;
-use brin_summarise::{Summarise, Wish};
-use brin_vacuum::Vacuum;
 use disk_trait::Disk;
-use page_store::tables_have_forms;
-use statements::Statement;
+use page_map::tables_have_forms;
+use session_parts::{Cleaning, Hand, Parts, Vacuum};
 use std::alloc::Global;
-use store_layout::Layout;
-use store_parts::{Cleaning, Hand, Parts};
+use store_layout::{Layout, Statement};
+use summarise_core::{Summarise, Wish};
 
 /// A vacuum, with all the memory that its cleaning and the summaries behind it need.
 pub(crate) fn vacuum_hand<D: Disk + Drop>(parts: &Parts<D>, table: u8) -> Result<Hand, NoMemory>

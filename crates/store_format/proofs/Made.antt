@@ -4,7 +4,7 @@ use Rattle.std.specs.Prelude.{IsTrue, slice_index}
 use Rattle.byte_fields.specs.Fields.{field_at}
 use Rattle.store_layout.specs.DiskLayout.{DiskLayout, area_offset, first_offset, page_offset, disk_size}
 use Rattle.store_layout.specs.PagesFillDisk.{PagesFillDisk}
-use Rattle.control_page.specs.ControlPage.{control_bytes, written_bytes}
+use Rattle.store_format.specs.ControlPage.{control_bytes, written_bytes}
 use Rattle.disk_trait.specs.Told.{Told}
 use Rattle.disk_trait.specs.Spliced.{spliced}
 use Rattle.disk_trait.specs.Torn.{Torn}

@@ -4,8 +4,8 @@ use Rattle.block_model.specs.declared.limits.TheConstants.{PAGE_SIZE, PAGE_ROOM}
 use Rattle.block_model.specs.declared.place.Place.{Place}
 use Rattle.store_layout.specs.DiskLayout.{DiskLayout, IsPlace, page_offset, area_offset}
 use Rattle.byte_fields.specs.Fields.{field_at}
-use Rattle.control_page.specs.declared.page.TheConstants.{OPEN}
-use Rattle.control_page.specs.ControlPage.{control_bytes}
+use Rattle.store_format.specs.declared.page.TheConstants.{OPEN}
+use Rattle.store_format.specs.ControlPage.{control_bytes}
 use Rattle.page_layout.specs.declared.format.TheConstants.{STATUS}
 use Rattle.page_layout.specs.PageContents.{header_bytes}
 use Rattle.index_layout.specs.declared.format.TheConstants.{MAP_ENTRIES}

@@ -1,6 +1,6 @@
 -- images by the gate of their control page
 use Rattle.std.specs.Prelude.{◌≡◌, ◌⊎◌, ℕ, List, IsTrue, slice_index}
-use Rattle.control_page.specs.declared.page.TheConstants.{OPEN}
+use Rattle.store_format.specs.declared.page.TheConstants.{OPEN}
 use Rattle.disk_trait.specs.Told.{Told}
 use Rattle.disk_trait.specs.TornImage.{IsTornImage}
 use Rattle.store_format.specs.FreshStore.{IsClosed}

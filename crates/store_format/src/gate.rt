@@ -2,7 +2,7 @@
 
 ghost use Rattle.std.specs.Prelude.{◌≡◌, ◌⊎◌, ◌≤◌, ◌+◌, ◌∷◌, [], List, ℕ, IsTrue, length, OnOk};
 ghost use Rattle.block_model.specs.Causes.{HasCause};
-ghost use Rattle.control_page.specs.declared.page.TheConstants.{OPEN};
+ghost use Rattle.store_format.specs.declared.page.TheConstants.{OPEN};
 ghost use Rattle.disk_trait.specs.IsStable.{IsStable};
 ghost use Rattle.disk_trait.specs.Spliced.{spliced};
 ghost use Rattle.disk_trait.specs.Throughout.{Throughout};
@@ -10,7 +10,7 @@ ghost use Rattle.disk_trait.specs.Torn.{Torn};
 ghost use Rattle.store_format.specs.FreshStore.{IsClosed};
 ghost use Rattle.store_format.specs.Gate.{AreClosed, WasOrIsClosed, HasGate};
 
-use control_page::{OPEN, is_open};
+use crate::{OPEN, is_open};
 use disk_trait::{Disk, DiskFault, write_and_sync};
 
 /// The byte of the disk that is the gate.

@@ -2,12 +2,12 @@
 
 ghost use Rattle.std.specs.Prelude.{List, ℕ, take};
 ghost use Rattle.block_model.specs.declared.limits.TheConstants.{PAGE_SIZE};
-ghost use Rattle.control_page.specs.ControlPage.{HasControl};
+ghost use Rattle.store_format.specs.ControlPage.{HasControl};
 ghost use Rattle.store_layout.specs.DiskLayout.{DiskLayout};
 ghost use Rattle.store_format.specs.FreshStore.{IsClosed, IsFormatted};
 
+use crate::{OPEN, write};
 use block_model::PAGE_SIZE;
-use control_page::{OPEN, write};
 use store_layout::Layout;
 
 /// Bytes whose gate isn't open are no store, of whatever layout.

@@ -14,8 +14,8 @@ ghost use Rattle.store_format.specs.Gate.{AreClosed};
 use crate::fault::FormatFault;
 use crate::gate::{CLOSED, close_gate, open_gate, put_behind};
 use crate::pages::write_pages;
+use crate::{OPEN, write};
 use block_model::PAGE_SIZE;
-use control_page::{OPEN, write};
 use disk_trait::{Disk, DiskFault};
 use store_layout::{Layout, pages_fill_the_disk};
 

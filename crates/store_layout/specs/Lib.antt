@@ -3,3 +3,8 @@ pub mod FirstBrokenRule
 pub mod DiskLayout
 pub mod RelationCounts
 pub mod PagesFillDisk
+pub mod OperatorKinds
+pub mod StatementFits
+pub mod StatementRequests
+pub mod HeapRoom
+pub mod SessionNumbers

@@ -2,8 +2,8 @@
 use Rattle.std.proofs.Common.{◌≡◌, ◌∙◌, ℕ, List, sym, ap, subst}
 use Rattle.std.specs.Prelude.{Result, Ok, Err, IfOk, nat_lt}
 use Rattle.disk_trait.specs.Told.{Told}
-use Rattle.page_store.specs.Keeps.{Keeps, Tells}
-use Rattle.page_store.specs.PageMap.{PageMap, View, block_at}
+use Rattle.page_map.specs.Keeps.{Keeps, Tells}
+use Rattle.page_map.specs.PageMap.{PageMap, View, block_at}
 use Rattle.snapshot_core.specs.declared.statuses.Status.{Status}
 use Rattle.snapshot_core.specs.declared.statuses.Status.TheVariants.{Begun}
 use Rattle.store_layout.specs.DiskLayout.{DiskLayout}

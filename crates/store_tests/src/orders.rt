@@ -2,7 +2,7 @@
 
 use crate::stores::{disk_of, formatted, layout, set_status, start_heap};
 use disk_trait::MemoryDisk;
-use logged_pages::PageStore;
+use page_store::PageStore;
 use std::alloc::Global;
 
 /// An offset on the disk, the byte that stands there once it is written, and a letter for it: the first change of the log, the gate

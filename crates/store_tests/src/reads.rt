@@ -3,10 +3,10 @@
 use crate::watched::{Reads, WatchedDisk};
 use block_model::{Place, Sizes};
 use disk_trait::{Disk, SteadyDisk};
-use logged_pages::PageStore;
-use small_layouts::{LEAST, table_layout};
+use page_store::PageStore;
 use std::alloc::Global;
 use store_format::format;
+use store_layout::{LEAST, table_layout};
 use tx_table::TxTable;
 
 /// More pages of statuses than the pool has frames, which are 16.

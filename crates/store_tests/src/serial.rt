@@ -1,7 +1,7 @@
 //! A run of the serial model, which no program makes.
 
 use block_model::{Entry, Request, RowId, Tag, Value, Values};
-use serial_model::{Answered, End, SerialModel};
+use model_laws::{Answered, End, SerialModel};
 use std::alloc::Global;
 
 const ONE: RowId = RowId { t: 1, k: 0 };

@@ -2,9 +2,9 @@
 
 use block_model::Sizes;
 use disk_trait::{Disk, SteadyDisk};
-use small_layouts::{LEAST, table_layout};
 use std::alloc::Global;
 use store_format::format;
+use store_layout::{LEAST, table_layout};
 
 /// A disk with a new store of so many blocks of statuses.
 pub fn new_disk(alloc: Global, status_blocks: u32) -> Option<SteadyDisk> {

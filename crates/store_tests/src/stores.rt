@@ -5,14 +5,13 @@ ghost use Rattle.wal_record.specs.Changes.{logged, place_of};
 
 use block_model::{Place, Sizes};
 use disk_trait::MemoryDisk;
-use logged_pages::PageStore;
 use page_layout::HEAP;
 use page_redo::fits;
-use small_layouts::{LEAST, table_layout};
+use page_store::PageStore;
+use recovery::is_place;
 use std::alloc::Global;
 use store_format::format;
-use store_layout::Layout;
-use store_opening::is_place;
+use store_layout::{LEAST, Layout, table_layout};
 use wal_record::Change;
 
 /// More writes and syncs than a test makes, and more bytes than they write.

@@ -1,8 +1,8 @@
 //! A table of transactions over a store of its own.
 
 ghost use Rattle.std.specs.Prelude.{◌≡◌, ◌<◌, ◌≤◌, true, IfOk};
-ghost use Rattle.store_opening.specs.PageOrder.{AreInOrder};
-ghost use Rattle.page_store.specs.Keeps.{Keeps, Tells};
+ghost use Rattle.recovery.specs.PageOrder.{AreInOrder};
+ghost use Rattle.page_map.specs.Keeps.{Keeps, Tells};
 ghost use Rattle.snapshot_core.specs.declared.statuses.Status.TheVariants.{Begun as BegunStatus};
 ghost use Rattle.tx_table.specs.LeavesRest.{AreStarted};
 ghost use Rattle.tx_table.specs.Statuses.{OfStatuses, status_of};
@@ -10,8 +10,8 @@ ghost use Rattle.tx_table.specs.TxState.{IsOver, IsOwn};
 
 use block_model::Place;
 use disk_trait::Disk;
-use logged_pages::PageStore;
-use page_store::StoreError;
+use page_map::StoreError;
+use page_store::PageStore;
 use snapshot_core::Status;
 use std::alloc::Global;
 use std::marker::Model;
@@ -26,7 +26,7 @@ pub struct Trial<D: Disk + Drop> {
 
 impl<D: Disk + Drop> Model for Trial<D> {
     ghost use Rattle.std.specs.Prelude.{ℕ};
-    ghost use Rattle.page_store.specs.Keeps.{Tells};
+    ghost use Rattle.page_map.specs.Keeps.{Tells};
     ghost use Rattle.tx_table.specs.LeavesRest.{AreStarted};
     ghost use Rattle.tx_table.specs.TxState.{IsOver};
 

@@ -4,12 +4,12 @@ use Rattle.std.proofs.lemmas.List.FromFn.{fill_by_all, length-map-range_with_len
 use Rattle.block_model.specs.declared.row.RowId.{RowId}
 use Rattle.block_model.specs.DatabaseState.{DatabaseState}
 use Rattle.store_layout.specs.DiskLayout.{DiskLayout}
-use Rattle.page_store.specs.PageMap.{PageMap, block_at}
+use Rattle.page_map.specs.PageMap.{PageMap, block_at}
 use Rattle.heap_rows.specs.Heaps.{relation_of}
 use Rattle.snapshot_core.specs.declared.statuses.Status.TheVariants.{Unused}
-use Rattle.row_versions.specs.declared.table.Version.{Version}
-use Rattle.row_versions.specs.StoredVersions.{AreVersions, stored}
-use Rattle.row_versions.specs.VisibleState.{all_versions, visible_state}
+use Rattle.snapshot_core.specs.declared.table.Version.{Version}
+use Rattle.snapshot_core.specs.StoredVersions.{AreVersions, stored}
+use Rattle.snapshot_core.specs.VisibleState.{all_versions, visible_state}
 use Rattle.transactions.specs.ShownVersions.{shown_tables, versions_of_table}
 use Rattle.transactions.proofs.Tables.{same_versions, shown_at}
 use Rattle.tx_table.specs.Kept.{HasSameStatusPages, started_blocks_kept, statuses_kept}

@@ -13,23 +13,23 @@ use Rattle.block_model.specs.declared.row.RowId.{RowId}
 use Rattle.block_model.specs.DatabaseState.{DatabaseState, OpenTransaction}
 use Rattle.block_model.specs.RequestEffect as model
 use Rattle.block_model.specs.RequestLaws.{failed_commit_ends}
-use Rattle.statements.specs.declared.limits.TheConstants.{MAX_SESSIONS}
-use Rattle.statements.specs.StatementRequests.{request_entry}
+use Rattle.store_layout.specs.declared.limits.TheConstants.{MAX_SESSIONS}
+use Rattle.store_layout.specs.StatementRequests.{request_entry}
 use Rattle.store_layout.specs.DiskLayout.{DiskLayout}
-use Rattle.logged_pages.specs.Survives.{Survives, survives_weaker}
-use Rattle.page_store.specs.Keeps.{Keeps, Leaves, Tells}
-use Rattle.page_store.specs.PageMap.{PageMap, View, block_at, page_at}
+use Rattle.heap_rows.specs.Survives.{Survives, survives_weaker}
+use Rattle.page_map.specs.Keeps.{Keeps, Leaves, Tells}
+use Rattle.page_map.specs.PageMap.{PageMap, View, block_at, page_at}
 use Rattle.heap_rows.specs.Heaps.{relation_of}
 use Rattle.snapshot_core.specs.declared.statuses.Status.{Status}
 use Rattle.snapshot_core.specs.declared.statuses.Status.TheVariants.{Unused, Begun, Committed, RolledBack}
-use Rattle.row_versions.specs.declared.table.Version.{Version}
-use Rattle.row_versions.specs.declared.sessions.Open.{Open}
-use Rattle.row_versions.specs.SessionChanges.{ended}
-use Rattle.row_versions.specs.StoredVersions.{IsStored, stored, transaction_of}
-use Rattle.row_versions.specs.VisibleState.{all_versions, status_of, visible_state, visible_transaction}
-use Rattle.row_versions.proofs.Begins.{begun_effect, begun_stored, new_open}
-use Rattle.row_versions.proofs.Copies.{Becomes, becomes, get_open, get_visible, rewritten, still_all}
-use Rattle.row_versions.proofs.Ends.{committed_effect, ended_stored, rolled_effect}
+use Rattle.snapshot_core.specs.declared.table.Version.{Version}
+use Rattle.snapshot_core.specs.declared.sessions.Open.{Open}
+use Rattle.snapshot_core.specs.SessionChanges.{ended}
+use Rattle.snapshot_core.specs.StoredVersions.{IsStored, stored, transaction_of}
+use Rattle.snapshot_core.specs.VisibleState.{all_versions, status_of, visible_state, visible_transaction}
+use Rattle.snapshot_core.proofs.Begins.{begun_effect, begun_stored, new_open}
+use Rattle.snapshot_core.proofs.Copies.{Becomes, becomes, get_open, get_visible, rewritten, still_all}
+use Rattle.snapshot_core.proofs.Ends.{committed_effect, ended_stored, rolled_effect}
 use Rattle.transactions.specs.ShownVersions.{shown_tables}
 use Rattle.transactions.proofs.Tables.{own_table}
 use Rattle.tx_table.specs.Durable.{HasPart, IsBefore}

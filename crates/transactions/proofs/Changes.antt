@@ -11,7 +11,7 @@ use Rattle.page_layout.specs.PageContents.{Slot}
 use Rattle.page_layout.specs.PageWrites.{marked}
 use Rattle.heap_rows.specs.HeapBlocks.{slots_of}
 use Rattle.heap_rows.specs.RowPlaces.{FillsSlot, slot_at, with_row, with_slot, with_table_block}
-use Rattle.row_versions.specs.declared.table.Version.{Version}
+use Rattle.snapshot_core.specs.declared.table.Version.{Version}
 use Rattle.transactions.specs.ShownVersions.{version_of, versions_in, versions_on}
 use Rattle.transactions.proofs.Swaps.{Swaps, swaps_in}
 use Rattle.transactions.proofs.Tables.{free_have_none}

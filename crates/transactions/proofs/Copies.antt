@@ -10,19 +10,19 @@ use Rattle.block_model.specs.DatabaseState.{DatabaseState, OpenTransaction}
 use Rattle.store_layout.specs.DiskLayout.{DiskLayout}
 use Rattle.page_layout.specs.PageContents.{Slot}
 use Rattle.page_layout.specs.RowBytes.{StoredRow}
-use Rattle.page_store.specs.PageMap.{PageMap}
+use Rattle.page_map.specs.PageMap.{PageMap}
 use Rattle.heap_rows.specs.RowPlaces.{slot_at}
 use Rattle.snapshot_core.specs.declared.statuses.Status.{Status}
 use Rattle.snapshot_core.specs.declared.statuses.Status.TheVariants.{Unused}
 use Rattle.snapshot_core.specs.Visibility.{sees}
-use Rattle.row_versions.specs.declared.table.Version.{Version}
-use Rattle.row_versions.specs.declared.sessions.Open.{Open}
-use Rattle.row_versions.specs.StoredVersions.{stored, transaction_of}
-use Rattle.row_versions.specs.VersionsState.{standing_of}
-use Rattle.row_versions.specs.VisibleState.{is_seen, table_of, visible_transaction}
-use Rattle.row_versions.proofs.Stored.{get-table_of, row_of as its_row, stored_id}
-use Rattle.row_versions.proofs.Copies.{get_open, get_visible, is_idle}
-use Rattle.row_versions.proofs.Conflicts.{its_open}
+use Rattle.snapshot_core.specs.declared.table.Version.{Version}
+use Rattle.snapshot_core.specs.declared.sessions.Open.{Open}
+use Rattle.snapshot_core.specs.StoredVersions.{stored, transaction_of}
+use Rattle.snapshot_core.specs.VersionsState.{standing_of}
+use Rattle.snapshot_core.specs.VisibleState.{is_seen, table_of, visible_transaction}
+use Rattle.snapshot_core.proofs.Stored.{get-table_of, row_of as its_row, stored_id}
+use Rattle.snapshot_core.proofs.Copies.{get_open, get_visible, is_idle}
+use Rattle.snapshot_core.proofs.Conflicts.{its_open}
 use Rattle.transactions.specs.ShownVersions.{version_of}
 use Rattle.tx_table.specs.Statuses.{HasStatuses}
 use Rattle.transactions.specs.GivenStatuses.{given_status, given_statuses}

@@ -6,18 +6,18 @@ use Rattle.std.specs.Ordering.{eq_by_cmp, nat_cmp}
 use Rattle.std.proofs.lemmas.Bool.{cases_eq, cases_lt, false≢true, ne_eqb, true≢false}
 use Rattle.std.proofs.lemmas.List.{get_or_past, get_or-set_same, length-set}
 use Rattle.block_model.specs.DatabaseState.{DatabaseState}
-use Rattle.statements.specs.declared.limits.TheConstants.{MAX_SESSIONS}
+use Rattle.store_layout.specs.declared.limits.TheConstants.{MAX_SESSIONS}
 use Rattle.store_layout.specs.DiskLayout.{DiskLayout}
 use Rattle.page_layout.specs.RowBytes.{StoredRow}
-use Rattle.page_store.specs.PageMap.{PageMap}
+use Rattle.page_map.specs.PageMap.{PageMap}
 use Rattle.snapshot_core.specs.declared.statuses.Status.{Status}
 use Rattle.snapshot_core.specs.declared.statuses.Status.TheVariants.{Begun, RolledBack}
 use Rattle.snapshot_core.specs.Visibility.{had_ended, has_done, is_committed}
-use Rattle.row_versions.specs.declared.sessions.Open.{Open}
-use Rattle.row_versions.specs.SessionChanges.{ended, failed_open, with_next_k}
-use Rattle.row_versions.specs.StoredVersions.{transaction_of}
-use Rattle.row_versions.proofs.Copies.{becomes, same_numbers}
-use Rattle.row_versions.proofs.Ends.{ended_not_begun}
+use Rattle.snapshot_core.specs.declared.sessions.Open.{Open}
+use Rattle.snapshot_core.specs.SessionChanges.{ended, failed_open, with_next_k}
+use Rattle.snapshot_core.specs.StoredVersions.{transaction_of}
+use Rattle.snapshot_core.proofs.Copies.{becomes, same_numbers}
+use Rattle.snapshot_core.proofs.Ends.{ended_not_begun}
 use Rattle.tx_table.specs.Statuses.{HasStatuses, after_stop, number_limit}
 use Rattle.transactions.specs.CountedRows.{counts, goes_on}
 use Rattle.transactions.specs.GivenStatuses.{given_status}

@@ -8,15 +8,15 @@ use Rattle.block_model.specs.declared.request.Tag.TheVariants as tags
 use Rattle.block_model.specs.declared.row.Query.{Query}
 use Rattle.block_model.specs.DatabaseState.{DatabaseState, OpenTransaction}
 use Rattle.block_model.specs.RequestEffect as model
-use Rattle.statements.specs.StatementRequests.{request_entry, tagged_entry}
+use Rattle.store_layout.specs.StatementRequests.{request_entry, tagged_entry}
 use Rattle.store_layout.specs.DiskLayout.{DiskLayout}
-use Rattle.page_store.specs.PageMap.{PageMap}
-use Rattle.row_versions.specs.declared.sessions.Open.{Open}
-use Rattle.row_versions.specs.SessionChanges.{failed_open}
-use Rattle.row_versions.specs.StoredVersions.{transaction_of}
-use Rattle.row_versions.specs.VisibleState.{visible_state}
-use Rattle.row_versions.proofs.Copies.{Becomes, rewritten, still_all}
-use Rattle.row_versions.proofs.Puttings.{failed_shown, failed_stored}
+use Rattle.page_map.specs.PageMap.{PageMap}
+use Rattle.snapshot_core.specs.declared.sessions.Open.{Open}
+use Rattle.snapshot_core.specs.SessionChanges.{failed_open}
+use Rattle.snapshot_core.specs.StoredVersions.{transaction_of}
+use Rattle.snapshot_core.specs.VisibleState.{visible_state}
+use Rattle.snapshot_core.proofs.Copies.{Becomes, rewritten, still_all}
+use Rattle.snapshot_core.proofs.Puttings.{failed_shown, failed_stored}
 use Rattle.transactions.specs.GivenStatuses.{given_statuses}
 use Rattle.transactions.specs.Laws.{FailsOnly}
 use Rattle.transactions.specs.ShowsDatabase.{ShowsDatabase}

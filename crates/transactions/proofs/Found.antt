@@ -22,13 +22,13 @@ use Rattle.block_model.specs.TableState.{id_cmp, id_ties_itself, ids_total}
 use Rattle.page_layout.specs.PageContents.{Slot}
 use Rattle.page_layout.specs.RowBytes.{StoredRow}
 use Rattle.heap_rows.specs.RowPlaces.{slot_at}
-use Rattle.row_versions.specs.declared.table.Version.{Version}
-use Rattle.row_versions.specs.StoredVersions.{stored}
-use Rattle.row_versions.specs.VisibleState.{table_of}
-use Rattle.row_versions.proofs.Choices.{both, same_id}
-use Rattle.row_versions.proofs.Stored.{AreDistinct, distinct-filter, ids, stored-filter}
-use Rattle.row_versions.proofs.Among.{puts_new}
-use Rattle.row_versions.proofs.Listed.{AreInOrder, found_rows, rows_by_id, rows_of}
+use Rattle.snapshot_core.specs.declared.table.Version.{Version}
+use Rattle.snapshot_core.specs.StoredVersions.{stored}
+use Rattle.snapshot_core.specs.VisibleState.{table_of}
+use Rattle.snapshot_core.proofs.Choices.{both, same_id}
+use Rattle.snapshot_core.proofs.Stored.{AreDistinct, distinct-filter, ids, stored-filter}
+use Rattle.snapshot_core.proofs.Among.{puts_new}
+use Rattle.snapshot_core.proofs.Listed.{AreInOrder, found_rows, rows_by_id, rows_of}
 use Rattle.transactions.specs.FoundRows.{Ascend, IsFoundThere, is_found}
 
 -- ---- lists of versions that are found alike

@@ -5,7 +5,7 @@ use Rattle.std.proofs.lemmas.List.{get_or_append_left, get_or_past, get_or_push,
 use Rattle.std.proofs.lemmas.List.FromFn.{fill_by_all, get_or-map-range_with_len, length-map-range_with_len}
 use Rattle.snapshot_core.specs.declared.statuses.Status.{Status}
 use Rattle.snapshot_core.specs.declared.statuses.Status.TheVariants.{Unused, Begun, Committed, RolledBack}
-use Rattle.row_versions.specs.VisibleState.{status_of}
+use Rattle.snapshot_core.specs.VisibleState.{status_of}
 use Rattle.tx_table.specs.Statuses.{after_stop}
 use Rattle.tx_table.specs.TxState.{IsNext, TxState}
 use Rattle.transactions.specs.GivenStatuses.{given_status, given_statuses}

@@ -19,3 +19,6 @@ pub mod Scans
 pub mod Calls
 pub mod Openings
 pub mod Parts
+mod FoundAtStop
+mod Commits
+mod Stops

@@ -8,25 +8,25 @@ use Rattle.block_model.specs.declared.place.Spot.{Spot}
 use Rattle.block_model.specs.declared.request.Request.TheVariants as requests
 use Rattle.block_model.specs.DatabaseState.{DatabaseState, OpenTransaction}
 use Rattle.block_model.specs.RequestEffect as model
-use Rattle.statements.specs.StatementRequests.{request_entry}
+use Rattle.store_layout.specs.StatementRequests.{request_entry}
 use Rattle.store_layout.specs.DiskLayout.{DiskLayout}
 use Rattle.page_layout.specs.PageWrites.{marked}
 use Rattle.page_layout.specs.RowBytes.{StoredRow}
-use Rattle.page_store.specs.PageMap.{PageMap}
+use Rattle.page_map.specs.PageMap.{PageMap}
 use Rattle.heap_rows.specs.RowPlaces.{with_slot}
 use Rattle.snapshot_core.specs.declared.statuses.Status.{Status}
 use Rattle.snapshot_core.specs.declared.statuses.Status.TheVariants.{Unused}
-use Rattle.row_versions.specs.declared.table.Version.{Version}
-use Rattle.row_versions.specs.declared.sessions.Open.{Open}
-use Rattle.row_versions.specs.Marks.{conflicts, holds, with_deleter}
-use Rattle.row_versions.specs.SessionChanges.{failed_open}
-use Rattle.row_versions.specs.StoredVersions.{stored}
-use Rattle.row_versions.specs.VisibleState.{is_seen, visible_transaction}
-use Rattle.row_versions.proofs.Stored.{AreDistinct, Puts, get-table_of, row_of, stored_after}
-use Rattle.row_versions.proofs.Among.{puts_deleter}
-use Rattle.row_versions.proofs.Copies.{get_open}
-use Rattle.row_versions.proofs.Markings.{conflict_effect, free_effect, marked_stored}
-use Rattle.row_versions.proofs.Puttings.{failed_state}
+use Rattle.snapshot_core.specs.declared.table.Version.{Version}
+use Rattle.snapshot_core.specs.declared.sessions.Open.{Open}
+use Rattle.snapshot_core.specs.Marks.{conflicts, holds, with_deleter}
+use Rattle.snapshot_core.specs.SessionChanges.{failed_open}
+use Rattle.snapshot_core.specs.StoredVersions.{stored}
+use Rattle.snapshot_core.specs.VisibleState.{is_seen, visible_transaction}
+use Rattle.snapshot_core.proofs.Stored.{AreDistinct, Puts, get-table_of, row_of, stored_after}
+use Rattle.snapshot_core.proofs.Among.{puts_deleter}
+use Rattle.snapshot_core.proofs.Copies.{get_open}
+use Rattle.snapshot_core.proofs.Markings.{conflict_effect, free_effect, marked_stored}
+use Rattle.snapshot_core.proofs.Puttings.{failed_state}
 use Rattle.transactions.specs.ShownVersions.{version_of, versions_of_table, versions_on}
 use Rattle.transactions.proofs.StoredThere.{its_swap, stored_there}
 use Rattle.transactions.proofs.TableSwaps.{swaps_table}

@@ -8,21 +8,21 @@ use Rattle.std.proofs.lemmas.Bool.{cases_eq}
 use Rattle.std.proofs.lemmas.List.{length-replicate, get_or-replicate}
 use Rattle.std.proofs.lemmas.List.FromFn.{fill_by_all}
 use Rattle.block_model.specs.DatabaseState.{DatabaseState, initial_state}
-use Rattle.statements.specs.declared.limits.TheConstants.{MAX_SESSIONS}
+use Rattle.store_layout.specs.declared.limits.TheConstants.{MAX_SESSIONS}
 use Rattle.store_layout.specs.DiskLayout.{DiskLayout}
 use Rattle.page_layout.specs.PageContents.{IsUnstarted}
-use Rattle.page_store.specs.PageMap.{PageMap, block_at}
+use Rattle.page_map.specs.PageMap.{PageMap, block_at}
 use Rattle.heap_rows.specs.Heaps.{relation_of}
 use Rattle.heap_rows.specs.HeapBlocks.{HasBlocks}
 use Rattle.snapshot_core.specs.declared.statuses.Status.{Status}
 use Rattle.snapshot_core.specs.declared.statuses.Status.TheVariants.{Unused, Begun, Committed, RolledBack}
 use Rattle.snapshot_core.specs.Visibility.{is_committed}
-use Rattle.row_versions.specs.declared.table.Version.{Version}
-use Rattle.row_versions.specs.declared.sessions.Open.{Open}
-use Rattle.row_versions.specs.StoredVersions.{IsStored, stored, transaction_of}
-use Rattle.row_versions.specs.VisibleState.{all_versions, is_of_commit, status_of, table_of, visible_sessions, visible_state, visible_transaction}
-use Rattle.row_versions.proofs.Copies.{get_visible}
-use Rattle.row_versions.proofs.Fresh.{empty_state, new_versions}
+use Rattle.snapshot_core.specs.declared.table.Version.{Version}
+use Rattle.snapshot_core.specs.declared.sessions.Open.{Open}
+use Rattle.snapshot_core.specs.StoredVersions.{IsStored, stored, transaction_of}
+use Rattle.snapshot_core.specs.VisibleState.{all_versions, is_of_commit, status_of, table_of, visible_sessions, visible_state, visible_transaction}
+use Rattle.snapshot_core.proofs.Copies.{get_visible}
+use Rattle.snapshot_core.proofs.Fresh.{empty_state, new_versions}
 use Rattle.transactions.specs.ShownVersions.{shown_tables, versions_of_table}
 use Rattle.transactions.proofs.Tables.{table_by_blocks}
 use Rattle.tx_table.specs.LeavesRest.{AreStarted}

@@ -7,14 +7,14 @@ use Rattle.block_model.specs.DatabaseState.{DatabaseState}
 use Rattle.store_layout.specs.DiskLayout.{DiskLayout}
 use Rattle.page_layout.specs.PageWrites.{marked}
 use Rattle.page_layout.specs.RowBytes.{StoredRow}
-use Rattle.page_store.specs.PageMap.{PageMap}
+use Rattle.page_map.specs.PageMap.{PageMap}
 use Rattle.snapshot_core.specs.declared.statuses.Status.{Status}
 use Rattle.snapshot_core.specs.declared.statuses.Status.TheVariants.{Begun, Unused}
 use Rattle.snapshot_core.specs.Visibility.{had_ended, has_done, is_committed}
-use Rattle.row_versions.specs.declared.sessions.Open.{Open}
-use Rattle.row_versions.specs.Marks.{holds}
-use Rattle.row_versions.specs.StoredVersions.{transaction_of}
-use Rattle.row_versions.proofs.Conflicts.{unheld_uncommitted}
+use Rattle.snapshot_core.specs.declared.sessions.Open.{Open}
+use Rattle.snapshot_core.specs.Marks.{holds}
+use Rattle.snapshot_core.specs.StoredVersions.{transaction_of}
+use Rattle.snapshot_core.proofs.Conflicts.{unheld_uncommitted}
 use Rattle.transactions.specs.ShownVersions.{version_of}
 use Rattle.tx_table.specs.Statuses.{HasStatuses, after_stop, number_limit}
 use Rattle.transactions.specs.GivenStatuses.{given_status}

@@ -3,12 +3,12 @@ use Rattle.std.proofs.Common.{◌≡◌, ℕ, zero, suc, ◌≤◌, Bool, true, 
 use Rattle.block_model.specs.declared.request.Request.TheVariants as requests
 use Rattle.block_model.specs.DatabaseState.{DatabaseState}
 use Rattle.block_model.specs.RequestEffect as model
-use Rattle.statements.specs.StatementRequests.{request_entry}
+use Rattle.store_layout.specs.StatementRequests.{request_entry}
 use Rattle.store_layout.specs.DiskLayout.{DiskLayout}
-use Rattle.page_store.specs.PageMap.{PageMap}
+use Rattle.page_map.specs.PageMap.{PageMap}
 use Rattle.snapshot_core.specs.declared.statuses.Status.TheVariants.{Committed}
-use Rattle.row_versions.specs.declared.sessions.Open.{Open}
-use Rattle.row_versions.specs.StoredVersions.{transaction_of}
+use Rattle.snapshot_core.specs.declared.sessions.Open.{Open}
+use Rattle.snapshot_core.specs.StoredVersions.{transaction_of}
 use Rattle.tx_table.specs.Durable.{HasPart}
 use Rattle.tx_table.specs.LeavesRest.{AreStarted}
 use Rattle.tx_table.specs.Statuses.{HasStatuses, number_limit, with_all}

@@ -8,22 +8,22 @@ use Rattle.block_model.specs.declared.row.RowId.{RowId}
 use Rattle.block_model.specs.declared.value.Value.{Value}
 use Rattle.block_model.specs.DatabaseState.{DatabaseState}
 use Rattle.block_model.specs.RequestEffect as model
-use Rattle.statements.specs.StatementRequests.{request_entry}
+use Rattle.store_layout.specs.StatementRequests.{request_entry}
 use Rattle.store_layout.specs.DiskLayout.{DiskLayout}
 use Rattle.page_layout.specs.PageContents.{Slot}
 use Rattle.page_layout.specs.RowBytes.{StoredRow}
-use Rattle.page_store.specs.PageMap.{PageMap, block_at}
+use Rattle.page_map.specs.PageMap.{PageMap, block_at}
 use Rattle.heap_rows.specs.Heaps.{relation_of, slots_a_page}
 use Rattle.heap_rows.specs.HeapBlocks.{HasBlocks}
 use Rattle.heap_rows.specs.RowPlaces.{new_row, with_row}
-use Rattle.row_versions.specs.declared.table.Version.{Version}
-use Rattle.row_versions.specs.declared.sessions.Open.{Open}
-use Rattle.row_versions.specs.SessionChanges.{with_next_k}
-use Rattle.row_versions.specs.StoredVersions.{stored, transaction_of}
-use Rattle.row_versions.proofs.Stored.{AreDistinct, Puts, stored_after}
-use Rattle.row_versions.proofs.Among.{puts_new}
-use Rattle.row_versions.proofs.Copies.{Becomes, rewritten, still_all}
-use Rattle.row_versions.proofs.Puttings.{new_is_absent, new_version, put_effect, put_stored}
+use Rattle.snapshot_core.specs.declared.table.Version.{Version}
+use Rattle.snapshot_core.specs.declared.sessions.Open.{Open}
+use Rattle.snapshot_core.specs.SessionChanges.{with_next_k}
+use Rattle.snapshot_core.specs.StoredVersions.{stored, transaction_of}
+use Rattle.snapshot_core.proofs.Stored.{AreDistinct, Puts, stored_after}
+use Rattle.snapshot_core.proofs.Among.{puts_new}
+use Rattle.snapshot_core.proofs.Copies.{Becomes, rewritten, still_all}
+use Rattle.snapshot_core.proofs.Puttings.{new_is_absent, new_version, put_effect, put_stored}
 use Rattle.transactions.specs.ShownVersions.{version_of, versions_of_table, versions_on}
 use Rattle.transactions.proofs.Changes.{swaps_put}
 use Rattle.transactions.proofs.TableSwaps.{swaps_table}

@@ -20,15 +20,15 @@ use Rattle.std.specs.List.{list_all}
 use Rattle.store_layout.specs.DiskLayout.{DiskLayout}
 use Rattle.page_layout.specs.PageContents.{Slot}
 use Rattle.page_layout.specs.RowBytes.{StoredRow}
-use Rattle.page_store.specs.PageMap.{PageMap}
+use Rattle.page_map.specs.PageMap.{PageMap}
 use Rattle.heap_rows.specs.HeapBlocks.{HasBlocks}
 use Rattle.heap_rows.specs.RowPlaces.{slot_at}
 use Rattle.snapshot_core.specs.declared.statuses.Status.{Status}
-use Rattle.row_versions.specs.declared.table.Version.{Version}
-use Rattle.row_versions.specs.declared.sessions.Open.{Open}
-use Rattle.row_versions.specs.StoredVersions.{stored, transaction_of}
-use Rattle.row_versions.specs.VisibleState.{is_seen, table_of}
-use Rattle.row_versions.proofs.Stored.{stored_id}
+use Rattle.snapshot_core.specs.declared.table.Version.{Version}
+use Rattle.snapshot_core.specs.declared.sessions.Open.{Open}
+use Rattle.snapshot_core.specs.StoredVersions.{stored, transaction_of}
+use Rattle.snapshot_core.specs.VisibleState.{is_seen, table_of}
+use Rattle.snapshot_core.proofs.Stored.{stored_id}
 use Rattle.transactions.specs.ShownVersions.{version_of}
 use Rattle.tx_table.specs.Statuses.{HasStatuses}
 use Rattle.transactions.specs.FoundRows.{AreFound, IsFoundThere}

@@ -3,16 +3,16 @@ use Rattle.std.proofs.Common.{◌≡◌, ◌≢◌, ℕ, ◌<◌, List, length, 
 use Rattle.block_model.specs.DatabaseState.{DatabaseState}
 use Rattle.store_layout.specs.DiskLayout.{DiskLayout}
 use Rattle.page_layout.specs.PageContents.{HasSlots, IsUnstarted, Slot}
-use Rattle.page_store.specs.PageMap.{PageMap, block_at}
+use Rattle.page_map.specs.PageMap.{PageMap, block_at}
 use Rattle.heap_rows.specs.Heaps.{form_at, relation_of}
 use Rattle.heap_rows.specs.HeapBlocks.{HasBlocks, slots_of}
 use Rattle.snapshot_core.specs.declared.statuses.Status.{Status}
 use Rattle.snapshot_core.specs.declared.statuses.Status.TheVariants.{Unused, Begun}
-use Rattle.row_versions.specs.declared.table.Version.{Version}
-use Rattle.row_versions.specs.declared.sessions.Open.{Open}
-use Rattle.row_versions.specs.StoredVersions.{IsStored, transaction_of}
-use Rattle.row_versions.specs.VisibleState.{all_versions, status_of, visible_state}
-use Rattle.row_versions.proofs.Sights.{begun_known}
+use Rattle.snapshot_core.specs.declared.table.Version.{Version}
+use Rattle.snapshot_core.specs.declared.sessions.Open.{Open}
+use Rattle.snapshot_core.specs.StoredVersions.{IsStored, transaction_of}
+use Rattle.snapshot_core.specs.VisibleState.{all_versions, status_of, visible_state}
+use Rattle.snapshot_core.proofs.Sights.{begun_known}
 use Rattle.transactions.specs.ShownVersions.{shown_tables}
 use Rattle.tx_table.specs.Statuses.{HasStatuses}
 use Rattle.tx_table.specs.TxState.{IsOwn}

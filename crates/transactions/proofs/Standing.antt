@@ -15,15 +15,15 @@ use Rattle.store_layout.specs.DiskLayout.{DiskLayout}
 use Rattle.page_layout.specs.PageContents.{Slot}
 use Rattle.page_layout.specs.PageWrites.{marked}
 use Rattle.page_layout.specs.RowBytes.{StoredRow}
-use Rattle.page_store.specs.PageMap.{PageMap}
+use Rattle.page_map.specs.PageMap.{PageMap}
 use Rattle.heap_rows.specs.HeapBlocks.{HasBlocks, slots_of}
 use Rattle.heap_rows.specs.RowPlaces.{slot_at, with_slot}
 use Rattle.heap_rows.proofs.Spots.{mark_slot}
 use Rattle.heap_rows.proofs.TableBlocks.{one_list}
-use Rattle.row_versions.specs.declared.table.Version.{Version}
-use Rattle.row_versions.specs.StoredVersions.{stored}
-use Rattle.row_versions.specs.VisibleState.{all_versions}
-use Rattle.row_versions.proofs.Stored.{AreDistinct, ids}
+use Rattle.snapshot_core.specs.declared.table.Version.{Version}
+use Rattle.snapshot_core.specs.StoredVersions.{stored}
+use Rattle.snapshot_core.specs.VisibleState.{all_versions}
+use Rattle.snapshot_core.proofs.Stored.{AreDistinct, ids}
 use Rattle.transactions.specs.ShownVersions.{shown_tables, version_of, versions_in, versions_of_table, versions_on}
 use Rattle.transactions.proofs.Changes.{slot_there, swaps_mark}
 use Rattle.transactions.proofs.TableSwaps.{swaps_shown}

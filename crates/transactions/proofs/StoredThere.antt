@@ -6,15 +6,15 @@ use Rattle.store_layout.specs.DiskLayout.{DiskLayout}
 use Rattle.page_layout.specs.PageContents.{Slot}
 use Rattle.page_layout.specs.PageWrites.{marked}
 use Rattle.page_layout.specs.RowBytes.{StoredRow}
-use Rattle.page_store.specs.PageMap.{PageMap}
+use Rattle.page_map.specs.PageMap.{PageMap}
 use Rattle.heap_rows.specs.HeapBlocks.{HasBlocks}
 use Rattle.heap_rows.specs.RowPlaces.{slot_at, with_slot}
-use Rattle.row_versions.specs.declared.table.Version.{Version}
-use Rattle.row_versions.specs.Marks.{with_deleter}
-use Rattle.row_versions.specs.StoredVersions.{stored}
-use Rattle.row_versions.specs.VisibleState.{all_versions}
-use Rattle.row_versions.proofs.Stored.{AreDistinct}
-use Rattle.row_versions.proofs.Among.{found_mid}
+use Rattle.snapshot_core.specs.declared.table.Version.{Version}
+use Rattle.snapshot_core.specs.Marks.{with_deleter}
+use Rattle.snapshot_core.specs.StoredVersions.{stored}
+use Rattle.snapshot_core.specs.VisibleState.{all_versions}
+use Rattle.snapshot_core.proofs.Stored.{AreDistinct}
+use Rattle.snapshot_core.proofs.Among.{found_mid}
 use Rattle.transactions.specs.ShownVersions.{version_of, versions_on, versions_of_table, shown_tables}
 use Rattle.transactions.proofs.Swaps.{Swaps}
 use Rattle.transactions.proofs.Tables.{AreRead, table_by_blocks}

@@ -4,10 +4,10 @@ use Rattle.std.specs.Prelude.{◌-◌}
 use Rattle.std.proofs.lemmas.List.FromFn.{length-map-range_with_len}
 use Rattle.block_model.specs.declared.place.Place.{Place}
 use Rattle.store_layout.specs.DiskLayout.{DiskLayout}
-use Rattle.page_store.specs.PageMap.{PageMap, page_at}
+use Rattle.page_map.specs.PageMap.{PageMap, page_at}
 use Rattle.heap_rows.specs.Heaps.{relation_of}
-use Rattle.row_versions.specs.declared.table.Version.{Version}
-use Rattle.row_versions.specs.VisibleState.{all_versions}
+use Rattle.snapshot_core.specs.declared.table.Version.{Version}
+use Rattle.snapshot_core.specs.VisibleState.{all_versions}
 use Rattle.transactions.specs.ShownVersions.{versions_of_table, shown_tables}
 use Rattle.transactions.proofs.Swaps.{Swaps, set_at_place, swaps_in}
 use Rattle.transactions.proofs.Tables.{same_versions, shown_at}

@@ -11,11 +11,11 @@ use Rattle.page_layout.specs.declared.page.Form.{Form}
 use Rattle.page_layout.specs.FreeSlots.{slot_count}
 use Rattle.page_layout.specs.PageContents.{HasSlots, IsUnstarted, Slot}
 use Rattle.page_layout.specs.SlotsOnPage.{slots_on}
-use Rattle.page_store.specs.PageMap.{PageMap, block_at}
+use Rattle.page_map.specs.PageMap.{PageMap, block_at}
 use Rattle.heap_rows.specs.Heaps.{form_at, relation_of}
 use Rattle.heap_rows.specs.HeapBlocks.{HasBlocks, slots_of}
-use Rattle.row_versions.specs.declared.table.Version.{Version}
-use Rattle.row_versions.specs.StoredVersions.{versions_at}
+use Rattle.snapshot_core.specs.declared.table.Version.{Version}
+use Rattle.snapshot_core.specs.StoredVersions.{versions_at}
 use Rattle.transactions.specs.ShownVersions.{versions_in, versions_on, versions_of_block, versions_of_table, shown_tables}
 use Rattle.transactions.proofs.Swaps.{by_elements}
 

@@ -3,7 +3,7 @@ use Rattle.std.specs.Prelude.{ℕ, Bool, false, not, ◌&&◌, ◌||◌, ◌==�
 use Rattle.std.specs.List.{list_any}
 use Rattle.snapshot_core.specs.declared.statuses.Status.{Status}
 use Rattle.snapshot_core.specs.Visibility.{is_committed}
-use Rattle.row_versions.specs.declared.sessions.Open.{Open}
+use Rattle.snapshot_core.specs.declared.sessions.Open.{Open}
 use Rattle.transactions.specs.GivenStatuses.{given_status}
 use Rattle.transactions.specs.TransactionsState.{TransactionsState}
 

@@ -9,3 +9,7 @@ pub mod FoundRows
 pub mod StartAnswers
 pub mod BeginAnswers
 pub mod Laws
+pub mod FoundTable
+pub mod FoundLaws
+pub mod StopLaws
+pub mod Passes

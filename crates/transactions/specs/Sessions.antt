@@ -3,11 +3,11 @@ use Rattle.std.specs.Prelude.{◌≡◌, ℕ, ◌-◌, ◌^◌, ◌==◌, Option
 use Rattle.std.specs.FinMap as map
 use Rattle.block_model.specs.declared.row.RowId.{RowId}
 use Rattle.block_model.specs.DatabaseState.{DatabaseState, OpenTransaction}
-use Rattle.row_versions.specs.declared.sessions.Open.{Open}
-use Rattle.row_versions.specs.declared.standing.Standing.{Standing}
-use Rattle.row_versions.specs.declared.standing.Standing.TheVariants as standings
-use Rattle.row_versions.specs.StoredVersions.{transaction_of}
-use Rattle.row_versions.specs.VersionsState.{standing_of}
+use Rattle.snapshot_core.specs.declared.sessions.Open.{Open}
+use Rattle.snapshot_core.specs.declared.standing.Standing.{Standing}
+use Rattle.snapshot_core.specs.declared.standing.Standing.TheVariants as standings
+use Rattle.snapshot_core.specs.StoredVersions.{transaction_of}
+use Rattle.snapshot_core.specs.VersionsState.{standing_of}
 use Rattle.transactions.specs.TransactionsState.{TransactionsState}
 
 -- how a session stands that has this open transaction, or none

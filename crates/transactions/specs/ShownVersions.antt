@@ -5,9 +5,9 @@ use Rattle.store_layout.specs.DiskLayout.{DiskLayout}
 use Rattle.page_layout.specs.PageContents.{Slot}
 use Rattle.page_layout.specs.RowBytes.{StoredRow}
 use Rattle.page_layout.specs.SlotsOnPage.{slots_on}
-use Rattle.page_store.specs.PageMap.{PageMap, block_at}
+use Rattle.page_map.specs.PageMap.{PageMap, block_at}
 use Rattle.heap_rows.specs.Heaps.{form_at, relation_of}
-use Rattle.row_versions.specs.declared.table.Version.{Version}
+use Rattle.snapshot_core.specs.declared.table.Version.{Version}
 
 -- a row of the table of that number, as it is stored
 abbrev pub version_of : ℕ → StoredRow → Version

@@ -7,14 +7,14 @@ use Rattle.block_model.specs.DatabaseState.{DatabaseState}
 use Rattle.block_model.specs.RequestEffect.{Answer, effect}
 use Rattle.store_layout.specs.DiskLayout.{DiskLayout}
 use Rattle.page_layout.specs.PageContents.{Slot}
-use Rattle.page_store.specs.Keeps.{Tells}
-use Rattle.page_store.specs.PageMap.{PageMap, View}
+use Rattle.page_map.specs.Keeps.{Tells}
+use Rattle.page_map.specs.PageMap.{PageMap, View}
 use Rattle.heap_rows.specs.HeapBlocks.{HasBlocks}
 use Rattle.snapshot_core.specs.declared.statuses.Status.{Status}
 use Rattle.snapshot_core.specs.declared.statuses.Status.TheVariants.{Unused}
-use Rattle.row_versions.specs.declared.table.Version.{Version}
-use Rattle.row_versions.specs.StoredVersions.{AreVersions, stored as stored_version}
-use Rattle.row_versions.specs.VisibleState.{all_versions, visible_state}
+use Rattle.snapshot_core.specs.declared.table.Version.{Version}
+use Rattle.snapshot_core.specs.StoredVersions.{AreVersions, stored as stored_version}
+use Rattle.snapshot_core.specs.VisibleState.{all_versions, visible_state}
 use Rattle.transactions.specs.ShownVersions.{shown_tables}
 use Rattle.tx_table.specs.LeavesRest.{AreStarted}
 use Rattle.tx_table.specs.Statuses.{HasStatuses}

@@ -7,14 +7,14 @@ use Rattle.store_layout.specs.DiskLayout.{DiskLayout}
 use Rattle.page_layout.specs.PageContents.{Slot}
 use Rattle.page_layout.specs.PageWrites.{marked}
 use Rattle.page_layout.specs.RowBytes.{StoredRow}
-use Rattle.page_store.specs.PageMap.{PageMap, page_at}
+use Rattle.page_map.specs.PageMap.{PageMap, page_at}
 use Rattle.heap_rows.specs.Heaps.{relation_of, slots_a_page}
 use Rattle.heap_rows.specs.HeapBlocks.{HasBlocks}
 use Rattle.heap_rows.specs.RowPlaces.{FillsSlot, TakesRowAt, slot_at, with_slot}
 use Rattle.snapshot_core.specs.declared.statuses.Status.{Status}
 use Rattle.snapshot_core.specs.Visibility.{sees}
-use Rattle.row_versions.specs.declared.sessions.Open.{Open}
-use Rattle.row_versions.specs.Marks.{holds}
+use Rattle.snapshot_core.specs.declared.sessions.Open.{Open}
+use Rattle.snapshot_core.specs.Marks.{holds}
 use Rattle.transactions.specs.GivenStatuses.{given_status}
 
 -- a row of the table of that number, as it is stored

@@ -1,9 +1,9 @@
 -- what the open transactions of all sessions are seen as
 use Rattle.std.specs.Prelude.{◌≡◌, ℕ, ◌+◌, false, List, set, length, Option, Some}
-use Rattle.statements.specs.declared.limits.TheConstants.{MAX_SESSIONS}
-use Rattle.row_versions.specs.declared.sessions.Open.{Open}
-use Rattle.row_versions.specs.SessionChanges.{failed_open, numbers_of, with_next_k}
-use Rattle.row_versions.specs.StoredVersions.{transaction_of}
+use Rattle.store_layout.specs.declared.limits.TheConstants.{MAX_SESSIONS}
+use Rattle.snapshot_core.specs.declared.sessions.Open.{Open}
+use Rattle.snapshot_core.specs.SessionChanges.{failed_open, numbers_of, with_next_k}
+use Rattle.snapshot_core.specs.StoredVersions.{transaction_of}
 use Rattle.tx_table.specs.TxState.{IsOwn, TxState}
 
 -- the numbers of transactions, and each session's open one

@@ -4,13 +4,13 @@ ghost use Rattle.std.specs.Prelude.{◌≡◌, ◌+◌, ◌^◌, ◌<◌, ◌≤
 ghost use Rattle.std.specs.Option.{option_copied};
 ghost use Rattle.block_model.specs.declared.request.Request.TheVariants as requests;
 ghost use Rattle.block_model.specs.RequestEffect.{Begun, Committed, RolledBack};
-ghost use Rattle.statements.specs.declared.limits.TheConstants.{MAX_SESSIONS};
-ghost use Rattle.statements.specs.StatementRequests.{request_entry};
-ghost use Rattle.logged_pages.specs.Survives.{Survives};
-ghost use Rattle.page_store.specs.Keeps.{Keeps, Tells, Untold};
-ghost use Rattle.page_store.specs.Outcome.{Outcome};
-ghost use Rattle.row_versions.specs.OldestOpen.{oldest_of};
-ghost use Rattle.row_versions.specs.StoredVersions.{transaction_of};
+ghost use Rattle.store_layout.specs.declared.limits.TheConstants.{MAX_SESSIONS};
+ghost use Rattle.store_layout.specs.StatementRequests.{request_entry};
+ghost use Rattle.heap_rows.specs.Survives.{Survives};
+ghost use Rattle.page_map.specs.Keeps.{Keeps, Tells, Untold};
+ghost use Rattle.page_map.specs.Outcome.{Outcome};
+ghost use Rattle.snapshot_core.specs.OldestOpen.{oldest_of};
+ghost use Rattle.snapshot_core.specs.StoredVersions.{transaction_of};
 ghost use Rattle.snapshot_core.specs.declared.statuses.Status.TheVariants.{Begun as BegunStatus, Committed as CommittedStatus, RolledBack as RolledBackStatus};
 ghost use Rattle.tx_table.specs.BeginAnswers.{BeginOutcome, NamesStatusPage};
 ghost use Rattle.tx_table.specs.Durable.{HasPart, IsBefore, IsDurable};
@@ -26,13 +26,12 @@ ghost use Rattle.transactions.specs.TransactionsState.{AreOpen, OfOpen, next_ope
 use crate::faults::Unbegun;
 use block_model::{Numbers, RowId};
 use disk_trait::Disk;
-use logged_pages::PageStore;
-use page_store::{MachineFault, StoreError};
-use row_versions::{
-    Open, Standing, count_row, fail_open, no_transactions, numbers_of, oldest_of, open_of,
-    set_open, take_open, transaction_of,
+use heap_rows::PageStore;
+use page_map::{MachineFault, StoreError};
+use snapshot_core::{
+    Open, Snapshot, Standing, count_row, fail_open, no_transactions, numbers_of, oldest_of,
+    open_of, set_open, take_open, transaction_of,
 };
-use snapshot_core::Snapshot;
 use std::alloc::Global;
 use std::marker::Model;
 use tx_table::TxTable;

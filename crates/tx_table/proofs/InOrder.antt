@@ -1,11 +1,11 @@
 -- Pages in order: each page of statuses is started.
 use Rattle.std.proofs.Common.{◌≡◌, ◌∙◌, ℕ, ◌<◌, List, inl, inr, refl, sym, ap, arith}
 use Rattle.std.proofs.lemmas.List.{get_or-replicate}
-use Rattle.store_opening.specs.PageOrder.{AreInOrder, kind_of}
+use Rattle.page_store.specs.PageOrder.{AreInOrder, kind_of}
 use Rattle.page_layout.specs.declared.page.Form.TheVariants as forms
 use Rattle.page_layout.specs.PageContents.{IsPageOf, IsStatusPage}
-use Rattle.page_store.specs.Forms.{IsPageIn}
-use Rattle.page_store.specs.PageMap.{PageMap, block_at}
+use Rattle.page_map.specs.Forms.{IsPageIn}
+use Rattle.page_map.specs.PageMap.{PageMap, block_at}
 use Rattle.store_layout.specs.DiskLayout.{DiskLayout}
 use Rattle.tx_table.specs.LeavesRest.{AreStarted}
 use Rattle.tx_table.proofs.Stores.{page_passes}

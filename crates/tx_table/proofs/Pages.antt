@@ -5,10 +5,10 @@ use Rattle.std.proofs.lemmas.List.{get_or-set_other, get_or-set_same, get_or_def
 use Rattle.block_model.specs.declared.place.Place.{Place}
 use Rattle.page_layout.specs.declared.page.Form.TheVariants as forms
 use Rattle.page_layout.specs.PageContents.{IsStatusPage}
-use Rattle.page_redo.specs.Redo.{Means}
-use Rattle.page_store.specs.Changed.{Changed, redone_once}
-use Rattle.page_store.specs.Forms.{form_of, forms_of}
-use Rattle.page_store.specs.PageMap.{PageMap, block_at, block_limit, page_at}
+use Rattle.page_map.specs.Redo.{Means}
+use Rattle.page_map.specs.Changed.{Changed, redone_once}
+use Rattle.page_map.specs.Forms.{form_of, forms_of}
+use Rattle.page_map.specs.PageMap.{PageMap, block_at, block_limit, page_at}
 use Rattle.snapshot_core.specs.declared.statuses.Status.{Status}
 use Rattle.snapshot_core.specs.declared.statuses.Status.TheVariants.{Unused}
 use Rattle.store_layout.specs.DiskLayout.{DiskLayout, IsPlace, relation_blocks}

@@ -1,12 +1,12 @@
 -- What the images at the moments of several calls open to.
 use Rattle.std.proofs.Common.{◌≡◌, ◌⊎◌, ⊎_elim, ℕ, List, take, refl, sym, ◌∙◌, subst}
 use Rattle.disk_trait.specs.Told.{Told}
-use Rattle.page_store.specs.Keeps.{Keeps, Tells}
-use Rattle.page_store.specs.PageMap.{PageMap, View}
-use Rattle.page_store.specs.declared.faults.StoreError.{StoreError}
-use Rattle.page_store.specs.declared.faults.StoreError.TheVariants as errors
-use Rattle.logged_pages.specs.Made.{IsOfDisk}
-use Rattle.logged_pages.specs.Survives.{Survives, survives_then, survives_weaker}
+use Rattle.page_map.specs.Keeps.{Keeps, Tells}
+use Rattle.page_map.specs.PageMap.{PageMap, View}
+use Rattle.page_map.specs.declared.faults.StoreError.{StoreError}
+use Rattle.page_map.specs.declared.faults.StoreError.TheVariants as errors
+use Rattle.page_store.specs.Made.{IsOfDisk}
+use Rattle.page_store.specs.Survives.{Survives, survives_then, survives_weaker}
 use Rattle.snapshot_core.specs.declared.statuses.Status.{Status}
 use Rattle.store_layout.specs.DiskLayout.{DiskLayout}
 use Rattle.tx_table.specs.Durable.{HasPart, IsBefore}

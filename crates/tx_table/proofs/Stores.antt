@@ -10,13 +10,13 @@ use Rattle.disk_trait.specs.Told.{Told}
 use Rattle.page_layout.specs.declared.page.Form.{Form}
 use Rattle.page_layout.specs.declared.page.Form.TheVariants as forms
 use Rattle.page_layout.specs.PageContents.{IsPageOf, IsStatusPage}
-use Rattle.page_redo.specs.Redo.{IsOfStatuses}
-use Rattle.page_store.specs.Forms.{FitsIn, IsPageIn}
-use Rattle.page_store.specs.declared.faults.StoreError.{StoreError}
-use Rattle.page_store.specs.declared.faults.StoreError.TheVariants as errors
-use Rattle.page_store.specs.Keeps.{Keeps, Leaves, Tells}
-use Rattle.page_store.specs.Outcome.{NamesPage}
-use Rattle.page_store.specs.PageMap.{PageMap, View, block_at, page_at}
+use Rattle.page_map.specs.Redo.{IsOfStatuses}
+use Rattle.page_map.specs.Forms.{FitsIn, IsPageIn}
+use Rattle.page_map.specs.declared.faults.StoreError.{StoreError}
+use Rattle.page_map.specs.declared.faults.StoreError.TheVariants as errors
+use Rattle.page_map.specs.Keeps.{Keeps, Leaves, Tells}
+use Rattle.page_map.specs.Outcome.{NamesPage}
+use Rattle.page_map.specs.PageMap.{PageMap, View, block_at, page_at}
 use Rattle.snapshot_core.specs.declared.statuses.Status.{Status}
 use Rattle.snapshot_core.specs.declared.statuses.Status.TheVariants.{Unused, Begun, Committed, RolledBack}
 use Rattle.store_layout.specs.DiskLayout.{DiskLayout, page_offset}

@@ -1,9 +1,9 @@
 -- what a begin answers
 use Rattle.std.specs.Prelude.{◌≡◌, ℕ, ◌<◌, ◌⊎◌, None, Result, Ok, Err}
 use Rattle.disk_trait.specs.Told.{Told}
-use Rattle.page_store.specs.Keeps.{Untold}
-use Rattle.page_store.specs.Outcome.{IsReopen, Outcome}
-use Rattle.page_store.specs.PageMap.{View}
+use Rattle.page_map.specs.Keeps.{Untold}
+use Rattle.page_map.specs.Outcome.{IsReopen, Outcome}
+use Rattle.page_map.specs.PageMap.{View}
 use Rattle.store_layout.specs.DiskLayout.{DiskLayout}
 use Rattle.tx_table.specs.declared.faults.BeginFault.{BeginFault}
 use Rattle.tx_table.specs.declared.faults.BeginFault.TheVariants as faults

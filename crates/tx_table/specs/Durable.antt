@@ -2,8 +2,8 @@
 use Rattle.std.specs.Prelude.{◌≡◌, ◌≢◌, ℕ, IsTrue, List, take}
 use Rattle.block_model.specs.declared.place.Place.{Place}
 use Rattle.disk_trait.specs.Told.{Told}
-use Rattle.store_opening.specs.Opens.{OpensAs}
-use Rattle.page_store.specs.PageMap.{PageMap, View, page_at}
+use Rattle.page_store.specs.Opens.{OpensAs}
+use Rattle.page_map.specs.PageMap.{PageMap, View, page_at}
 use Rattle.snapshot_core.specs.declared.statuses.Status.{Status}
 use Rattle.store_layout.specs.DiskLayout.{DiskLayout}
 use Rattle.tx_table.specs.Statuses.{HasStatuses, IsStartedBlock, status_relation, with_all}

@@ -4,8 +4,8 @@ use Rattle.std.proofs.Common.{◌∙◌, List, sym, subst}
 use Rattle.disk_trait.specs.Told.{Told}
 use Rattle.page_layout.specs.declared.format.TheConstants.{STATUS_ENTRIES}
 use Rattle.page_layout.specs.PageContents.{IsStatusPage}
-use Rattle.page_store.specs.Keeps.{Keeps, Leaves, Tells}
-use Rattle.page_store.specs.PageMap.{PageMap, View, block_at}
+use Rattle.page_map.specs.Keeps.{Keeps, Leaves, Tells}
+use Rattle.page_map.specs.PageMap.{PageMap, View, block_at}
 use Rattle.snapshot_core.specs.declared.statuses.Status.{Status}
 use Rattle.snapshot_core.specs.declared.statuses.Status.TheVariants.{Unused, Begun, Committed, RolledBack}
 use Rattle.store_layout.specs.DiskLayout.{DiskLayout}

@@ -1,6 +1,6 @@
 //! Why a transaction isn't begun.
 
-use page_store::StoreError;
+use page_map::StoreError;
 use thiserror::Error;
 
 /// Why a transaction isn't begun.

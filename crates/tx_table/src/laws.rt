@@ -1,9 +1,9 @@
 //! The statuses as the pages show them, and what a store that was opened has.
 
 ghost use Rattle.std.specs.Prelude.{◌≡◌, ◌<◌, ℕ, List};
-ghost use Rattle.store_opening.specs.PageOrder.{AreInOrder};
-ghost use Rattle.page_store.specs.Forms.{IsPageIn};
-ghost use Rattle.page_store.specs.PageMap.{PageMap, block_at};
+ghost use Rattle.page_store.specs.PageOrder.{AreInOrder};
+ghost use Rattle.page_map.specs.Forms.{IsPageIn};
+ghost use Rattle.page_map.specs.PageMap.{PageMap, block_at};
 ghost use Rattle.snapshot_core.specs.declared.statuses.Status.{Status};
 ghost use Rattle.store_layout.specs.DiskLayout.{DiskLayout};
 ghost use Rattle.tx_table.specs.LeavesRest.{AreStarted};

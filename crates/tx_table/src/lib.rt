@@ -3,7 +3,7 @@
 //! of statuses as one list, by number (specs/Statuses.antt). `begin` gives the next number, `commit` and `commit_all` answer Ok
 //! only once their statuses are sure, `rollback` needs no flush, and `status` copies no page. What a stop in the midst of a call
 //! leaves is told with each call (specs/Durable.antt). A caller that needs the status of one transaction several times keeps the
-//! answer; the table has no cache. It stands on logged_pages and snapshot_core.
+//! answer; the table has no cache. It stands on page_store and snapshot_core.
 #![tactic(auto)]
 
 mod faults;

@@ -4,10 +4,10 @@ ghost use Rattle.std.specs.Prelude.{◌≡◌, ◌+◌, ◌*◌, ◌<◌, ◌≤
 ghost use Rattle.page_layout.specs.declared.format.TheConstants.{STATUS_ENTRIES};
 ghost use Rattle.page_layout.specs.declared.page.Form.TheVariants as forms;
 ghost use Rattle.page_layout.specs.PageContents.{IsPageOf};
-ghost use Rattle.logged_pages.specs.Survives.{Survives};
-ghost use Rattle.page_store.specs.Keeps.{Keeps, Tells, Untold};
-ghost use Rattle.page_store.specs.Outcome.{Outcome};
-ghost use Rattle.page_store.specs.PageMap.{block_at};
+ghost use Rattle.page_store.specs.Survives.{Survives};
+ghost use Rattle.page_map.specs.Keeps.{Keeps, Tells, Untold};
+ghost use Rattle.page_map.specs.Outcome.{Outcome};
+ghost use Rattle.page_map.specs.PageMap.{block_at};
 ghost use Rattle.snapshot_core.specs.declared.statuses.Status.{Status};
 ghost use Rattle.tx_table.specs.Durable.{IsBefore};
 ghost use Rattle.tx_table.specs.LeavesRest.{NamesStatuses};
@@ -18,9 +18,9 @@ ghost use Rattle.tx_table.specs.TxState.{IsNext};
 use crate::status_pages::{ENTRIES, RELATION};
 use block_model::Place;
 use disk_trait::Disk;
-use logged_pages::PageStore;
 use page_layout::{Page, STATUS_ENTRIES, status_at};
-use page_store::StoreError;
+use page_map::StoreError;
+use page_store::PageStore;
 
 /// How a page names an unused number.
 const UNUSED: u8 = 0;

@@ -3,9 +3,9 @@
 ghost use Rattle.std.specs.Prelude.{◌≡◌, ◌/◌, ◌<◌, ◌≤◌, ℕ, IfOk, IfErr, OnOk, OnErr, set, take};
 ghost use Rattle.std.specs.List.{All};
 ghost use Rattle.page_layout.specs.declared.format.TheConstants.{STATUS_ENTRIES};
-ghost use Rattle.logged_pages.specs.Survives.{Survives};
-ghost use Rattle.page_store.specs.Keeps.{Keeps, Tells, Untold};
-ghost use Rattle.page_store.specs.Outcome.{Outcome};
+ghost use Rattle.page_store.specs.Survives.{Survives};
+ghost use Rattle.page_map.specs.Keeps.{Keeps, Tells, Untold};
+ghost use Rattle.page_map.specs.Outcome.{Outcome};
 ghost use Rattle.snapshot_core.specs.declared.statuses.Status.TheVariants.{Unused as UnusedStatus};
 ghost use Rattle.store_layout.specs.DiskLayout.{IsPlace};
 ghost use Rattle.tx_table.specs.Durable.{HasPart, IsBefore, IsDurable};
@@ -14,9 +14,9 @@ ghost use Rattle.tx_table.specs.Statuses.{HasStatuses, IsStartedBlock, OfStatuse
 
 use block_model::Place;
 use disk_trait::Disk;
-use logged_pages::PageStore;
 use page_layout::{STATUS_ENTRIES, status_at};
-use page_store::StoreError;
+use page_map::StoreError;
+use page_store::PageStore;
 use snapshot_core::Status;
 use store_layout::Layout;
 use wal_record::Change;

@@ -3,9 +3,9 @@
 ghost use Rattle.std.specs.Prelude.{◌≡◌, ◌+◌, ◌/◌, ◌≤◌, ◌∷◌, ℕ, [], IfOk, IfErr, OnOk, OnErr, set, take};
 ghost use Rattle.std.specs.List.{All};
 ghost use Rattle.page_layout.specs.declared.format.TheConstants.{STATUS_ENTRIES};
-ghost use Rattle.logged_pages.specs.Survives.{Survives};
-ghost use Rattle.page_store.specs.Keeps.{Keeps, Tells, Untold};
-ghost use Rattle.page_store.specs.Outcome.{Outcome};
+ghost use Rattle.page_store.specs.Survives.{Survives};
+ghost use Rattle.page_map.specs.Keeps.{Keeps, Tells, Untold};
+ghost use Rattle.page_map.specs.Outcome.{Outcome};
 ghost use Rattle.snapshot_core.specs.declared.statuses.Status.TheVariants.{Begun as BegunStatus, Committed as CommittedStatus, RolledBack as RolledBackStatus, Unused as UnusedStatus};
 ghost use Rattle.tx_table.specs.Durable.{HasPart, IsBefore, IsDurable};
 ghost use Rattle.tx_table.specs.BeginAnswers.{BeginOutcome, NamesStatusPage};
@@ -17,8 +17,8 @@ use crate::faults::BeginFault;
 use crate::opening::next_number;
 use crate::status_pages::{flush, number_limit, set_each, set_status, stored_status};
 use disk_trait::Disk;
-use logged_pages::PageStore;
-use page_store::StoreError;
+use page_map::StoreError;
+use page_store::PageStore;
 use snapshot_core::Status;
 use std::marker::Model;
 

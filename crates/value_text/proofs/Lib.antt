@@ -8,3 +8,8 @@ pub mod Canonical
 pub mod OfKind
 pub mod ValueOfLemmas
 pub mod Spaces
+pub mod Lawful
+pub mod Whole
+pub mod DigitLemmas
+pub mod DigitReading
+pub mod Stopping

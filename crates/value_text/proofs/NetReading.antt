@@ -6,9 +6,9 @@ use Rattle.std.proofs.lemmas.Bool.Decides.{eqb_tells}
 use Rattle.std.proofs.lemmas.Fmt.{decimal_digit, decimal_step, decimal_by_steps}
 use Rattle.block_model.specs.Names.{is_digit}
 use Rattle.value_text.specs.NetTexts.{NetText, IsNet, prefix_bytes, net_bytes}
-use Rattle.text_reading.specs.Reading.{mapped, both, begins, choice, nothing, byte_at}
+use Rattle.value_text.specs.TextReading.{mapped, both, begins, choice, nothing, byte_at}
 use Rattle.value_text.specs.Reading.{grown, decimal_at, pointed_at, prefix_at, ending_at, front_at, whole_net, net_at}
-use Rattle.text_reading.proofs.Lawful.{Obeys, Lawful, both_lawful, mapped_lawful, choice_lawful, nothing_lawful, same_lawful, byte_lawful, both_read, mapped_read}
+use Rattle.value_text.proofs.Lawful.{Obeys, Lawful, both_lawful, mapped_lawful, choice_lawful, nothing_lawful, same_lawful, byte_lawful, both_read, mapped_read}
 
 digit_range : (c : ℕ) → is_digit c ≡ true → (48 ≤ c) × (c ≤ 57)
 digit_range c h = let p = and_parts (nat_le 48 c) (nat_le c 57) h in (leb-true 48 c p.0, leb-true c 57 p.1)

@@ -4,11 +4,11 @@ use Rattle.std.specs.List.{list_all}
 use Rattle.std.proofs.lemmas.Bool.{and_parts}
 use Rattle.block_model.specs.Names.{is_digit}
 use Rattle.value_text.specs.IntTexts.{NumberText, IsNumber, number_bytes}
-use Rattle.text_reading.specs.Reading.{mapped, both, begins, choice, byte_at, digits_at}
+use Rattle.value_text.specs.TextReading.{mapped, both, begins, choice, byte_at, digits_at}
 use Rattle.value_text.specs.Reading.{is_minus, signed_at}
-use Rattle.text_reading.specs.Digits.{AreDigits}
-use Rattle.text_reading.proofs.DigitReading.{other_byte, one_digit, digits_lawful, digits_complete}
-use Rattle.text_reading.proofs.Lawful.{Lawful, both_lawful, mapped_lawful, choice_lawful, same_lawful, byte_lawful, both_read, mapped_read, choice_second}
+use Rattle.value_text.specs.Digits.{AreDigits}
+use Rattle.value_text.proofs.DigitReading.{other_byte, one_digit, digits_lawful, digits_complete}
+use Rattle.value_text.proofs.Lawful.{Lawful, both_lawful, mapped_lawful, choice_lawful, same_lawful, byte_lawful, both_read, mapped_read, choice_second}
 
 abbrev negative : Unit {0} × List ℕ → NumberText
 negative x = record { negative = true; digits = x.1 }

@@ -9,9 +9,9 @@ use Rattle.block_model.specs.declared.value.Kind.TheVariants as kinds
 use Rattle.value_text.specs.IntTexts.{NumberText, IsNumber, number_bytes}
 use Rattle.value_text.specs.RangeTexts.{BoundText, IsBound, side_bytes, lower_bytes, upper_bytes, bounds_bytes}
 use Rattle.value_text.specs.ValueTexts.{ValueText, NoNumber, Bounds, IsTextOf, bytes_of}
-use Rattle.text_reading.specs.Reading.{Reading, mapped, both, begins, choice, nothing, byte_at, word_at}
+use Rattle.value_text.specs.TextReading.{Reading, mapped, both, begins, choice, nothing, byte_at, word_at}
 use Rattle.value_text.specs.Reading.{is_minus, is_sign_or_digit, signed_at, side_at, bracket_at, lower_at, upper_at, bounds_at, range_at}
-use Rattle.text_reading.proofs.Lawful.{Obeys, Lawful, both_lawful, mapped_lawful, choice_lawful, nothing_lawful, same_lawful, byte_lawful, word_lawful, both_read, mapped_read, choice_first, choice_second}
+use Rattle.value_text.proofs.Lawful.{Obeys, Lawful, both_lawful, mapped_lawful, choice_lawful, nothing_lawful, same_lawful, byte_lawful, word_lawful, both_read, mapped_read, choice_first, choice_second}
 use Rattle.value_text.proofs.NumberReading.{number_lawful, number_complete}
 
 abbrev IsSide : Option NumberText → Type 0

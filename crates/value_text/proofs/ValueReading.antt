@@ -12,12 +12,12 @@ use Rattle.value_text.specs.ValueTexts.{ValueText, Null, Number, NoNumber, Bound
 use Rattle.block_model.specs.declared.value.Value.{Value}
 use Rattle.value_text.specs.declared.read.TextFault.TheVariants as faults
 use Rattle.value_text.specs.ValueStopsAt.{ValueStopsAt}
-use Rattle.text_reading.specs.Reading.{mapped, begins, word_at}
+use Rattle.value_text.specs.TextReading.{mapped, begins, word_at}
 use Rattle.value_text.specs.Reading.{signed_at, range_at, net_at, kind_at, text_at, whole_at}
-use Rattle.text_reading.proofs.Lawful.{Lawful, mapped_lawful, choice_lawful, same_lawful, word_lawful, mapped_read, choice_second}
-use Rattle.text_reading.specs.Digits.{AreDigits}
-use Rattle.text_reading.proofs.DigitReading.{other_byte}
-use Rattle.text_reading.proofs.Whole.{whole_read, one_text as one-whole_text, read_is_text as whole-is_text, refused_is_no_text as whole-is_no_text, refused_leaves as whole-leaves, refused_stops_at as whole-stops_at}
+use Rattle.value_text.proofs.Lawful.{Lawful, mapped_lawful, choice_lawful, same_lawful, word_lawful, mapped_read, choice_second}
+use Rattle.value_text.specs.Digits.{AreDigits}
+use Rattle.value_text.proofs.DigitReading.{other_byte}
+use Rattle.value_text.proofs.Whole.{whole_read, one_text as one-whole_text, read_is_text as whole-is_text, refused_is_no_text as whole-is_no_text, refused_leaves as whole-leaves, refused_stops_at as whole-stops_at}
 use Rattle.value_text.proofs.NumberReading.{number_lawful, number_complete}
 use Rattle.value_text.proofs.RangeReading.{range_lawful, empty_complete, bounds-complete}
 use Rattle.value_text.proofs.NetReading.{net_lawful, net_complete}

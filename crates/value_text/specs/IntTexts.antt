@@ -3,7 +3,7 @@ use Rattle.std.specs.Prelude.{◌≡◌, ℕ, ◌<◌, Bool, true, if◌then◌e
 use Rattle.std.specs.List.{list_all}
 use Rattle.block_model.specs.Names.{is_digit}
 use Rattle.block_model.specs.ValuesOfKind.{is_int8}
-use Rattle.text_reading.specs.Digits.{digits_from}
+use Rattle.value_text.specs.Digits.{digits_from}
 
 -- a number as it is written
 pub record NumberText : Type 0 where

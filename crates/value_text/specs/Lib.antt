@@ -9,3 +9,6 @@ pub mod ValueOf
 pub mod Appended
 pub mod Parts
 pub mod Reading
+pub mod Digits
+pub mod TextReading
+pub mod StopsAt

@@ -1,6 +1,6 @@
 -- How a text is read from its front, part by part.
 use Rattle.std.specs.Prelude.{ℕ, ◌+◌, ◌-◌, ◌*◌, nat_le, ◌==◌, Bool, true, false, ◌&&◌, ◌||◌, if◌then◌else◌, List, [], ◌∷◌, codes, Option, None, Some, Ok, Err}
-use Rattle.text_reading.specs.Reading.{Reading, mapped, both, choice, nothing, byte_at, word_at, digits_at, whole}
+use Rattle.value_text.specs.TextReading.{Reading, mapped, both, choice, nothing, byte_at, word_at, digits_at, whole}
 use Rattle.block_model.specs.Names.{is_digit}
 use Rattle.block_model.specs.declared.value.Kind.{Kind}
 use Rattle.block_model.specs.declared.value.Kind.TheVariants as kinds

@@ -1,7 +1,7 @@
 -- where bytes that are no text of a kind go wrong
 use Rattle.std.specs.Prelude.{ℕ, List}
 use Rattle.block_model.specs.declared.value.Kind.{Kind}
-use Rattle.text_reading.specs.StopsAt.{StopsAt}
+use Rattle.value_text.specs.StopsAt.{StopsAt}
 use Rattle.value_text.specs.ValueTexts.{IsTextOf, bytes_of}
 
 -- the bytes are no text of the kind; those before the place begin one, and with the byte there they don't

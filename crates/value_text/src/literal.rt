@@ -3,14 +3,14 @@
 ghost use Rattle.std.specs.Prelude.{◌≡◌};
 ghost use Rattle.value_text.specs.ValueTexts.{IsTextOf, meaning};
 ghost use Rattle.value_text.specs.Parts.{value_text};
-ghost use Rattle.text_reading.specs.Reading.{Gives};
+ghost use Rattle.value_text.specs.TextReading.{Gives};
 ghost use Rattle.value_text.specs.Reading.{bounds_at, range_at, kind_at, text_at, whole_at};
 
 use crate::net::{Address, read_address};
 use crate::number::{Number, read_number};
 use crate::range::{Bound, lower, range_of, upper};
+use crate::{Reading, byte, end, word};
 use block_model::{Kind, Span8, Value};
-use text_reading::{Reading, byte, end, word};
 
 /// A value as it is written.
 #[derive(Clone, Copy)]

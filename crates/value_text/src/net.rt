@@ -3,11 +3,11 @@
 ghost use Rattle.std.specs.Prelude.{◌≡◌, ◌+◌, ◌*◌};
 ghost use Rattle.value_text.specs.NetTexts.{IsNet, network_of};
 ghost use Rattle.value_text.specs.Parts.{net_text};
-ghost use Rattle.text_reading.specs.Reading.{Gives};
+ghost use Rattle.value_text.specs.TextReading.{Gives};
 ghost use Rattle.value_text.specs.Reading.{grown, decimal_at, pointed_at, prefix_at, ending_at, front_at, net_at};
 
+use crate::{Reading, byte};
 use block_model::Net;
-use text_reading::{Reading, byte};
 
 /// An address as it is written.
 #[derive(Clone, Copy)]

@@ -3,10 +3,10 @@
 ghost use Rattle.std.specs.Prelude.{◌≡◌, ◌+◌, ◌^◌, ◌≤◌, length};
 ghost use Rattle.value_text.specs.IntTexts.{number_bytes, int8_of};
 ghost use Rattle.value_text.specs.Parts.{number_text};
-ghost use Rattle.text_reading.specs.Reading.{Gives};
+ghost use Rattle.value_text.specs.TextReading.{Gives};
 ghost use Rattle.value_text.specs.Reading.{signed_at};
 
-use text_reading::{Numeral, Reading, written_number};
+use crate::{Numeral, Reading, written_number};
 
 /// A number as it is written.
 #[derive(Clone, Copy)]

@@ -3,12 +3,12 @@
 ghost use Rattle.std.specs.Prelude.{◌≡◌, ◌+◌, Some, None};
 ghost use Rattle.value_text.specs.RangeTexts.{bound_of, written_range, upper_place, growth_place};
 ghost use Rattle.value_text.specs.Parts.{side_text, bound_text};
-ghost use Rattle.text_reading.specs.Reading.{Gives};
+ghost use Rattle.value_text.specs.TextReading.{Gives};
 ghost use Rattle.value_text.specs.Reading.{bracket_at, side_at, lower_at, upper_at};
 
+use crate::Reading;
 use crate::number::{Number, read_number};
 use block_model::{Span8, SpanFault};
-use text_reading::Reading;
 
 /// A bound as it is written: its number, or none where that side is infinite, and whether its bracket is a square one.
 #[derive(Clone, Copy)]

@@ -4,11 +4,10 @@ ghost use Rattle.std.specs.Prelude.{◌<◌};
 
 use block_model::{NoMemory, Words};
 use brin_app::brin_main;
-use disk_trait::Disk;
+use disk_trait::{Disk, VeiledDisk};
 use io_traits::{MemorySink, MemorySource};
 use std::alloc::Global;
 use std::str;
-use veiled_disk::VeiledDisk;
 
 /// How many bytes come or go in one call: one, or a large piece.
 #[derive(Clone, Copy, Debug, PartialEq, Eq)]

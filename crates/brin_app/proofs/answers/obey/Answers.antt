@@ -2,7 +2,7 @@ use Rattle.std.proofs.Common.{[], refl, sym, subst}
 use Rattle.std.specs.Prelude.{Ok, OnOk, ◌≡◌, ◌++◌, ℕ, List}
 use Rattle.std.proofs.lemmas.List.{append-nil}
 use Rattle.query_words.specs.declared.line.Line.{Line}
-use Rattle.line_texts.specs.LineTexts.{Answers, SaysNothing}
+use Rattle.script_semantics.specs.LineTexts.{Answers, SaysNothing}
 use Rattle.brin_app.specs.Leading.{PlacesLead}
 use Rattle.brin_app.proofs.Leading.{led_still}
 use Rattle.brin_app.proofs.answers.obey.Goals as goal

@@ -1,8 +1,8 @@
 use Rattle.std.proofs.Common.{◌≡◌, ap}
-use Rattle.line_texts.specs.LineTexts.{named}
-use Rattle.line_texts.specs.Place.{Place}
+use Rattle.script_semantics.specs.LineTexts.{named}
+use Rattle.script_semantics.specs.Place.{Place}
 use Rattle.brin_app.proofs.Leading.{led_beside}
-use Rattle.store_parts.specs.StoreStates.{StoreState}
+use Rattle.session_parts.specs.StoreStates.{StoreState}
 use Rattle.brin_app.proofs.Stepping.{naming_keeps}
 use Rattle.brin_app.proofs.Saying.{say_done, say_lost, say_refused, say_unmade}
 use Rattle.brin_app.proofs.answers.say.Goals as goal

@@ -1,7 +1,7 @@
 use Rattle.std.proofs.Common.{◌≡◌, ap}
-use Rattle.line_texts.specs.LineTexts.{named}
-use Rattle.line_texts.specs.Place.{Place}
-use Rattle.store_parts.specs.StoreStates.{StoreState}
+use Rattle.script_semantics.specs.LineTexts.{named}
+use Rattle.script_semantics.specs.Place.{Place}
+use Rattle.session_parts.specs.StoreStates.{StoreState}
 use Rattle.brin_app.proofs.Heeding.{ask_done, ask_lost, ask_refused}
 use Rattle.brin_app.proofs.Leading.{led_beside}
 use Rattle.brin_app.proofs.Saying.{say_unmade}

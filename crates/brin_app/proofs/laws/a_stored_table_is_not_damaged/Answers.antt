@@ -1,4 +1,4 @@
-use Rattle.store_opening.proofs.Undamaged.{not_damaged}
+use Rattle.recovery.proofs.Undamaged.{not_damaged}
 use Rattle.brin_app.proofs.laws.a_stored_table_is_not_damaged.Goals as goal
 
 pub returns : goal.returns

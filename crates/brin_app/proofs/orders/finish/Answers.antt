@@ -1,6 +1,6 @@
 use Rattle.std.proofs.Common.{ℕ, suc, ◌<◌, refl, sym, ◌∙◌, subst, arith, add-one}
 use Rattle.std.proofs.lemmas.Result.{err_from_is_err_and}
-use Rattle.step_bounds.specs.Moves.{MovedIn}
+use Rattle.script_semantics.specs.Moves.{MovedIn}
 use Rattle.script_run.specs.declared.engine.AnswerFault.TheVariants.{Damaged}
 use Rattle.demo_script.specs.declared.answer.Answer.TheVariants as answers
 use Rattle.brin_app.specs.Leading.{PlacesLead}

@@ -1,7 +1,7 @@
 use Rattle.std.proofs.Common.{◌≡◌}
 use Rattle.std.specs.Prelude.{IsSome}
-use Rattle.step_bounds.specs.Moves.{MovedIn}
-use Rattle.store_parts.specs.StoreStates.{hand_at}
+use Rattle.script_semantics.specs.Moves.{MovedIn}
+use Rattle.session_parts.specs.StoreStates.{hand_at}
 use Rattle.brin_app.specs.Leading.{PlacesLead}
 use Rattle.brin_app.proofs.orders.finish.Given as goal
 

@@ -1,5 +1,5 @@
 use Rattle.std.proofs.Common.{None, Some}
-use Rattle.line_texts.specs.LineTexts.{Submits}
+use Rattle.script_semantics.specs.LineTexts.{Submits}
 use Rattle.query_words.specs.declared.line.Order.TheVariants as orders
 use Rattle.demo_script.specs.declared.answer.Answer.TheVariants as answers
 use Rattle.brin_app.specs.Orders.{DoesSo}

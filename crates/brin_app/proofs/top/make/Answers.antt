@@ -1,5 +1,5 @@
 use Rattle.std.proofs.Common.{ℕ, sym, subst}
-use Rattle.fresh_store.specs.FreshPages.{fresh_pages}
+use Rattle.session_core.specs.FreshPages.{fresh_pages}
 use Rattle.brin_app.specs.Statuses.{IsUnfit}
 use Rattle.brin_app.proofs.Making.{fresh_holds, fresh_moments_of, moments_of, unfit_of}
 use Rattle.brin_app.proofs.top.make.Goals as goal

@@ -1,6 +1,6 @@
 use Rattle.std.proofs.Common.{◌≡◌, sym, subst}
 use Rattle.std.specs.Prelude.{IfOk}
-use Rattle.command_words.specs.declared.command.Command.{Command}
+use Rattle.command_line.specs.declared.command.Command.{Command}
 use Rattle.brin_app.specs.declared.top.Task.{Task}
 use Rattle.brin_app.specs.declared.top.Task.TheVariants as tasks
 use Rattle.brin_app.specs.Tasks.{HasDemoNumbers, IsTaskOf, IsWrong}

@@ -1,7 +1,7 @@
 use Rattle.std.proofs.Common.{◌≡◌, inl, inr, true, ℕ, List, refl, sym, ap, subst, ◌∙◌}
 use Rattle.block_model.specs.declared.value.Value.{Value}
 use Rattle.store_layout.specs.DiskLayout.{DiskLayout}
-use Rattle.page_store.specs.PageMap.{PageMap}
+use Rattle.page_map.specs.PageMap.{PageMap}
 use Rattle.page_locks.specs.LockChanges.{IsFreeFor, page_of}
 use Rattle.page_locks.specs.LockHolders.{holder}
 use Rattle.std.specs.Prelude.{All, slice_get}

@@ -3,7 +3,7 @@ use Rattle.page_locks.specs.LockCounts.{locks_of}
 use Rattle.range_tuple.specs.TupleBytes.{tuple_bytes}
 use Rattle.index_contents.specs.IndexContents.{contents}
 use Rattle.std.proofs.Common.{length}
-use Rattle.range_store.specs.Tuples.{IsTupleSize}
+use Rattle.index_steps.specs.Tuples.{IsTupleSize}
 use Rattle.index_steps.specs.declared.swapping.Swapped.TheVariants as swaps
 use Rattle.index_steps.specs.IndexTuples.{shape_of}
 use Rattle.index_steps.specs.ShownIndex.{lock_in}

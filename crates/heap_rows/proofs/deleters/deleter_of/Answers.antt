@@ -1,6 +1,6 @@
 use Rattle.std.proofs.Common.{◌∙◌, ℕ, ap, arith, rules}
-use Rattle.page_store.specs.Forms.{form_of}
-use Rattle.page_store.specs.PageMap.{block_at}
+use Rattle.page_map.specs.Forms.{form_of}
+use Rattle.page_map.specs.PageMap.{block_at}
 use Rattle.heap_rows.specs.HeapBlocks.{slots_of}
 use Rattle.heap_rows.proofs.Heaps.{form_found}
 use Rattle.heap_rows.proofs.RowAtSpot.{slots_read}

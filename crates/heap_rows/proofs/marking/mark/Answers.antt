@@ -4,9 +4,9 @@ use Rattle.std.proofs.lemmas.Result.{on_ok_weaker}
 use Rattle.block_model.specs.declared.place.Place.{Place}
 use Rattle.page_layout.specs.declared.page.Form.{Form}
 use Rattle.page_layout.specs.PageWrites.{marked}
-use Rattle.page_redo.specs.Redo.{IsUsedSlot}
-use Rattle.page_store.specs.Forms.{form_of}
-use Rattle.page_store.specs.PageMap.{block_at}
+use Rattle.page_map.specs.Redo.{IsUsedSlot}
+use Rattle.page_map.specs.Forms.{form_of}
+use Rattle.page_map.specs.PageMap.{block_at}
 use Rattle.wal_record.specs.Changes.{RowMark}
 use Rattle.heap_rows.specs.Heaps.{relation_of}
 use Rattle.heap_rows.proofs.Heaps.{form_found}

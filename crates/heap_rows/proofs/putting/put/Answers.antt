@@ -1,5 +1,5 @@
 use Rattle.block_model.specs.declared.place.Place.{Place}
-use Rattle.page_store.specs.Forms.{form_of}
+use Rattle.page_map.specs.Forms.{form_of}
 use Rattle.heap_rows.specs.RowPlaces.{new_row}
 use Rattle.heap_rows.proofs.Leaves.{table_leaves}
 use Rattle.heap_rows.proofs.Puts.{blocks_found, bytes_of, found_of, full_found, not_full_found, place_found, slots-found}

@@ -1,6 +1,6 @@
 use Rattle.std.proofs.Common.{arith}
-use Rattle.page_store.specs.Forms.{form_of}
-use Rattle.page_store.specs.PageMap.{page_at}
+use Rattle.page_map.specs.Forms.{form_of}
+use Rattle.page_map.specs.PageMap.{page_at}
 use Rattle.heap_rows.proofs.Rooms.{no_row, puts_bytes, start_fits, starts_bytes}
 use Rattle.heap_rows.proofs.putting.put_bytes.Goals as goal
 

@@ -1,6 +1,6 @@
 use Rattle.std.proofs.Common.{ℕ, length, sym, subst}
-use Rattle.page_store.specs.PageMap.{block_at}
-use Rattle.page_store.specs.Started.{AreFirst}
+use Rattle.page_map.specs.PageMap.{block_at}
+use Rattle.page_map.specs.Started.{AreFirst}
 use Rattle.heap_rows.proofs.Heaps.{limit_is}
 use Rattle.heap_rows.proofs.TableBlocks.{blocks_first}
 use Rattle.heap_rows.proofs.reading.blocks.Goals as goal

@@ -1,8 +1,8 @@
 use Rattle.std.proofs.Common.{◌∙◌, ℕ, ap, subst, sym}
 use Rattle.page_layout.specs.declared.page.Form.{Form}
 use Rattle.page_layout.specs.PageContents.{IsPageOf}
-use Rattle.page_store.specs.Forms.{form_of}
-use Rattle.page_store.specs.PageMap.{block_at}
+use Rattle.page_map.specs.Forms.{form_of}
+use Rattle.page_map.specs.PageMap.{block_at}
 use Rattle.heap_rows.proofs.Heaps.{form_found}
 use Rattle.heap_rows.proofs.SlotRows.{rows_of_block, rows_sound}
 use Rattle.heap_rows.proofs.reading.rows_of.Goals as goal

@@ -1,6 +1,6 @@
 use Rattle.std.proofs.Common.{inl, inr, subst}
-use Rattle.page_layout.specs.declared.page.Form.{Form}
-use Rattle.page_layout.specs.PageContents.{IsPageOf}
+use Rattle.recovery.specs.Form.{Form}
+use Rattle.recovery.specs.PageContents.{IsPageOf}
 use Rattle.index_layout.specs.IndexPages.{Unstarted}
 use Rattle.index_contents.proofs.index.index_pages_are_known.Goals as goal
 

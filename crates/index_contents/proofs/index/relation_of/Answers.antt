@@ -1,7 +1,7 @@
 use Rattle.std.proofs.Common.{ℕ, ◌+◌, ap, ◌∙◌, arith}
 use Rattle.store_layout.specs.RelationCounts.{count_relations}
-use Rattle.page_store.specs.Forms.{form_of}
-use Rattle.page_store.specs.PageMap.{block_limit}
+use Rattle.recovery.specs.Forms.{form_of}
+use Rattle.recovery.specs.PageMap.{block_limit}
 use Rattle.index_contents.proofs.Relations.{form_is, limit_is}
 use Rattle.index_contents.proofs.index.relation_of.Goals as goal
 

@@ -6,7 +6,7 @@ use Rattle.page_locks.specs.LockChanges.{IsFirstHeld, TakesAll}
 use Rattle.page_locks.specs.LockHolders.{holder}
 use Rattle.coverage.specs.IndexView.{map_page_of}
 use Rattle.coverage.specs.Verdicts.{IsTarget}
-use Rattle.logged_pages.specs.SurvivesLaws.{survives_still}
+use Rattle.heap_rows.specs.SurvivesLaws.{survives_still}
 use Rattle.index_contents.specs.IndexContents.{contents, relation_of}
 use Rattle.index_steps.specs.IndexTuples.{shape_of}
 use Rattle.index_steps.specs.ShownIndex.{lock_in}

@@ -1,7 +1,7 @@
 use Rattle.std.proofs.Common.{refl, sym, ap, ◌∙◌, arith}
 use Rattle.index_contents.specs.IndexContents.{IndexContents, contents}
 use Rattle.coverage.specs.IndexView.{map_page_of}
-use Rattle.logged_pages.specs.SurvivesLaws.{survives_on}
+use Rattle.heap_rows.specs.SurvivesLaws.{survives_on}
 use Rattle.index_steps.proofs.Copying.{is_misnamed, names_page, said_of}
 use Rattle.index_steps.specs.ShownIndex.{same_contents}
 use Rattle.index_steps.proofs.Damage.{unnamed, well_named}

@@ -2,13 +2,13 @@ use Rattle.std.proofs.Common.{◌≡◌, ℕ, refl, sym, ap, subst, ◌∙◌}
 use Rattle.std.proofs.lemmas.Result.{IfOk-weaker}
 use Rattle.block_model.specs.declared.place.Place.{Place}
 use Rattle.store_layout.specs.DiskLayout.{DiskLayout}
-use Rattle.page_store.specs.PageMap.{PageMap}
+use Rattle.page_map.specs.PageMap.{PageMap}
 use Rattle.page_locks.specs.LockChanges.{IsFreeFor, page_of}
 use Rattle.page_locks.specs.LockHolders.{holder}
 use Rattle.coverage.specs.Verdicts.{SwapVerdict, Waits}
-use Rattle.logged_pages.specs.SurvivesLaws.{survives_on, survives_still}
+use Rattle.heap_rows.specs.SurvivesLaws.{survives_on, survives_still}
 use Rattle.index_contents.specs.IndexContents.{contents, relation_of}
-use Rattle.index_order.specs.OrderLaws.{order_then}
+use Rattle.index_contents.specs.OrderLaws.{order_then}
 use Rattle.index_steps.specs.IndexTuples.{seen, shape_of}
 use Rattle.index_steps.specs.ShownIndex.{lock_in}
 use Rattle.index_steps.specs.SwapAnswers.{LeavesLocks}

@@ -1,6 +1,6 @@
 use Rattle.std.proofs.Common.{[], ◌∷◌, refl, ◌∙◌, arith, ◌++◌, drop}
 use Rattle.std.specs.Int.{bytes_high_first}
-use Rattle.byte_fields.specs.Written.{set-next, put-next}
+use Rattle.index_layout.specs.Written.{set-next, put-next}
 use Rattle.page_layout.proofs.column.write_network.Goals as goal
 
 pub returns-clause-written : goal.returns-clause-written

@@ -1,7 +1,7 @@
 use Rattle.std.proofs.Common.{[], ◌∷◌, ◌++◌, refl, arith}
 use Rattle.std.specs.Int.{bytes_high_first}
 use Rattle.page_layout.specs.RowBytes.{head_bytes}
-use Rattle.byte_fields.specs.Written.{set-next, put-next}
+use Rattle.index_layout.specs.Written.{set-next, put-next}
 use Rattle.page_layout.proofs.row.write_head.Goals as goal
 
 pub returns-clause-written : goal.returns-clause-written

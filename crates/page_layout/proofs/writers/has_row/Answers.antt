@@ -1,5 +1,5 @@
 use Rattle.std.proofs.Common.{◌≡◌, List, ℕ, get_or, length, sym, ap, ◌∙◌, arith}
-use Rattle.byte_fields.specs.Fields.{AreBytes}
+use Rattle.index_layout.specs.Fields.{AreBytes}
 use Rattle.page_layout.specs.RowFaults.{row_fault}
 use Rattle.page_layout.specs.RowReading.{row_in}
 use Rattle.page_layout.proofs.Rows.{row_takes, row_passes, length-row}

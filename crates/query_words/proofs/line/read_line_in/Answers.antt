@@ -1,7 +1,7 @@
 use Rattle.std.proofs.Common.{◌≡◌, Bool, true, cond, None, length, IfOk, subst, sym, ap, ◌∙◌, arith}
 use Rattle.std.proofs.lemmas.Result.{IfOk-weaker}
 use Rattle.block_model.specs.declared.schema.Schema.{Schema}
-use Rattle.line_words.specs.Words.{words_of}
+use Rattle.query_words.specs.Words.{words_of}
 use Rattle.query_words.specs.LineFits.{IsLineFor, is_line_in}
 use Rattle.query_words.specs.Lines.{ReadsOnce, line_judged}
 use Rattle.query_words.specs.Parsed.{said_of}

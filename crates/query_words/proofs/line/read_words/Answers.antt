@@ -1,5 +1,5 @@
 use Rattle.std.proofs.Common.{ℕ, List, sym, ◌∙◌, subst}
-use Rattle.line_words.specs.LineParts.{words_left, word_here}
+use Rattle.query_words.specs.LineParts.{words_left, word_here}
 use Rattle.query_words.specs.declared.line.Line.TheVariants as lines
 use Rattle.query_words.specs.declared.syntax.Expected.TheVariants as expected
 use Rattle.query_words.specs.Lines.{ReadsOnce}

@@ -1,5 +1,5 @@
 use Rattle.std.proofs.Common.{sym}
-use Rattle.line_words.specs.LineParts.{words_left, word_here}
+use Rattle.query_words.specs.LineParts.{words_left, word_here}
 use Rattle.query_words.proofs.OnePass.{summarize_ok}
 use Rattle.query_words.proofs.maintenance.read_summarize.Goals as goal
 

@@ -1,4 +1,4 @@
-use Rattle.line_words.specs.LineParts.{words_left}
+use Rattle.query_words.specs.LineParts.{words_left}
 use Rattle.query_words.proofs.OnePass.{whole_once, start_once, step_once, finish_once}
 use Rattle.query_words.proofs.order.read_behind.Goals as goal
 

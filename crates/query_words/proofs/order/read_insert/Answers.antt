@@ -1,4 +1,4 @@
-use Rattle.statements.specs.declared.statement.Statement.TheVariants as statements
+use Rattle.store_layout.specs.declared.statement.Statement.TheVariants as statements
 use Rattle.query_words.specs.declared.line.Line.TheVariants as lines
 use Rattle.query_words.specs.declared.line.Order.TheVariants as orders
 use Rattle.query_words.proofs.OnePass.{once_through_ok, once_through_err}

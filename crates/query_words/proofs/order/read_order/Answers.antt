@@ -1,6 +1,6 @@
 use Rattle.std.proofs.Common.{Some, sym, ap, ◌∙◌}
-use Rattle.line_words.specs.declared.verb.Verb.TheVariants as verbs
-use Rattle.line_words.specs.LineParts.{words_left, word_here}
+use Rattle.query_words.specs.declared.verb.Verb.TheVariants as verbs
+use Rattle.query_words.specs.LineParts.{words_left, word_here}
 use Rattle.query_words.specs.declared.line.Line.TheVariants as lines
 use Rattle.query_words.proofs.OnePass.{verb_once, insert_once}
 use Rattle.query_words.proofs.order.read_order.Goals as goal

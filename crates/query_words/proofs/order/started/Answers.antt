@@ -1,5 +1,5 @@
 use Rattle.std.proofs.Common.{Result, subst}
-use Rattle.statements.specs.declared.statement.Statement.{Statement}
+use Rattle.store_layout.specs.declared.statement.Statement.{Statement}
 use Rattle.query_words.specs.declared.line.LineFault.{LineFault}
 use Rattle.query_words.specs.declared.line.Order.TheVariants as orders
 use Rattle.query_words.specs.Lines.{ReadsOnce}

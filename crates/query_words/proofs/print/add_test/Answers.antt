@@ -2,7 +2,7 @@ use Rattle.std.proofs.Common.{◌≡◌, ℕ, List, [], ◌∷◌, ◌++◌, sym
 use Rattle.std.specs.Result.{OnOk}
 use Rattle.std.proofs.lemmas.Grind.{common_steps}
 use Rattle.value_text.specs.CanonicalTexts.{canonical_text}
-use Rattle.line_words.specs.Operators.{op_text}
+use Rattle.query_words.specs.Operators.{op_text}
 use Rattle.query_words.specs.LineTexts.{spaced}
 use Rattle.query_words.proofs.LineTextLemmas.{compared_words}
 use Rattle.query_words.proofs.print.add_test.Goals as goal

@@ -1,5 +1,5 @@
 use Rattle.std.proofs.Common.{sym}
-use Rattle.line_words.specs.LineParts.{words_left, word_here}
+use Rattle.query_words.specs.LineParts.{words_left, word_here}
 use Rattle.query_words.specs.CondParts.{cond_here}
 use Rattle.query_words.proofs.OnePass.{no_joint, no_cond, conds_kept, conds_end}
 use Rattle.query_words.proofs.query.read_conds.Goals as goal

@@ -1,5 +1,5 @@
 use Rattle.std.proofs.Common.{length}
-use Rattle.line_words.specs.LineParts.{words_left}
+use Rattle.query_words.specs.LineParts.{words_left}
 use Rattle.query_words.proofs.OnePass.{Kept}
 use Rattle.query_words.proofs.query.read_conds.Given as goal
 

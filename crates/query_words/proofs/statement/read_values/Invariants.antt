@@ -1,5 +1,5 @@
 use Rattle.std.proofs.Common.{◌≡◌, [], length, drop}
-use Rattle.line_words.specs.LineParts.{words_left}
+use Rattle.query_words.specs.LineParts.{words_left}
 use Rattle.query_words.specs.Statements.{values_said}
 use Rattle.query_words.proofs.statement.read_values.Given as goal
 

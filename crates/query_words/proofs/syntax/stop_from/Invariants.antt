@@ -1,5 +1,5 @@
 use Rattle.std.proofs.Common.{◌≡◌, length}
-use Rattle.line_words.specs.LineParts.{words_left}
+use Rattle.query_words.specs.LineParts.{words_left}
 use Rattle.query_words.specs.Syntax.{stop_from}
 use Rattle.query_words.proofs.syntax.stop_from.Given as goal
 

@@ -1,6 +1,6 @@
 use Rattle.std.proofs.Common.{arith, ◌<◌}
-use Rattle.page_store.specs.Forms.{form_of}
-use Rattle.page_store.specs.PageMap.{page_at}
+use Rattle.page_map.specs.Forms.{form_of}
+use Rattle.page_map.specs.PageMap.{page_at}
 use Rattle.range_store.proofs.Fitting.{drop_fits, on_done, one_dropped}
 use Rattle.range_store.proofs.changes.drop_tuple.Goals as goal
 

@@ -1,4 +1,4 @@
-use Rattle.page_store.specs.PageMap.{page_at}
+use Rattle.page_map.specs.PageMap.{page_at}
 use Rattle.range_store.proofs.Fitting.{replace_fits}
 use Rattle.range_store.proofs.changes.replace_tuple.Goals as goal
 

@@ -1,5 +1,5 @@
-use Rattle.page_store.specs.Forms.{form_of}
-use Rattle.page_store.specs.PageMap.{page_at}
+use Rattle.page_map.specs.Forms.{form_of}
+use Rattle.page_map.specs.PageMap.{page_at}
 use Rattle.range_store.proofs.Fitting.{on_done, start_fits, started_with}
 use Rattle.range_store.proofs.changes.start_with.Goals as goal
 

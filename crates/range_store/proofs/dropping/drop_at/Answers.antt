@@ -1,16 +1,16 @@
 use Rattle.std.proofs.Common.{ℕ, subst, arith, ap, ◌∙◌, ◌≡◌, ◌<◌, length}
 use Rattle.store_layout.specs.DiskLayout.{DiskLayout, relation_blocks}
 use Rattle.block_model.specs.declared.schema.Sizes.{Sizes}
-use Rattle.page_store.specs.PageMap.{block_at, block_limit}
+use Rattle.page_map.specs.PageMap.{block_at, block_limit}
 use Rattle.index_contents.specs.IndexContents.{relation_of}
-use Rattle.page_store.specs.Outcome.{NamesPage}
+use Rattle.page_map.specs.Outcome.{NamesPage}
 use Rattle.index_contents.specs.Calls.{past_the_limit}
 use Rattle.index_contents.specs.IndexChanges.{LeavesOtherPages}
 use Rattle.index_contents.specs.PageLaws.{leaves_others}
-use Rattle.logged_pages.specs.SurvivesLaws.{survives_still}
-use Rattle.store_opening.specs.PageOrder.{kind_of}
-use Rattle.index_order.specs.OrderLaws.{order_kept}
-use Rattle.index_order.specs.OrderedCalls.{keeps_by_drop}
+use Rattle.page_store.specs.SurvivesLaws.{survives_still}
+use Rattle.index_contents.specs.PageOrder.{kind_of}
+use Rattle.index_contents.specs.OrderLaws.{order_kept}
+use Rattle.index_contents.specs.OrderedCalls.{keeps_by_drop}
 use Rattle.range_store.specs.PageTuples.{StaysWithoutTuples}
 use Rattle.range_store.proofs.Spots.{drops_at, none_changes, none_drops, none_past}
 use Rattle.range_store.proofs.dropping.drop_at.Goals as goal

@@ -1,10 +1,10 @@
 use Rattle.std.proofs.Common.{List, ℕ, ◌<◌, length, set, ap, sym, subst, ◌∙◌}
 use Rattle.std.specs.Prelude.{None, slice_index}
-use Rattle.page_store.specs.PageMap.{PageMap, page_at}
-use Rattle.index_layout.specs.IndexPages.{IsRegular}
-use Rattle.index_layout.specs.IndexReading.{is_regular, slots_of}
-use Rattle.index_layout.specs.IndexWrites.{trimmed}
-use Rattle.logged_pages.specs.SurvivesLaws.{survives_on}
+use Rattle.page_map.specs.PageMap.{PageMap, page_at}
+use Rattle.index_contents.specs.IndexPages.{IsRegular}
+use Rattle.index_contents.specs.IndexReading.{is_regular, slots_of}
+use Rattle.index_contents.specs.IndexWrites.{trimmed}
+use Rattle.page_store.specs.SurvivesLaws.{survives_on}
 use Rattle.range_store.proofs.Found.{has_tuples, slot_below}
 use Rattle.range_store.proofs.PageWrites.{drops_on}
 use Rattle.range_store.proofs.dropping.drop_on.Goals as goal

@@ -1,5 +1,5 @@
 use Rattle.std.proofs.Common.{subst, sym}
-use Rattle.index_layout.specs.IndexPages.{IsIndexPage}
+use Rattle.index_contents.specs.IndexPages.{IsIndexPage}
 use Rattle.range_store.proofs.putting.opening_of.Goals as goal
 
 pub free_slot-requires : goal.free_slot-requires

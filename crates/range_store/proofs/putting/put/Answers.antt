@@ -2,11 +2,11 @@ use Rattle.std.proofs.Common.{ℕ, length, subst, ap, ◌∙◌}
 use Rattle.store_layout.specs.DiskLayout.{DiskLayout}
 use Rattle.index_contents.specs.IndexContents.{contents, relation_of}
 use Rattle.block_model.specs.declared.place.Spot.{Spot}
-use Rattle.page_store.specs.Outcome.{NamesPage}
+use Rattle.page_map.specs.Outcome.{NamesPage}
 use Rattle.index_contents.specs.IndexChanges.{LeavesOtherPages}
 use Rattle.index_contents.specs.PageLaws.{leaves_others}
-use Rattle.index_order.specs.OrderLaws.{order_kept}
-use Rattle.index_order.specs.OrderedCalls.{keeps_by_put}
+use Rattle.index_contents.specs.OrderLaws.{order_kept}
+use Rattle.index_contents.specs.OrderedCalls.{keeps_by_put}
 use Rattle.range_store.proofs.Spots.{puts_at, takes_either, takes_on}
 use Rattle.range_store.proofs.putting.put.Goals as goal
 

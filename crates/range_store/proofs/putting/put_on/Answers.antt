@@ -1,6 +1,6 @@
 use Rattle.std.proofs.Common.{length, ap, sym, ◌∙◌}
-use Rattle.page_store.specs.PageMap.{PageMap, page_at}
-use Rattle.logged_pages.specs.SurvivesLaws.{survives_on}
+use Rattle.page_map.specs.PageMap.{PageMap, page_at}
+use Rattle.page_store.specs.SurvivesLaws.{survives_on}
 use Rattle.range_store.proofs.Onward.{closed_takes_none, new_page_is, puts_after}
 use Rattle.range_store.proofs.PageWrites.{starts_on}
 use Rattle.range_store.proofs.putting.put_on.Goals as goal

@@ -2,15 +2,15 @@ use Rattle.std.proofs.Common.{ℕ, List, ap, sym, subst, ◌∙◌, arith, ◌�
 use Rattle.store_layout.specs.DiskLayout.{DiskLayout, relation_blocks}
 use Rattle.block_model.specs.declared.schema.Sizes.{Sizes}
 use Rattle.page_layout.specs.declared.page.Form.TheVariants as forms
-use Rattle.page_store.specs.Forms.{form_of}
-use Rattle.page_store.specs.PageMap.{block_limit}
+use Rattle.page_map.specs.Forms.{form_of}
+use Rattle.page_map.specs.PageMap.{block_limit}
 use Rattle.index_contents.specs.IndexContents.{relation_of}
 use Rattle.std.proofs.lemmas.Option.{none-some}
-use Rattle.page_store.specs.Outcome.{NamesPage}
+use Rattle.page_map.specs.Outcome.{NamesPage}
 use Rattle.index_contents.specs.Calls.{past_the_limit}
 use Rattle.index_contents.specs.IndexContents.{tuple_on}
 use Rattle.index_contents.specs.Reading.{tuple_there}
-use Rattle.logged_pages.specs.SurvivesLaws.{survives_still}
+use Rattle.page_store.specs.SurvivesLaws.{survives_still}
 use Rattle.range_store.proofs.Spots.{none_past}
 use Rattle.range_store.proofs.reading.tuple_at.Goals as goal
 

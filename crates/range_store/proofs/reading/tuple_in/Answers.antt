@@ -1,5 +1,5 @@
 use Rattle.std.proofs.Common.{arith, subst, sym}
-use Rattle.index_layout.specs.IndexPages.{IsIndexPage}
+use Rattle.index_contents.specs.IndexPages.{IsIndexPage}
 use Rattle.range_store.proofs.Found.{tuple_fits}
 use Rattle.range_store.proofs.reading.tuple_in.Goals as goal
 

@@ -1,6 +1,6 @@
 use Rattle.std.proofs.Common.{ℕ, ◌+◌, ◌*◌, ◌<◌, ◌≤◌, ap, length, sym, ◌∙◌, arith}
 use Rattle.byte_fields.specs.Fields.{field_at, number_of}
-use Rattle.index_layout.specs.IndexReading.{slots_of}
+use Rattle.index_contents.specs.IndexReading.{slots_of}
 use Rattle.range_store.specs.Tuples.{size_of}
 use Rattle.range_store.proofs.Found.{directory_within, has_tuples, no_place, no_slot, place_there, shown_there}
 use Rattle.range_store.proofs.replacing.found_at.Goals as goal

@@ -1,5 +1,5 @@
 use Rattle.std.proofs.Common.{subst, sym}
-use Rattle.index_layout.specs.IndexPages.{IsIndexPage}
+use Rattle.index_contents.specs.IndexPages.{IsIndexPage}
 use Rattle.range_store.proofs.replacing.misfit_on.Goals as goal
 
 pub tuple_at-requires : goal.tuple_at-requires

@@ -1,15 +1,15 @@
 use Rattle.std.proofs.Common.{ℕ, inl, length, sym, subst, ◌∙◌, arith, ap, ◌≡◌, ◌<◌}
 use Rattle.store_layout.specs.DiskLayout.{DiskLayout, relation_blocks}
 use Rattle.block_model.specs.declared.schema.Sizes.{Sizes}
-use Rattle.page_store.specs.PageMap.{block_at, block_limit, unstarted_page}
+use Rattle.page_map.specs.PageMap.{block_at, block_limit, unstarted_page}
 use Rattle.index_contents.specs.IndexContents.{index_page, relation_of}
 use Rattle.std.proofs.lemmas.Option.{none-some}
 use Rattle.index_contents.specs.Calls.{past_the_limit}
 use Rattle.index_contents.specs.IndexChanges.{LeavesOtherPages}
 use Rattle.index_contents.specs.PageLaws.{leaves_others}
-use Rattle.logged_pages.specs.SurvivesLaws.{survives_still}
-use Rattle.index_order.specs.OrderLaws.{order_kept}
-use Rattle.index_order.specs.OrderedCalls.{keeps_by_tuples, regular_byte}
+use Rattle.page_store.specs.SurvivesLaws.{survives_still}
+use Rattle.index_contents.specs.OrderLaws.{order_kept}
+use Rattle.index_contents.specs.OrderedCalls.{keeps_by_tuples, regular_byte}
 use Rattle.range_store.specs.Tuples.{FaultNamesPlace, size_of}
 use Rattle.range_store.proofs.Found.{nothing_past}
 use Rattle.range_store.proofs.Misfits.{stands_within}

@@ -1,10 +1,10 @@
 use Rattle.std.proofs.Common.{List, ℕ, length, set, ap, sym, subst, ◌∙◌}
 use Rattle.std.specs.Prelude.{Some}
-use Rattle.page_store.specs.PageMap.{PageMap, page_at}
-use Rattle.index_layout.specs.declared.format.TheConstants.{REGULAR}
-use Rattle.index_layout.specs.IndexPages.{IsRegular}
-use Rattle.index_layout.specs.IndexReading.{slots_of}
-use Rattle.logged_pages.specs.SurvivesLaws.{survives_on}
+use Rattle.page_map.specs.PageMap.{PageMap, page_at}
+use Rattle.index_contents.specs.TheConstants.{REGULAR}
+use Rattle.index_contents.specs.IndexPages.{IsRegular}
+use Rattle.index_contents.specs.IndexReading.{slots_of}
+use Rattle.page_store.specs.SurvivesLaws.{survives_on}
 use Rattle.range_store.proofs.Fitting.{can_replace}
 use Rattle.range_store.proofs.Misfits.{misfit_names_none, misfit_told}
 use Rattle.range_store.proofs.PageWrites.{replaces_on}

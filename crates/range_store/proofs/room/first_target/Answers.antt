@@ -1,5 +1,5 @@
-use Rattle.page_store.specs.Forms.{form_of}
-use Rattle.page_store.specs.PageMap.{block_at, block_limit}
+use Rattle.page_map.specs.Forms.{form_of}
+use Rattle.page_map.specs.PageMap.{block_at, block_limit}
 use Rattle.range_store.proofs.Targets.{first_of_index}
 use Rattle.range_store.proofs.room.first_target.Goals as goal
 

@@ -1,7 +1,7 @@
 use Rattle.std.proofs.Common.{◌≡◌, ap, subst, ◌∙◌}
 use Rattle.store_layout.specs.DiskLayout.{DiskLayout}
-use Rattle.page_store.specs.Keeps.{Tells}
-use Rattle.page_store.specs.PageMap.{block_limit}
+use Rattle.page_map.specs.Keeps.{Tells}
+use Rattle.page_map.specs.PageMap.{block_limit}
 use Rattle.index_contents.specs.IndexContents.{relation_of}
 use Rattle.range_store.proofs.Targets.{no_target_at, target_at}
 use Rattle.range_store.proofs.room.room_for.Goals as goal

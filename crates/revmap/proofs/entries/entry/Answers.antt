@@ -1,12 +1,12 @@
 use Rattle.std.proofs.Common.{◌≡◌, ◌<◌, ◌≤◌, length, subst, ap, ◌∙◌, arith}
 use Rattle.block_model.specs.declared.schema.Sizes.{Sizes}
 use Rattle.store_layout.specs.DiskLayout.{DiskLayout, relation_blocks}
-use Rattle.page_store.specs.PageMap.{block_limit}
+use Rattle.page_map.specs.PageMap.{block_limit}
 use Rattle.coverage.specs.IndexView.{map_page_of}
 use Rattle.index_contents.specs.IndexContents.{relation_of}
 use Rattle.index_contents.specs.Calls.{past_the_limit}
 use Rattle.index_contents.specs.Reading.{uncounted}
-use Rattle.logged_pages.specs.SurvivesLaws.{survives_still}
+use Rattle.page_store.specs.SurvivesLaws.{survives_still}
 use Rattle.revmap.proofs.RangeEntries.{entry_past, entry_read}
 use Rattle.revmap.proofs.entries.entry.Goals as goal
 

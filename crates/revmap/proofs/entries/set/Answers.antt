@@ -1,4 +1,4 @@
-use Rattle.logged_pages.specs.SurvivesLaws.{survives_on}
+use Rattle.page_store.specs.SurvivesLaws.{survives_on}
 use Rattle.revmap.proofs.entries.set.Goals as goal
 
 pub returns-in-Ok-set_found-clause-survives : goal.returns-in-Ok-set_found-clause-survives

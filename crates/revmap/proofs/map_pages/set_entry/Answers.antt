@@ -1,4 +1,4 @@
-use Rattle.page_store.specs.PageMap.{page_at}
+use Rattle.page_map.specs.PageMap.{page_at}
 use Rattle.revmap.proofs.RangeEntries.{takes_entry}
 use Rattle.revmap.proofs.map_pages.set_entry.Goals as goal
 

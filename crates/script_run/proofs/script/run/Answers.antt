@@ -1,7 +1,7 @@
 use Rattle.std.proofs.Common.{[], Ok, subst, ap, ◌∙◌, arith}
 use Rattle.std.proofs.lemmas.Bool.{false≢true}
 use Rattle.std.proofs.lemmas.Result.{err_from_is_err_and}
-use Rattle.script_lines.specs.Reading.{Next}
+use Rattle.script_run.specs.Reading.{Next}
 use Rattle.script_run.proofs.Progress.{started, served}
 use Rattle.script_run.proofs.Endings.{ran_nothing, ran_done, ran_unread, ran_unserved}
 use Rattle.script_run.proofs.script.run.Goals as goal

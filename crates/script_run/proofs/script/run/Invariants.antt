@@ -1,5 +1,5 @@
 use Rattle.std.proofs.Common.{ℕ, List, ◌≤◌}
-use Rattle.script_lines.specs.Reading.{still}
+use Rattle.script_run.specs.Reading.{still}
 use Rattle.script_run.proofs.Progress.{SoFar}
 use Rattle.script_run.proofs.script.run.Given as goal
 

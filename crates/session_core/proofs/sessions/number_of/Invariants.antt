@@ -1,5 +1,5 @@
 use Rattle.std.proofs.Common.{◌≡◌, drop}
-use Rattle.statements.specs.SessionNumbers.{session_from}
+use Rattle.store_layout.specs.SessionNumbers.{session_from}
 use Rattle.session_core.specs.SessionLists.{names_of}
 use Rattle.session_core.proofs.sessions.number_of.Given as goal
 

@@ -1,9 +1,9 @@
 use Rattle.std.proofs.Common.{Result, sym, subst}
-use Rattle.store_parts.specs.declared.faults.Step.{Step}
-use Rattle.store_parts.specs.declared.faults.StoreFault.{StoreFault}
-use Rattle.store_parts.specs.declared.hand.Hand.{Hand}
-use Rattle.store_inserts.specs.Settling.{SettlesSo}
-use Rattle.store_starts.specs.Stops.{StopsSo}
+use Rattle.session_parts.specs.declared.faults.Step.{Step}
+use Rattle.session_parts.specs.declared.faults.StoreFault.{StoreFault}
+use Rattle.session_parts.specs.declared.hand.Hand.{Hand}
+use Rattle.session_inserts.specs.Settling.{SettlesSo}
+use Rattle.session_starts.specs.Stops.{StopsSo}
 use Rattle.session_core.proofs.Stops.{no_put}
 use Rattle.session_core.proofs.steps.step_of.Goals as goal
 

@@ -1,9 +1,9 @@
 use Rattle.std.proofs.Common.{sym, subst}
-use Rattle.store_parts.specs.declared.hand.Hand.{Hand}
-use Rattle.store_parts.specs.StepIs.{answer_of}
-use Rattle.store_parts.specs.UndoneLaws.{StepsSo}
+use Rattle.session_parts.specs.declared.hand.Hand.{Hand}
+use Rattle.session_parts.specs.StepIs.{answer_of}
+use Rattle.session_parts.specs.UndoneLaws.{StepsSo}
 use Rattle.session_core.specs.Sessions.{IsNoPut}
-use Rattle.store_starts.specs.Stops.{StopsSo}
+use Rattle.session_starts.specs.Stops.{StopsSo}
 use Rattle.session_core.proofs.Stops.{sure_behind}
 use Rattle.session_core.proofs.steps.step_on.Goals as goal
 

@@ -1,6 +1,6 @@
 use Rattle.std.proofs.Common.{subst}
-use Rattle.statements.specs.declared.statement.Statement.{Statement}
-use Rattle.statements.specs.StatementFits.{IsStatementFor}
+use Rattle.store_layout.specs.declared.statement.Statement.{Statement}
+use Rattle.store_layout.specs.StatementFits.{IsStatementFor}
 use Rattle.session_core.proofs.Declared.{index_below, table_below}
 use Rattle.session_core.proofs.submitting.hand_for.Goals as goal
 

@@ -4,11 +4,11 @@ use Rattle.std.proofs.lemmas.List.{append-nil, drop_all}
 use Rattle.std.proofs.lemmas.List.Elements.{All-push}
 use Rattle.block_model.specs.declared.schema.Index.{Index}
 use Rattle.block_model.specs.declared.schema.Schema.{Schema}
-use Rattle.brin_summarise.specs.declared.course.Standing.TheVariants as standings
-use Rattle.brin_summarise.specs.declared.wish.Wish.TheVariants as wishes
-use Rattle.brin_summarise.specs.Summarises.{IsSummariseOf, SummariseState}
+use Rattle.summarise_core.specs.declared.course.Standing.TheVariants as standings
+use Rattle.summarise_core.specs.declared.wish.Wish.TheVariants as wishes
+use Rattle.summarise_core.specs.Summarises.{IsSummariseOf, SummariseState}
 use Rattle.index_steps.specs.ShownTable.{numbers_from}
-use Rattle.brin_vacuum.proofs.Onward.{indexes_are}
+use Rattle.session_parts.proofs.Onward.{indexes_are}
 use Rattle.session_core.proofs.Summaries.{AreSoFar, so_far_more, so_far_skipped}
 use Rattle.session_core.proofs.vacuuming.summaries_of.Goals.{then-index-table+in_ok-summary+in_ok-push, else-index-table}
 use Rattle.session_core.proofs.vacuuming.summaries_of.Goals as goal

@@ -1,8 +1,8 @@
 use Rattle.std.proofs.Common.{◌≡◌, ◌++◌, drop, map}
 use Rattle.std.specs.Prelude.{All}
-use Rattle.brin_summarise.specs.declared.course.Standing.TheVariants as standings
-use Rattle.brin_summarise.specs.declared.wish.Wish.TheVariants as wishes
-use Rattle.brin_summarise.specs.Summarises.{IsSummariseOf, SummariseState}
+use Rattle.summarise_core.specs.declared.course.Standing.TheVariants as standings
+use Rattle.summarise_core.specs.declared.wish.Wish.TheVariants as wishes
+use Rattle.summarise_core.specs.Summarises.{IsSummariseOf, SummariseState}
 use Rattle.index_steps.specs.ShownTable.{numbers_from}
 use Rattle.session_core.proofs.vacuuming.summaries_of.Given as goal
 

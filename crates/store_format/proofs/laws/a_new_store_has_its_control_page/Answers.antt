@@ -1,5 +1,5 @@
 use Rattle.std.proofs.Common.{refl, sym, ◌∙◌, subst}
-use Rattle.control_page.specs.ControlPage.{HasControl}
+use Rattle.store_format.specs.ControlPage.{HasControl}
 use Rattle.store_format.proofs.laws.a_new_store_has_its_control_page.Goals as goal
 
 pub returns : goal.returns

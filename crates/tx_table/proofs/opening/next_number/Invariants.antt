@@ -1,7 +1,7 @@
 use Rattle.std.proofs.Common.{◌≡◌, ◌≤◌}
 use Rattle.std.specs.Prelude.{None}
-use Rattle.page_store.specs.Keeps.{Keeps, Tells}
-use Rattle.logged_pages.specs.Survives.{Survives}
+use Rattle.page_map.specs.Keeps.{Keeps, Tells}
+use Rattle.page_store.specs.Survives.{Survives}
 use Rattle.tx_table.specs.Durable.{IsBefore}
 use Rattle.tx_table.specs.Statuses.{number_limit}
 use Rattle.tx_table.proofs.Openings.{IsNextBelow}

@@ -1,5 +1,5 @@
 use Rattle.std.proofs.lemmas.Result.{IfErr-weaker}
-use Rattle.logged_pages.specs.Made.{IsOfDisk}
+use Rattle.page_store.specs.Made.{IsOfDisk}
 use Rattle.tx_table.specs.LeavesRest.{NamesStatuses}
 use Rattle.tx_table.proofs.Parts.{unnamed}
 use Rattle.tx_table.proofs.status_pages.flush.Goals as goal

@@ -1,7 +1,7 @@
 use Rattle.std.proofs.Common.{◌≡◌, List, take}
 use Rattle.std.specs.Prelude.{None}
 use Rattle.snapshot_core.specs.declared.statuses.Status.{Status}
-use Rattle.logged_pages.specs.Survives.{Survives}
+use Rattle.page_store.specs.Survives.{Survives}
 use Rattle.tx_table.specs.Durable.{HasPart}
 use Rattle.tx_table.specs.LeavesRest.{LeavesRest}
 use Rattle.tx_table.specs.Statuses.{HasStatuses, OfStatuses, with_all}

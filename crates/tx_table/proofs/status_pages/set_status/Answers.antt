@@ -1,7 +1,7 @@
 use Rattle.std.proofs.Common.{◌%◌, ◌<◌, refl, arith}
 use Rattle.std.proofs.lemmas.Result.{IfErr-weaker, on_ok_weaker}
-use Rattle.page_store.specs.declared.faults.StoreError.{StoreError}
-use Rattle.page_store.specs.Outcome.{NamesPage}
+use Rattle.page_map.specs.declared.faults.StoreError.{StoreError}
+use Rattle.page_map.specs.Outcome.{NamesPage}
 use Rattle.tx_table.specs.LeavesRest.{NamesStatuses}
 use Rattle.tx_table.proofs.Pages.{number_set, set_statuses}
 use Rattle.tx_table.proofs.Stores.{change_rest, names_statuses, set_fits}

@@ -1,9 +1,9 @@
 use Rattle.std.proofs.Common.{◌≡◌, ◌<◌, length, sym, ap, ◌∙◌, subst}
-use Rattle.page_store.specs.Keeps.{Tells}
-use Rattle.table_coverage.specs.Table.{TableState}
-use Rattle.line_texts.specs.Place.{Place}
-use Rattle.store_parts.specs.ShowsPlace.{ShowsPlace}
-use Rattle.store_parts.specs.StoreStates.{StoreState}
+use Rattle.page_map.specs.Keeps.{Tells}
+use Rattle.coverage.specs.Table.{TableState}
+use Rattle.script_semantics.specs.Place.{Place}
+use Rattle.session_parts.specs.ShowsPlace.{ShowsPlace}
+use Rattle.session_parts.specs.StoreStates.{StoreState}
 use Rattle.session_core.proofs.store.Store.block_count.Goals as goal
 
 pub blocks-requires : goal.blocks-requires

@@ -1,7 +1,7 @@
 use Rattle.std.proofs.Common.{length, sym, ap, ◌∙◌, arith}
-use Rattle.line_texts.specs.Names.{dropped_of}
+use Rattle.script_semantics.specs.Names.{dropped_of}
 use Rattle.store_layout.specs.DiskLayout.{DiskLayout}
-use Rattle.store_parts.specs.StoreStates.{StoreState, dropped_in}
+use Rattle.session_parts.specs.StoreStates.{StoreState, dropped_in}
 use Rattle.session_core.proofs.store.Store.dropped.Goals as goal
 
 pub of-requires : goal.of-requires

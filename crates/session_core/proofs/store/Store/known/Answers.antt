@@ -1,8 +1,8 @@
 use Rattle.std.proofs.Common.{◌≡◌, None, subst}
-use Rattle.page_store.specs.Keeps.{Tells}
-use Rattle.line_texts.specs.Place.{Place}
-use Rattle.store_parts.specs.ShowsPlace.{ShowsPlace}
-use Rattle.store_parts.specs.StoreStates.{StoreState}
+use Rattle.page_map.specs.Keeps.{Tells}
+use Rattle.script_semantics.specs.Place.{Place}
+use Rattle.session_parts.specs.ShowsPlace.{ShowsPlace}
+use Rattle.session_parts.specs.StoreStates.{StoreState}
 use Rattle.session_core.proofs.store.Store.known.Goals as goal
 
 pub returns : goal.returns

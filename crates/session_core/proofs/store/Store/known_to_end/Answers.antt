@@ -1,8 +1,8 @@
 use Rattle.std.proofs.Common.{◌<◌, ◌+◌, List, length, IfSome, subst, ap, arith}
-use Rattle.statements.specs.declared.limits.TheConstants.{MAX_SESSIONS}
+use Rattle.store_layout.specs.declared.limits.TheConstants.{MAX_SESSIONS}
 use Rattle.store_layout.specs.DiskLayout.{DiskLayout, HasBoundedSizes}
 use Rattle.store_layout.specs.FirstBrokenRule.{KeepsLimits}
-use Rattle.store_parts.specs.StoreStates.{StoreState, hand_in, store_of}
+use Rattle.session_parts.specs.StoreStates.{StoreState, hand_in, store_of}
 use Rattle.session_core.specs.declared.sessions.Session.{Session}
 use Rattle.session_core.specs.Ending.{EndsSoon, GoesWithin}
 use Rattle.session_core.specs.SessionLists.{hands_of, names_of}

@@ -1,6 +1,6 @@
 use Rattle.std.proofs.Common.{◌≡◌, ◌<◌, ◌≤◌, length, refl, ap, ◌∙◌, arith}
 use Rattle.std.proofs.lemmas.List.{length-map}
-use Rattle.store_parts.specs.StoreStates.{StoreState, store_of}
+use Rattle.session_parts.specs.StoreStates.{StoreState, store_of}
 use Rattle.session_core.specs.declared.sessions.Session.{Session}
 use Rattle.session_core.specs.SessionLists.{hands_of, names_of, spares_of}
 use Rattle.session_core.specs.Sessions.{with_name}

@@ -1,9 +1,9 @@
 use Rattle.std.proofs.Common.{◌≡◌, ◌∙◌, List, sym, subst}
-use Rattle.fresh_store.specs.FreshPages.{fresh_pages}
-use Rattle.page_store.specs.Keeps.{Tells}
-use Rattle.store_parts.specs.StoreStates.{store_of}
-use Rattle.store_starts.specs.OpenedParts.{ShowsStart}
-use Rattle.store_starts.specs.Started.{OpensTable}
+use Rattle.session_starts.specs.FreshPages.{fresh_pages}
+use Rattle.page_map.specs.Keeps.{Tells}
+use Rattle.session_parts.specs.StoreStates.{store_of}
+use Rattle.session_starts.specs.OpenedParts.{ShowsStart}
+use Rattle.session_starts.specs.Started.{OpensTable}
 use Rattle.session_core.specs.declared.sessions.Session.{Session}
 use Rattle.session_core.specs.SessionLists.{hands_of, names_of, spares_of}
 use Rattle.session_core.specs.StoreKept.{IsStoreKept}

@@ -1,8 +1,8 @@
 use Rattle.std.proofs.Common.{IfSome, IsSome, Err, sym, refl, subst, arith}
-use Rattle.page_store.specs.Keeps.{Leaves}
-use Rattle.store_parts.specs.HandFits.{FitsStore}
-use Rattle.store_parts.specs.StoreStates.{StoreState, hand_at, hand_in, store_of}
-use Rattle.store_starts.specs.Stops.{StopsSo}
+use Rattle.page_map.specs.Keeps.{Leaves}
+use Rattle.session_parts.specs.HandFits.{FitsStore}
+use Rattle.session_parts.specs.StoreStates.{StoreState, hand_at, hand_in, store_of}
+use Rattle.session_starts.specs.Stops.{StopsSo}
 use Rattle.session_core.specs.SessionLists.{hands_of, names_of, spares_of}
 use Rattle.session_core.proofs.Reopening.{fits_here, stops_reopened, stops_whole}
 use Rattle.session_core.proofs.store.Store.step.Goals as goal

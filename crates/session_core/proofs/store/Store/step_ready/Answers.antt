@@ -1,14 +1,14 @@
 use Rattle.std.proofs.Common.{set, Option, IfSome, IsSome, Result, refl, sym, ap, subst, ◌∙◌, arith}
 use Rattle.brin_insert.specs.declared.insert.Insert.{Insert}
 use Rattle.brin_insert.specs.Inserts.{IsInsertFor}
-use Rattle.store_parts.specs.declared.faults.Step.{Step}
-use Rattle.store_parts.specs.declared.faults.StoreFault.{StoreFault}
-use Rattle.store_parts.specs.declared.hand.Hand.{Hand}
-use Rattle.store_parts.specs.StepIs.{answer_of, hand_after}
-use Rattle.store_parts.specs.StoreStates.{StoreState, hand_at, hand_in, store_of, with_hand}
+use Rattle.session_parts.specs.declared.faults.Step.{Step}
+use Rattle.session_parts.specs.declared.faults.StoreFault.{StoreFault}
+use Rattle.session_parts.specs.declared.hand.Hand.{Hand}
+use Rattle.session_parts.specs.StepIs.{answer_of, hand_after}
+use Rattle.session_parts.specs.StoreStates.{StoreState, hand_at, hand_in, store_of, with_hand}
 use Rattle.session_core.specs.declared.sessions.Session.{Session}
 use Rattle.session_core.specs.SessionLists.{hands_of, names_of, spares_of}
-use Rattle.store_starts.specs.Stops.{StopsSo}
+use Rattle.session_starts.specs.Stops.{StopsSo}
 use Rattle.session_core.proofs.Kept.{few_each, kept_as, none_beyond, session_below}
 use Rattle.session_core.proofs.Lists.{hand_here, hands_changed, in_list, names_kept, spare_here, spares_changed}
 use Rattle.session_core.proofs.Stepping.{is_step, kept_behind, step_as}

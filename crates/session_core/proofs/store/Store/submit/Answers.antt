@@ -1,10 +1,10 @@
 use Rattle.std.proofs.Common.{◌≡◌, ◌<◌, length, Option, None, Some, IsSome, refl, sym, ap, subst, ◌∙◌, arith}
 use Rattle.block_model.specs.declared.reply.Refusal.TheVariants as refusals
-use Rattle.line_texts.specs.LineTexts.{Submits}
-use Rattle.store_parts.specs.declared.hand.Hand.{Hand}
-use Rattle.store_parts.specs.declared.parts.Parts.{Parts}
-use Rattle.store_parts.specs.StepIs.{LeadsOn}
-use Rattle.store_parts.specs.StoreStates.{StoreState, store_of, with_hand}
+use Rattle.script_semantics.specs.LineTexts.{Submits}
+use Rattle.session_parts.specs.declared.hand.Hand.{Hand}
+use Rattle.session_parts.specs.declared.parts.Parts.{Parts}
+use Rattle.session_parts.specs.StepIs.{LeadsOn}
+use Rattle.session_parts.specs.StoreStates.{StoreState, store_of, with_hand}
 use Rattle.session_core.specs.SessionLists.{hands_of, names_of, spares_of}
 use Rattle.session_core.specs.Submitting.{IsTakenUp, refusal_here}
 use Rattle.session_core.proofs.Kept.{kept_as}

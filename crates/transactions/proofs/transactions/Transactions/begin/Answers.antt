@@ -1,8 +1,8 @@
 use Rattle.std.proofs.Common.{◌≡◌, ◌+◌, ◌<◌, ℕ, false, set, Some, ap, subst, ◌∙◌}
 use Rattle.block_model.specs.declared.request.Request.TheVariants as requests
 use Rattle.block_model.specs.RequestEffect as model
-use Rattle.statements.specs.StatementRequests.{request_entry}
-use Rattle.row_versions.specs.SessionChanges.{numbers_of}
+use Rattle.store_layout.specs.StatementRequests.{request_entry}
+use Rattle.snapshot_core.specs.SessionChanges.{numbers_of}
 use Rattle.snapshot_core.specs.declared.statuses.Status.TheVariants.{Begun}
 use Rattle.tx_table.specs.Statuses.{HasStatuses, OfStatuses, number_limit}
 use Rattle.tx_table.specs.TxState.{TxState}

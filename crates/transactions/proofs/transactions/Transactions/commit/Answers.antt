@@ -1,6 +1,6 @@
 use Rattle.std.proofs.Common.{Option, List, sym, ap, ◌∙◌}
-use Rattle.row_versions.specs.declared.sessions.Open.{Open}
-use Rattle.row_versions.specs.StoredVersions.{transaction_of}
+use Rattle.snapshot_core.specs.declared.sessions.Open.{Open}
+use Rattle.snapshot_core.specs.StoredVersions.{transaction_of}
 use Rattle.snapshot_core.specs.declared.statuses.Status.TheVariants.{Committed}
 use Rattle.transactions.specs.Sessions.{committed_by}
 use Rattle.transactions.specs.TransactionsState.{TransactionsState}

@@ -1,9 +1,9 @@
 use Rattle.std.proofs.Common.{◌≡◌, Option, None, Some, List, sym, ap, subst, ◌∙◌}
 use Rattle.block_model.specs.declared.request.Request.TheVariants as requests
 use Rattle.block_model.specs.RequestEffect as model
-use Rattle.statements.specs.StatementRequests.{request_entry}
-use Rattle.row_versions.specs.declared.sessions.Open.{Open}
-use Rattle.row_versions.specs.StoredVersions.{transaction_of}
+use Rattle.store_layout.specs.StatementRequests.{request_entry}
+use Rattle.snapshot_core.specs.declared.sessions.Open.{Open}
+use Rattle.snapshot_core.specs.StoredVersions.{transaction_of}
 use Rattle.transactions.specs.ShowsDatabase.{DoesRequest, OfDatabase}
 use Rattle.transactions.specs.TransactionsState.{AreOpen, TransactionsState, with_open}
 use Rattle.transactions.proofs.Calls.{begun_on_pages, does_shows, commit_does, still_open}

@@ -1,7 +1,7 @@
 use Rattle.std.proofs.Common.{refl, subst, sym}
 use Rattle.std.specs.Option.{IsSome}
-use Rattle.row_versions.specs.SessionChanges.{failed_open}
-use Rattle.row_versions.specs.StoredVersions.{transaction_of}
+use Rattle.snapshot_core.specs.SessionChanges.{failed_open}
+use Rattle.snapshot_core.specs.StoredVersions.{transaction_of}
 use Rattle.transactions.specs.TransactionsState.{TransactionsState}
 use Rattle.transactions.proofs.Calls.{changed_open}
 use Rattle.transactions.proofs.transactions.Transactions.fail.Goals as goal

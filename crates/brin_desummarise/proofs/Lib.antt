@@ -1,9 +1,0 @@
-pub mod Stepped
-pub mod Locking
-pub mod Faults
-pub mod Shown
-pub mod Settling
-pub mod Tables
-pub mod InTable
-pub mod Calls
-pub mod KeptTable

@@ -1,6 +1,0 @@
-use Rattle.brin_desummarise.proofs.Calls.{calls_end}
-use Rattle.brin_desummarise.proofs.law_table.a_desummarise_ends_alone.Goals as goal
-
-pub returns : goal.returns
-returns c = λ s calls only at range shown phase u run task kept.
-    calls_end c.table_stays_covered.ensures.kept s c.statements_end.ensures.desummarises calls only at range shown phase u run task kept

@@ -1,3 +1,0 @@
-pub mod Desummarises
-pub mod TableSteps
-pub mod DesummariseCalls

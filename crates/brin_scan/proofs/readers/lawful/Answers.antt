@@ -1,5 +1,0 @@
-use Rattle.brin_scan.proofs.Lawful.{lawful_indexes}
-use Rattle.brin_scan.proofs.readers.lawful.Goals as goal
-
-pub returns : goal.returns
-returns c = lawful_indexes c.args.layout.now.schema c.args.layout.now.sizes c.known.ensures.limits

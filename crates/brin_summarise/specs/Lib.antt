@@ -1,3 +1,0 @@
-pub mod Summarises
-pub mod TableSteps
-pub mod SummariseCalls

@@ -1,5 +1,0 @@
-use Rattle.brin_vacuum.proofs.Naming.{order_by_table}
-use Rattle.brin_vacuum.proofs.vacuum.Vacuum.step.Goals as goal
-
-pub returns-in-Prunes-clause-order : goal.returns-in-Prunes-clause-order
-returns-in-Prunes-clause-order g c = λ index low. order_by_table g.D.Disk.told c.args.self.now.table c.args.pages.now c.prune_block.new.pages c.prune_block.ensures.others c.requires.of.table index

@@ -1,0 +1,12 @@
+pub mod CommandWords
+pub mod ReadingOrder
+pub mod ClapReading
+pub mod ClapRules
+pub mod ClapCommands
+pub mod Laws
+pub mod DeclarationTexts
+pub mod DeclaredSchema
+pub mod FirstFault
+pub mod DeclarationLaws
+pub mod DeclarationReading
+pub mod Words

@@ -1,5 +1,0 @@
-use Rattle.command_words.proofs.SpeltLaws.{demos_have_limits}
-use Rattle.command_words.proofs.laws.demos_have_limits.Goals as goal
-
-pub returns : goal.returns
-returns c = demos_have_limits

@@ -1,5 +1,0 @@
-use Rattle.command_words.proofs.SpeltLaws.{order_says_nothing}
-use Rattle.command_words.proofs.laws.order_says_nothing.Goals as goal
-
-pub returns : goal.returns
-returns c = order_says_nothing

@@ -1,5 +1,0 @@
-use Rattle.command_words.proofs.SpeltLaws.{init_defaults, run_defaults}
-use Rattle.command_words.proofs.laws.sizes_have_defaults.Goals as goal
-
-pub returns : goal.returns
-returns c = (init_defaults, run_defaults)

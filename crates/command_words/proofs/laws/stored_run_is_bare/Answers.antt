@@ -1,5 +1,0 @@
-use Rattle.command_words.proofs.SpeltLaws.{stored_run_is_bare}
-use Rattle.command_words.proofs.laws.stored_run_is_bare.Goals as goal
-
-pub returns : goal.returns
-returns c = stored_run_is_bare

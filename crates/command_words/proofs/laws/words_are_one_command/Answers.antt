@@ -1,5 +1,0 @@
-use Rattle.command_words.proofs.SpeltLaws.{words_are_one_command}
-use Rattle.command_words.proofs.laws.words_are_one_command.Goals as goal
-
-pub returns : goal.returns
-returns c = words_are_one_command

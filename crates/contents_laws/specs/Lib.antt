@@ -1,2 +1,0 @@
-pub mod LawfulShapes
-pub mod ExactTuples

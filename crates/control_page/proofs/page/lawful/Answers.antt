@@ -1,5 +1,0 @@
-use Rattle.control_page.proofs.Layouts.{breaks_limits}
-use Rattle.control_page.proofs.page.lawful.Goals as goal
-
-pub returns-in-Err : goal.returns-in-Err
-returns-in-Err c = breaks_limits c.args.schema c.args.sizes c.in-Err.field-0.rule c.the_first_broken_rule_is_the_least.ensures c.in-Err.ensures.passed

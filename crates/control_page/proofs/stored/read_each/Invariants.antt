@@ -1,6 +1,0 @@
-use Rattle.std.proofs.Common.{◌≡◌, ◌-◌, []}
-use Rattle.control_page.specs.ControlReading.{list_from}
-use Rattle.control_page.proofs.stored.read_each.Given as goal
-
-abbrev pub invariant-items : goal.invariant-items
-invariant-items g l = list_from g.T.Stored.read_of [] l.count l.initial.unread ≡ list_from g.T.Stored.read_of l.items (l.count - l.counter) l.unread

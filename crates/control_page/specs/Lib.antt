@@ -1,4 +1,0 @@
-pub mod ControlPage
-pub mod ControlBytes
-pub mod ControlReading
-pub mod ShortSchema

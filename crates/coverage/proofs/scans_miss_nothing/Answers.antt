@@ -1,5 +1,0 @@
-use Rattle.coverage.proofs.Opening.{scan_finds, scan_excludes}
-use Rattle.coverage.proofs.scans_miss_nothing.Goals as goal
-
-pub returns : goal.returns
-returns c = record { found = scan_finds; excluded = scan_excludes }

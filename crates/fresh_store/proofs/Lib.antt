@@ -1,4 +1,0 @@
-pub mod FreshPlaces
-pub mod FreshOrder
-pub mod FreshForms
-pub mod FreshOpens

@@ -1,5 +1,0 @@
-use Rattle.index_order.specs.OrderLaws.{order_of_index}
-use Rattle.index_order.proofs.laws.a_store_in_order_has_its_indexes_in_order.Goals as goal
-
-pub returns : goal.returns
-returns c = order_of_index

@@ -1,3 +1,0 @@
-pub mod KeepsOrder
-pub mod OrderLaws
-pub mod OrderedCalls

@@ -1,0 +1,17 @@
+use Rattle.std.proofs.Common.{◌≡◌, ap, subst, ◌∙◌}
+use Rattle.store_layout.specs.DiskLayout.{DiskLayout}
+use Rattle.page_layout.specs.declared.page.Form.TheVariants as forms
+use Rattle.page_map.specs.Forms.{form_of}
+use Rattle.index_contents.specs.IndexContents.{relation_of}
+use Rattle.index_steps.proofs.Behind.{first_there}
+use Rattle.index_steps.proofs.tuples.first_tuple.Goals as goal
+
+pub first_on-requires-clause-page : goal.first_on-requires-clause-page
+first_on-requires-clause-page g c =
+    c.index_pages_are_known.ensures c.args.pages.now.layout c.relation_of-relation.result c.in-Ok.page.now (subst (λ (l : DiskLayout). form_of l c.relation_of-relation.result ≡ forms.Index) c.layout.ensures c.relation_of-relation.ensures.form) c.in-Ok.ensures.form
+
+pub returns-in-Ok-clause-first : goal.returns-in-Ok-clause-first
+returns-in-Ok-clause-first g c = λ tells.
+    let store = c.args.pages.now in
+    first_there store.layout store.pages c.args.index c.relation_of-relation.result c.args.block c.in-Ok.page.now c.first_on.new.out c.first_on.result (c.relation_of-relation.ensures.number ∙ ap (λ (l : DiskLayout). relation_of l c.args.index) c.layout.ensures)
+    (c.in-Ok.ensures.page tells) c.first_on.ensures.first

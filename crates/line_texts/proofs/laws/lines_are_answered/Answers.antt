@@ -1,9 +1,0 @@
-use Rattle.line_texts.proofs.Bare.{answered}
-use Rattle.line_texts.proofs.Empty.{empty_summarized}
-use Rattle.line_texts.proofs.laws.lines_are_answered.Goals as goal
-
-pub returns-clause-insert : goal.returns-clause-insert
-returns-clause-insert c = answered
-
-pub returns-clause-summarize : goal.returns-clause-summarize
-returns-clause-summarize c = empty_summarized

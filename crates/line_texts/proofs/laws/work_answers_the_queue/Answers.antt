@@ -1,8 +1,0 @@
-use Rattle.line_texts.proofs.Working.{none_where_empty, work_takes_the_first}
-use Rattle.line_texts.proofs.laws.work_answers_the_queue.Goals as goal
-
-pub returns-clause-none : goal.returns-clause-none
-returns-clause-none c = none_where_empty
-
-pub returns-clause-first : goal.returns-clause-first
-returns-clause-first c = work_takes_the_first

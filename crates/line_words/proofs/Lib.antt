@@ -1,3 +1,0 @@
-pub mod PlacedWords
-pub mod ValueLemmas
-pub mod CappedNumbers

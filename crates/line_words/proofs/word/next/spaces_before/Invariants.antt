@@ -1,6 +1,0 @@
-use Rattle.std.proofs.Common.{◌≡◌, ◌+◌, ℕ, [], drop}
-use Rattle.line_words.specs.Words.{words_from}
-use Rattle.line_words.proofs.word.next.spaces_before.Given as goal
-
-abbrev pub invariant-bytes : goal.invariant-bytes
-invariant-bytes l = (at : ℕ) → words_from (at + l.i) [] (drop l.i l.bytes) ≡ words_from at [] l.bytes

@@ -1,6 +1,0 @@
-use Rattle.std.proofs.Common.{◌≡◌, drop}
-use Rattle.line_words.specs.Written.{first_written}
-use Rattle.line_words.proofs.written.first_written.Given as goal
-
-abbrev pub invariant-all : goal.invariant-all
-invariant-all g l = first_written g.W.Written.text (drop l.one-index l.all) l.word ≡ first_written g.W.Written.text l.all l.word

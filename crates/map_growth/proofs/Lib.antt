@@ -1,9 +1,0 @@
-pub mod Arms
-pub mod Onward
-pub mod Refusals
-pub mod Growing
-pub mod Stepped
-pub mod Kept
-pub mod Standing
-pub mod Unnamed
-pub mod Found

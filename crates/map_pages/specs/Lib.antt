@@ -1,3 +1,0 @@
-pub mod NextPages
-pub mod MapChanges
-pub mod FirstTuples

@@ -1,0 +1,11 @@
+pub mod Lookups
+pub mod Filling
+pub mod PageKinds
+pub mod FactsKept
+pub mod Soughts
+pub mod TupleRooms
+pub mod FactLists
+pub mod Rooms
+pub mod Relations
+pub mod Maps
+pub mod HeapForms

@@ -1,0 +1,15 @@
+pub mod PageMap
+pub mod Forms
+pub mod Changed
+pub mod Keeps
+pub mod Outcome
+pub mod Started
+pub mod FirstRoom
+pub mod PageRoom
+pub mod Filled
+pub mod PageFacts
+pub mod Lowest
+pub mod TupleRoom
+pub mod FactLists
+pub use Rattle.page_redo.specs.Redo
+pub use Rattle.page_redo.specs.declared.redoing.Misfit

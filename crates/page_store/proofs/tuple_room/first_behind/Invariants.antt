@@ -1,8 +1,0 @@
-use Rattle.std.proofs.Common.{◌≡◌, ℕ, ◌*◌, ◌<◌, false}
-use Rattle.page_store.specs.PageFacts.{facts_in}
-use Rattle.page_store.specs.TupleRoom.{takes_bytes}
-use Rattle.page_store.specs.declared.tuple_room.TheConstants.{GROUP}
-use Rattle.page_store.proofs.tuple_room.first_behind.Given as goal
-
-abbrev pub invariant-groups : goal.invariant-groups
-invariant-groups l = (k : ℕ) → l.past < k → k < l.group * GROUP → takes_bytes l.need (facts_in l.facts k) ≡ false

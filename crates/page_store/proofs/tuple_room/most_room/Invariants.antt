@@ -1,6 +1,0 @@
-use Rattle.std.proofs.Common.{ℕ, ◌<◌, ◌≤◌}
-use Rattle.page_store.specs.PageFacts.{facts_in}
-use Rattle.page_store.proofs.tuple_room.most_room.Given as goal
-
-abbrev pub invariant-pages : goal.invariant-pages
-invariant-pages l = (k : ℕ) → l.start ≤ k → k < l.n → (facts_in l.facts k).room ≤ l.most

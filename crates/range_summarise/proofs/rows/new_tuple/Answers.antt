@@ -1,5 +1,0 @@
-use Rattle.range_summarise.proofs.Declared.{parts_new}
-use Rattle.range_summarise.proofs.rows.new_tuple.Goals as goal
-
-pub returns-in-Ok : goal.returns-in-Ok
-returns-in-Ok c = parts_new c.args.layout.now c.args.index c.schema-schema.result.now c.declared_index-declared.result.now c.in-Ok.tuple c.schema-schema.ensures c.declared_index-declared.ensures.is c.in-Ok.ensures.placeholder

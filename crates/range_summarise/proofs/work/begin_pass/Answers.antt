@@ -1,9 +1,0 @@
-use Rattle.range_summarise.specs.declared.stage.Stage.TheVariants as stages
-use Rattle.range_summarise.specs.Works.{hand_of}
-use Rattle.range_summarise.proofs.work.begin_pass.Goals as goal
-
-pub returns-in-Ok-clause-stepped : goal.returns-in-Ok-clause-stepped
-returns-in-Ok-clause-stepped g c = λ tells blocks has locks. c.in-Ok.ensures.stepped tells blocks has locks (hand_of stages.Extent c.args.work.now)
-
-pub returns-in-Ok-clause-exact : goal.returns-in-Ok-clause-exact
-returns-in-Ok-clause-exact g c = λ tells blocks has before. c.in-Ok.ensures.exact tells blocks has

@@ -1,4 +1,0 @@
-pub mod Answered
-pub mod Words
-pub mod Finds
-pub mod Laws

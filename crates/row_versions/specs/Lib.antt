@@ -1,6 +1,0 @@
-pub mod VersionsState
-pub mod VisibleState
-pub mod StoredVersions
-pub mod Marks
-pub mod SessionChanges
-pub mod OldestOpen

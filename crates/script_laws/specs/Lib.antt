@@ -1,0 +1,6 @@
+pub mod TextLaws
+pub mod Reached
+pub mod Answered
+pub mod Words
+pub mod Finds
+pub mod RowLaws

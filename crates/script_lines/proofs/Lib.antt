@@ -1,6 +1,0 @@
-pub mod Splitting
-pub mod Steps
-pub mod Feeds
-pub mod Fronts
-pub mod Pieces
-pub mod Hands

@@ -1,9 +1,0 @@
-use Rattle.std.proofs.Common.{◌≡◌, drop, map}
-use Rattle.std.specs.Ordering.{nat_cmp}
-use Rattle.std.specs.FinMap.{find}
-use Rattle.serial_model.specs.declared.sessions.Session.{Session}
-use Rattle.serial_model.proofs.sessions.find_transaction.Given as goal
-
-abbrev pub invariant-sessions : goal.invariant-sessions
-invariant-sessions l = find nat_cmp l.number (map (λ (s : Session). (s.number, s.transaction)) l.sessions)
-    ≡ find nat_cmp l.number (map (λ (s : Session). (s.number, s.transaction)) (drop l.session-index l.sessions))

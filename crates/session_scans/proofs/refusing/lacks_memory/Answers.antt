@@ -1,0 +1,32 @@
+use Rattle.std.proofs.Common.{◌+◌, ◌<◌, ◌≤◌, length, sym, ap, ◌∙◌, arith}
+use Rattle.std.proofs.lemmas.Bool.{false≢true}
+use Rattle.store_layout.specs.declared.limits.TheConstants.{MAX_ENTRIES}
+use Rattle.session_parts.specs.declared.faults.StoreFault.{StoreFault}
+use Rattle.session_parts.specs.declared.hand.Stepped.TheVariants as stepped
+use Rattle.session_scans.specs.Looks.{hand_before}
+use Rattle.session_scans.specs.ScanSteps.{parts_before}
+use Rattle.session_scans.proofs.Behind.{refused_entered}
+use Rattle.session_scans.proofs.Short.{short_refused, short_spent}
+use Rattle.session_scans.proofs.Words.{promised_is, scan_share, share_is}
+use Rattle.session_scans.proofs.refusing.lacks_memory.Goals as goal
+
+pub returns-then-not-fits-clause-so : goal.returns-then-not-fits-clause-so
+returns-then-not-fits-clause-so g c =
+    let parts = c.args.parts.now in
+    let scan = c.args.scan in
+    let may = c.requires.may in
+    let within-not = λ (within : length parts.journal.entries + 1 ≤ MAX_ENTRIES). false≢true (sym c.if-not-fits.true ∙ c.fits.ensures.1 within) in
+    let full : MAX_ENTRIES < length parts.journal.entries + 1 = omega (arith, within-not) in
+    short_spent g.D.Disk.told c.laws_of_looks.ensures (parts_before scan.judging.stage parts) c.args.session c.args.looking scan may.fit may.find may.fresh c.requires.ready full c.undone.new.parts c.undone.result
+    (c.undone.ensures.answer ∙ ap (λ (f : StoreFault). stepped.Undone f (hand_before c.args.looking scan scan.judging.stage)) c.spent-fault.ensures) c.undone.ensures.parts
+
+pub returns-clause-so : goal.returns-clause-so
+returns-clause-so g c =
+    let parts = c.args.parts.now in
+    let scan = c.args.scan in
+    let may = c.requires.may in
+    short_refused g.D.Disk.told c.laws_of_looks.ensures (parts_before scan.judging.stage parts) c.args.session c.args.looking scan may.fit may.find may.fresh c.requires.ready c.refuse_look.new.parts c.refuse_look.result
+    c.refuse_look.ensures.answer c.refuse_look.ensures.failed
+    (refused_entered parts.journal.entries c.release.new.self.entries c.refuse_look.new.parts.journal.entries c.args.session scan.judging.query c.into_query.result c.release.ensures.entries c.into_query.ensures c.refuse_look.ensures.entries)
+    c.refuse_look.ensures.rest (c.fits.ensures.0 c.if-not-fits.false) (scan_share scan.judging.stage) parts.journal.promised (share_is c.args.looking scan scan.judging.stage)
+    (promised_is scan.judging.stage parts.journal.promised may.promised) (omega (arith, c.refuse_look.ensures.promised, c.release.ensures.promised))

@@ -1,0 +1,152 @@
+//! What comes of the last step of a scan.
+
+ghost use Rattle.std.specs.Prelude.{◌≡◌, ◌+◌, ◌<◌, ◌≤◌, IfOk, IsSome, OnErr, length};
+ghost use Rattle.block_model.specs.declared.reply.Point.{Point as AnyPoint};
+ghost use Rattle.snapshot_core.specs.StoredVersions.{transaction_of};
+ghost use Rattle.store_layout.specs.declared.limits.TheConstants.{MAX_ENTRIES};
+ghost use Rattle.session_scans.specs.FoundLists.{ListsHits, ListsRows};
+ghost use Rattle.session_scans.specs.Finishes.{EntersLook, Finishes, Releases};
+ghost use Rattle.session_scans.specs.Looks.{first_hand_of};
+
+use crate::lists::{copy_of, hits_of, rows_of, sort_by_id};
+use crate::looking::{Looking, first_hand};
+use crate::refusing::refuse_look;
+use bitmap_scan::Scan;
+use block_model::{NoMemory, Point, Query, Reply, Request, Row, Rows, Spot, Tag};
+use disk_trait::Disk;
+use session_parts::{Hand, Hit, Marking, Parts, Stepped, StoreFault, spent};
+use std::alloc::Global;
+
+/// The scan has made its last step, at this point: a select tells the rows that it found, and a delete goes on to mark them. Only where the disk
+/// doesn't tell its contents can the last step come at a full journal: it was looked for ahead. The statement begins anew there.
+pub(crate) fn finish<D: Disk + Drop>(
+    parts: &mut Parts<D>,
+    session: u32,
+    scan: Scan,
+    point: Point,
+    looking: Looking,
+) -> Stepped
+    requires promised { 2 ≤ parts.old.journal.promised }
+    requires open { IsSome (transaction_of parts.old.transactions.opens session) }
+    ensures { Finishes parts.old session looking scan.judging.query scan.found point result parts.new }
+{
+    let (query, found) = scan.into_parts();
+    if !parts.journal.fits(1) {
+        return begin_anew(parts, query, looking);
+    }
+    match looking {
+        Looking::Select => tell_rows(parts, session, query, found),
+        Looking::Delete => mark_rows(parts, session, query, found, point),
+    }
+}
+
+/// The statement is before its first step again, and what the journal promised to its scan isn't needed.
+fn begin_anew<D: Disk + Drop>(parts: &mut Parts<D>, query: Query, looking: Looking) -> Stepped
+    requires promised { 0 < parts.old.journal.promised }
+    ensures answer { result ≡ Stepped.Undone (StoreFault.Spent (length parts.old.journal.entries)) (first_hand_of looking query) }
+    ensures released { Releases parts.old parts.new }
+{
+    parts.journal.release(1);
+    Stepped::Undone {
+        fault: spent(&parts.journal),
+        hand: first_hand(looking, query),
+    }
+}
+
+/// The look is entered, and the rows are told in order of their ids; unless memory is short for that.
+fn tell_rows<D: Disk + Drop>(
+    parts: &mut Parts<D>,
+    session: u32,
+    query: Query,
+    found: Vec<(Row, Spot)>,
+) -> Stepped
+    requires promised { 2 ≤ parts.old.journal.promised }
+    requires open { IsSome (transaction_of parts.old.transactions.opens session) }
+    requires room { length parts.old.journal.entries + 1 ≤ MAX_ENTRIES }
+    ensures { (point : AnyPoint) → Finishes parts.old session Looking.Select query found.items point result parts.new }
+{
+    match rows_in_order(parts.alloc, found) {
+        Ok(rows) => {
+            enter_look(parts, session, query);
+            Stepped::Done(Reply::Found(rows))
+        }
+        Err(_) => {
+            parts.journal.release(1);
+            refuse_look(parts, session, query)
+        }
+    }
+}
+
+/// The delete goes on to its marks, in order of the ids; unless memory is short for that, or nothing was found.
+fn mark_rows<D: Disk + Drop>(
+    parts: &mut Parts<D>,
+    session: u32,
+    query: Query,
+    found: Vec<(Row, Spot)>,
+    point: Point,
+) -> Stepped
+    requires promised { 2 ≤ parts.old.journal.promised }
+    requires open { IsSome (transaction_of parts.old.transactions.opens session) }
+    requires room { length parts.old.journal.entries + 1 ≤ MAX_ENTRIES }
+    ensures { Finishes parts.old session Looking.Delete query found.items point result parts.new }
+{
+    if found.is_empty() {
+        enter_look(parts, session, query);
+        return Stepped::Done(Reply::Deleted { count: 0 });
+    }
+    match hits_for(parts, &query, found) {
+        Ok((look, hits)) => Stepped::Moved {
+            point,
+            hand: Hand::Marks(Marking {
+                query,
+                look: Some(look),
+                hits,
+                next: 0,
+            }),
+        },
+        Err(_) => {
+            parts.journal.release(1);
+            refuse_look(parts, session, query)
+        }
+    }
+}
+
+/// The look is entered. Takes no memory.
+fn enter_look<D: Disk + Drop>(parts: &mut Parts<D>, session: u32, query: Query)
+    requires promised { 0 < parts.old.journal.promised }
+    ensures { EntersLook parts.old parts.new session query }
+{
+    let table = query.table;
+    parts
+        .journal
+        .enter(session, table, Request::Look(query), Tag::Ok);
+}
+
+/// The rows that were found, in order of their ids.
+fn rows_in_order(alloc: Global, mut found: Vec<(Row, Spot)>) -> Result<Rows, NoMemory>
+    ensures { IfOk result (ListsRows found.items) }
+{
+    sort_by_id(&mut found);
+    rows_of(alloc, found.as_slice())
+}
+
+/// A copy of the query, and what was found, in order of the ids, with an entry of the journal promised for each. After a refusal the parts are
+/// as they were.
+fn hits_for<D: Disk + Drop>(
+    parts: &mut Parts<D>,
+    query: &Query,
+    mut found: Vec<(Row, Spot)>,
+) -> Result<(Query, Vec<Hit>), NoMemory>
+    ensures look { IfOk result (λ made. made.0 ≡ query.now) }
+    ensures hits { IfOk result (λ made. ListsHits found.items made.1.items) }
+    ensures entries { parts.new.journal.entries ≡ parts.old.journal.entries }
+    ensures promised { IfOk result (λ made. parts.new.journal.promised ≡ parts.old.journal.promised + length made.1.items) }
+    ensures same { OnErr result (parts.new.journal.promised ≡ parts.old.journal.promised) }
+    ensures rest { parts.new ≡ record parts.old { journal = parts.new.journal } }
+{
+    sort_by_id(&mut found);
+    let hits = hits_of(parts.alloc, found.as_slice())?;
+    let look = copy_of(parts.alloc, query)?;
+    parts.journal.promise(hits.len())?;
+    Ok((look, hits))
+}

@@ -1,0 +1,8 @@
+pub mod StoreImage
+pub mod Stops
+pub mod ImageLaws
+pub mod StopRule
+pub mod OpenedParts
+pub mod Started
+pub mod FreshPages
+pub mod NewTables

@@ -1,0 +1,297 @@
+-- The end of a transaction as a step of its session.
+use Rattle.std.proofs.Common.{◌≡◌, ◌≢◌, inl, ℕ, zero, suc, ◌+◌, ◌≤◌, Bool, true, false, not, ◌&&◌, List, [], ◌∷◌, ◌++◌, length, length-append, set, Option, None, Some, refl, sym, ap, ◌∙◌, subst, arith}
+use Rattle.std.specs.Prelude.{IsSome, IsTrue, if◌then◌else◌}
+use Rattle.std.proofs.lemmas.List.{get_or-set_other}
+use Rattle.std.proofs.lemmas.Bool.{true≢false}
+use Rattle.std.proofs.lemmas.Option.{none-some}
+use Rattle.block_model.specs.declared.reply.Reply.{Reply}
+use Rattle.block_model.specs.declared.reply.Reply.TheVariants as replies
+use Rattle.block_model.specs.declared.request.Entry.{Entry}
+use Rattle.block_model.specs.declared.request.Request.TheVariants as requests
+use Rattle.block_model.specs.DatabaseState.{DatabaseState}
+use Rattle.block_model.specs.RequestEffect.{Answer, Committed, IsLegalRequest, RolledBack}
+use Rattle.disk_trait.specs.Told.{Told}
+use Rattle.store_layout.specs.DiskLayout.{DiskLayout}
+use Rattle.page_map.specs.Keeps.{Tells}
+use Rattle.page_map.specs.PageMap.{View}
+use Rattle.tx_table.specs.TxState.{IsOver}
+use Rattle.snapshot_core.specs.SessionChanges.{ended}
+use Rattle.snapshot_core.specs.declared.statuses.Status.TheVariants as status
+use Rattle.session_parts.specs.JournalState.{JournalState}
+use Rattle.session_parts.specs.Stepping.{IsFit}
+use Rattle.session_parts.proofs.Requests.{end_is_legal}
+use Rattle.snapshot_core.specs.declared.statuses.Status.{Status}
+use Rattle.snapshot_core.specs.Visibility.{is_committed}
+use Rattle.store_layout.specs.declared.limits.TheConstants.{MAX_ENTRIES}
+use Rattle.store_layout.specs.StatementRequests.{request_entry}
+use Rattle.snapshot_core.specs.declared.sessions.Open.{Open}
+use Rattle.snapshot_core.specs.StoredVersions.{transaction_of}
+use Rattle.tx_table.specs.LeavesRest.{LeavesRest}
+use Rattle.tx_table.specs.Statuses.{HasStatuses, OfStatuses}
+use Rattle.transactions.specs.CountedRows.{counts as counts_of}
+use Rattle.transactions.specs.Laws.{CommitCounts, EndIsUnseen, RollbackCounts, SessionsAreShown}
+use Rattle.transactions.specs.ShowsDatabase.{DoesRequest, OfDatabase, ShowsDatabase}
+use Rattle.transactions.specs.TransactionsState.{OfOpen, TransactionsState, with_open}
+use Rattle.session_parts.specs.Finds.{stands_by}
+use Rattle.script_semantics.specs.Place.{Place, database_at}
+use Rattle.script_semantics.specs.StatementSteps as steps
+use Rattle.script_semantics.specs.StatementSteps.{Ended, IsAtOnce, LacksRoom}
+use Rattle.session_parts.specs.FrontsStand.{FrontsStand}
+use Rattle.session_parts.specs.FrontLaws.{GoesOn, IsEnding}
+use Rattle.session_parts.proofs.Ending.{end_stands}
+use Rattle.session_parts.specs.declared.hand.Hand.{Hand}
+use Rattle.session_parts.specs.declared.hand.Hand.TheVariants as hands
+use Rattle.session_parts.specs.declared.hand.Stepped.TheVariants as stepped
+use Rattle.session_parts.specs.declared.parts.Parts.{Parts}
+use Rattle.session_parts.specs.HandFits.{locks_held, right_held}
+use Rattle.session_parts.specs.Hands.{statement_of}
+use Rattle.session_parts.specs.HandsInTables.{table_in}
+use Rattle.session_parts.specs.RequestLaws.{EndIsLegal}
+use Rattle.session_parts.specs.Shares.{hand_share, open_share, share_of}
+use Rattle.session_parts.specs.UndoneLaws.{StepsSo}
+use Rattle.session_transactions.proofs.AtOnce.{the_laws, DoesRequestNow, IsOnly, Laws, LeavesParts, Restates, StaysBeside, done, heaps_follow, makes_its_step}
+
+-- ---- the session has none then, and the others theirs
+
+none_here : (opens : List (Option Open)) (n : ℕ) (o : Open) → transaction_of opens n ≡ Some o → transaction_of (set opens n None) n ≡ None
+none_here [] zero o is = absurd (none-some o is)
+none_here [] (suc n) o is = absurd (none-some o is)
+none_here (p ∷ opens) zero o is = refl
+none_here (p ∷ opens) (suc n) o is = none_here opens n o is
+
+theirs : (opens : List (Option Open)) (n m : ℕ) → m ≢ n → transaction_of (set opens n None) m ≡ transaction_of opens m
+theirs opens n m apart = get_or-set_other opens n m None None apart
+
+-- ---- commit and rollback are one request each
+
+pub commit_only : (n : ℕ) (committed : Bool) (layout : DiskLayout)
+    → IsOnly n hands.Commits (request_entry n 0 requests.Commit) (if committed then Committed else RolledBack) (if committed then replies.Committed else replies.RolledBack) layout
+commit_only n true layout = record { own = refl; none_answered = λ answers none. none; next = refl; last = refl; replied = refl }
+commit_only n false layout = record { own = refl; none_answered = λ answers none. none; next = refl; last = refl; replied = refl }
+
+pub rollback_only : (n : ℕ) (layout : DiskLayout) → IsOnly n hands.RollsBack (request_entry n 0 requests.Rollback) RolledBack replies.RolledBack layout
+rollback_only n layout = record { own = refl; none_answered = λ answers none. none; next = refl; last = refl; replied = refl }
+
+pub commit_at_once : (p : Place) → IsAtOnce p (statement_of hands.Commits)
+commit_at_once p = steps.Commit
+
+pub rollback_at_once : (p : Place) → IsAtOnce p (statement_of hands.RollsBack)
+rollback_at_once p = steps.Rollback
+
+-- ---- the step
+
+-- the laws that it takes
+pub record EndLaws : Type 0 where
+  pub laws : Laws
+  pub legal : EndIsLegal
+  pub sessions : SessionsAreShown
+  pub unseen : EndIsUnseen
+
+-- how a transaction ends: its status, and that no rows come to count by it
+pub record EndsSo {D : Type 0} (told : D → Told) (old new : Parts D) (n : ℕ) (hand : Hand) (e : Entry) (answer : Answer) (reply : Reply) : Type 0 where
+  pub own : Open
+  pub opened : transaction_of old.transactions.opens n ≡ Some own
+  pub end : Status
+  pub ending : IsEnding e.request own.failed end
+  pub ended : new.transactions ≡ with_open old.transactions n None
+  pub rest : LeavesRest told old.pages new.pages
+  pub statuses : OfStatuses told old.pages (λ stored. HasStatuses old.pages.layout new.pages.pages (set stored own.t end))
+  pub few : (s : DatabaseState) (stored : List Status) (u : ℕ) → ShowsDatabase old.pages.layout old.pages.pages old.transactions s → HasStatuses old.pages.layout old.pages.pages stored
+      → IsTrue (counts_of (with_open old.transactions n None) (set stored own.t end) u) → IsTrue (counts_of old.transactions stored u)
+  pub does : OfDatabase told old.pages old.transactions (λ s. DoesRequest old.pages.layout new.pages.pages new.transactions s e answer)
+  pub legal : (s : DatabaseState) → ShowsDatabase old.pages.layout old.pages.pages old.transactions s → IsLegalRequest s e
+  pub only : (layout : DiskLayout) → IsOnly n hand e answer reply layout
+  pub may : (p : Place) → IsAtOnce p (statement_of hand)
+  pub in_none : (table : ℕ) → table_in old.pages.layout (Some hand) ≡ Some table → ⊥
+  pub entries : new.journal.entries ≡ old.journal.entries ++ e ∷ []
+  pub room : length new.journal.entries ≤ MAX_ENTRIES
+  pub locks : new.locks ≡ old.locks
+  pub rights : new.rights ≡ old.rights
+  pub queue : new.queue ≡ old.queue
+  pub dropped : new.dropped ≡ old.dropped
+
+module _ {D : Type 0} (told : D → Told) (with_laws : EndLaws) (old new : Parts D) (n : ℕ) (hand : Hand) (e : Entry) (answer : Answer) (reply : Reply) (so : EndsSo told old new n hand e answer reply) where
+  first_same : new.transactions.tx.first ≡ old.transactions.tx.first
+  first_same = ap (λ (t : TransactionsState). t.tx.first) so.ended
+
+  others_same : (m : ℕ) → m ≢ n → transaction_of new.transactions.opens m ≡ transaction_of old.transactions.opens m
+  others_same m apart = ap (λ (t : TransactionsState). transaction_of t.opens m) so.ended ∙ theirs old.transactions.opens n m apart
+
+  pub none_now : transaction_of new.transactions.opens n ≡ None
+  none_now = ap (λ (t : TransactionsState). transaction_of t.opens n) so.ended ∙ none_here old.transactions.opens n so.own so.opened
+
+  abbrev restates : Tells told old.pages → (s : DatabaseState) (shows : ShowsDatabase old.pages.layout old.pages.pages old.transactions s) → Restates old new n shows.stored
+  restates tells s shows = record {
+    later = set shows.stored so.own.t so.end;
+    has = so.statuses tells shows.stored shows.has;
+    alike = λ m p apart theirs_is. record {
+      snapshot = refl;
+      own = refl;
+      ended = λ u had. ap (λ (first : ℕ). is_committed (stands_by first (set shows.stored so.own.t so.end) u)) first_same
+          ∙ with_laws.unseen old.pages.layout old.pages.pages old.transactions s shows.stored n m u so.own p so.end shows so.opened theirs_is apart had;
+    };
+    few = λ u counts. inl (so.few s shows.stored u shows shows.has (subst (λ (t : TransactionsState). IsTrue (counts_of t (set shows.stored so.own.t so.end) u)) so.ended counts));
+  }
+
+  beside : Tells told old.pages → StaysBeside old new n
+  beside tells = record {
+    layout = so.rest.leaves.layout;
+    first = first_same;
+    opens = others_same;
+    pages = λ place apart. so.rest.pages tells place apart;
+    locks = so.locks;
+    rights = so.rights;
+    queue = so.queue;
+    dropped = so.dropped;
+  }
+
+  -- its status says whether the journal has its commit
+  fronts : (tells : Tells told old.pages) (p q : Place) (shows : ShowsDatabase old.pages.layout old.pages.pages old.transactions (database_at p))
+      → FrontsStand old.pages.layout old.pages.pages old.transactions shows.stored p → GoesOn p q (e ∷ [])
+      → FrontsStand old.pages.layout new.pages.pages new.transactions (set shows.stored so.own.t so.end) q
+  fronts tells p q shows stands goes =
+      subst (λ (t : TransactionsState). FrontsStand old.pages.layout new.pages.pages t (set shows.stored so.own.t so.end) q) (sym so.ended)
+      (end_stands old.pages.layout old.pages.pages new.pages.pages old.transactions shows.stored p q n so.own e so.end shows shows.has stands so.opened
+      (so.only old.pages.layout).own so.ending goes (heaps_follow told old new so.rest tells))
+
+  request : DoesRequestNow told old new n hand e answer reply
+  request = record {
+    only = so.only;
+    entries = so.entries;
+    room = so.room;
+    stays = beside;
+    in_none = so.in_none;
+    does = so.does;
+    legal = so.legal;
+    may = λ p shows is. so.may p;
+    restates = restates;
+    fronts = fronts;
+  }
+
+  pub ends : LeavesParts told old new n hand → StepsSo told old new n hand (stepped.Done reply)
+  ends left = done told with_laws.laws.changes old new n hand left reply (makes_its_step told with_laws.laws old new n hand e answer reply request)
+
+-- ---- a commit and a rollback, by what they ensure
+
+-- the laws of transactions
+pub record TransactionLaws : Type 0 where
+  pub sessions : SessionsAreShown
+  pub unseen : EndIsUnseen
+  pub committed : CommitCounts
+  pub rolled_back : RollbackCounts
+
+end_promised : (new mid old unneeded share : ℕ) → new + unneeded ≡ mid → mid + 1 ≡ old → unneeded + 1 ≡ share → new + (0 + share) ≡ old + (0 + 0)
+end_promised new mid old unneeded share released entered shared = omega arith
+
+pub some_open : (own : Option Open) → IsSome own → (o : Open) × (own ≡ Some o)
+some_open None is = absurd (true≢false (sym is))
+some_open (Some o) is = (o, refl)
+
+status_is : (failed : Bool) → (if not failed then status.Committed else status.RolledBack) ≡ ended failed
+status_is true = refl
+status_is false = refl
+
+both_true : (a b : Bool) → IsTrue (a && b) → IsTrue a
+both_true true b h = refl
+both_true false b h = h
+
+module _ {D : Type 0} (told : D → Told) (laws : TransactionLaws) (old : Parts D) (pages : View D) (tx : TransactionsState) (mid j : JournalState) (n unneeded : ℕ)
+    (ready : old.pages.failed ≡ None) (still : pages.failed ≡ None) (over : IsOver told tx.tx pages) (rest : LeavesRest told old.pages pages) (ended_is : tx ≡ with_open old.transactions n None)
+    (room : length old.journal.entries + 1 ≤ MAX_ENTRIES) (shared : OfOpen old.transactions n (λ o. unneeded + 1 ≡ open_share (Some o))) (entered : mid.promised + 1 ≡ old.journal.promised) (released : j.promised + unneeded ≡ mid.promised)
+    (same_entries : j.entries ≡ mid.entries) where
+  abbrev new : Parts D
+  new = record old { pages = pages; transactions = tx; journal = j }
+
+  with_laws : EndLaws
+  with_laws = record { laws = the_laws; legal = end_is_legal; sessions = laws.sessions; unseen = laws.unseen }
+
+  module _ (hand : Hand) (fits : IsFit told old n hand) (none_held : locks_held (Some hand) ≡ 0) (no_right : right_held old.pages.layout (Some hand) ≡ None) (no_share : hand_share (Some hand) ≡ 0) (e : Entry) (answer : Answer) (reply : Reply)
+      (so : EndsSo told old new n hand e answer reply) where
+    promised : j.promised + share_of (Some hand) (transaction_of old.transactions.opens n) ≡ old.journal.promised + share_of None (transaction_of tx.opens n)
+    promised = (λ i. j.promised + (no_share i + open_share (so.opened i))) ∙ end_promised j.promised mid.promised old.journal.promised unneeded (open_share (Some so.own)) released entered (shared so.own so.opened)
+        ∙ (λ i. old.journal.promised + (0 + open_share (sym (none_now told with_laws old new n hand e answer reply so) i)))
+
+    left : LeavesParts told old new n hand
+    left = record {
+      fits = fits;
+      ready = ready;
+      still = still;
+      leaves = rest.leaves;
+      over = over;
+      locks = refl;
+      rights = refl;
+      queue = refl;
+      dropped = refl;
+      entries = so.room;
+      none_held = none_held;
+      no_right = no_right;
+      promised = promised;
+      opens = λ m apart. ap (λ (t : TransactionsState). transaction_of t.opens m) ended_is ∙ theirs old.transactions.opens n m apart;
+    }
+
+    pub ends_so : StepsSo told old new n hand (stepped.Done reply)
+    ends_so = ends told with_laws old new n hand e answer reply so left
+
+  more_entries : (e : Entry) → mid.entries ≡ old.journal.entries ++ e ∷ [] → length j.entries ≤ MAX_ENTRIES
+  more_entries e longer = omega (arith, room, ap length same_entries, ap length longer, length-append old.journal.entries (e ∷ []))
+
+  pub commits : IsFit told old n hands.Commits → (committed : Bool) → IsSome (transaction_of old.transactions.opens n) → OfOpen old.transactions n (λ o. committed ≡ not o.failed)
+      → OfDatabase told old.pages old.transactions (λ s. DoesRequest old.pages.layout pages.pages tx s (request_entry n 0 requests.Commit) (if committed then Committed else RolledBack))
+      → OfOpen old.transactions n (λ o. OfStatuses told old.pages (λ stored. HasStatuses old.pages.layout pages.pages (set stored o.t (if committed then status.Committed else status.RolledBack))))
+      → mid.entries ≡ old.journal.entries ++ request_entry n 0 requests.Commit ∷ []
+      → StepsSo told old new n hands.Commits (stepped.Done (if committed then replies.Committed else replies.RolledBack))
+  commits fits committed is_open answered does statuses longer =
+      let own = some_open (transaction_of old.transactions.opens n) is_open in
+      let is : (if committed then status.Committed else status.RolledBack) ≡ ended own.0.failed = ap (λ (c : Bool). if c then status.Committed else status.RolledBack) (answered own.0 own.1) ∙ status_is own.0.failed in
+      ends_so hands.Commits fits refl refl refl (request_entry n 0 requests.Commit) (if committed then Committed else RolledBack) (if committed then replies.Committed else replies.RolledBack) (record {
+        own = own.0;
+        opened = own.1;
+        end = if committed then status.Committed else status.RolledBack;
+        ending = is;
+        ended = ended_is;
+        rest = rest;
+        statuses = statuses own.0 own.1;
+        few = λ s stored u shows has counted. subst (λ (b : Bool). IsTrue b) (laws.committed old.pages.layout old.pages.pages old.transactions s stored n u own.0 shows has own.1)
+            (subst (λ (end : Status). IsTrue (counts_of (with_open old.transactions n None) (set stored own.0.t end) u)) is counted);
+        does = does;
+        legal = λ s shows. let found = (laws.sessions old.pages.layout old.pages.pages old.transactions s shows).shown n own.0 own.1 in (end_is_legal s n 0 found.0 found.1).commit;
+        only = commit_only n committed;
+        may = commit_at_once;
+        in_none = λ table there. none-some table there;
+        entries = same_entries ∙ longer;
+        room = more_entries (request_entry n 0 requests.Commit) longer;
+        locks = refl;
+        rights = refl;
+        queue = refl;
+        dropped = refl;
+      })
+
+  pub rolls_back : IsFit told old n hands.RollsBack → IsSome (transaction_of old.transactions.opens n)
+      → OfDatabase told old.pages old.transactions (λ s. DoesRequest old.pages.layout pages.pages tx s (request_entry n 0 requests.Rollback) RolledBack)
+      → OfOpen old.transactions n (λ o. OfStatuses told old.pages (λ stored. HasStatuses old.pages.layout pages.pages (set stored o.t status.RolledBack)))
+      → mid.entries ≡ old.journal.entries ++ request_entry n 0 requests.Rollback ∷ []
+      → StepsSo told old new n hands.RollsBack (stepped.Done replies.RolledBack)
+  rolls_back fits is_open does statuses longer =
+      let own = some_open (transaction_of old.transactions.opens n) is_open in
+      ends_so hands.RollsBack fits refl refl refl (request_entry n 0 requests.Rollback) RolledBack replies.RolledBack (record {
+        own = own.0;
+        opened = own.1;
+        end = status.RolledBack;
+        ending = refl;
+        ended = ended_is;
+        rest = rest;
+        statuses = statuses own.0 own.1;
+        few = λ s stored u shows has counted. both_true (counts_of old.transactions stored u) _
+            (subst (λ (b : Bool). IsTrue b) (laws.rolled_back old.pages.layout old.pages.pages old.transactions s stored n u own.0 shows has own.1) counted);
+        does = does;
+        legal = λ s shows. let found = (laws.sessions old.pages.layout old.pages.pages old.transactions s shows).shown n own.0 own.1 in (end_is_legal s n 0 found.0 found.1).rollback;
+        only = rollback_only n;
+        may = rollback_at_once;
+        in_none = λ table there. none-some table there;
+        entries = same_entries ∙ longer;
+        room = more_entries (request_entry n 0 requests.Rollback) longer;
+        locks = refl;
+        rights = refl;
+        queue = refl;
+        dropped = refl;
+      })

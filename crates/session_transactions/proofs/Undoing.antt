@@ -1,0 +1,42 @@
+-- Steps that aren't done.
+use Rattle.std.proofs.Common.{◌≡◌, ℕ, List, length, Option, None, Some, refl, sym, subst, arith}
+use Rattle.disk_trait.specs.Told.{Told}
+use Rattle.page_map.specs.declared.faults.StoreError.{StoreError}
+use Rattle.page_map.specs.Keeps.{Leaves, Untold}
+use Rattle.page_map.specs.Outcome.{Refused}
+use Rattle.tx_table.specs.TxState.{IsOver}
+use Rattle.script_semantics.specs.Place.{Place}
+use Rattle.script_semantics.specs.StatementSteps.{LacksRoom}
+use Rattle.session_parts.specs.declared.faults.StoreFault.{StoreFault}
+use Rattle.session_parts.specs.declared.faults.StoreFault.TheVariants as stops
+use Rattle.session_parts.specs.declared.hand.Hand.{Hand}
+use Rattle.session_parts.specs.declared.hand.Stepped.TheVariants as stepped
+use Rattle.session_parts.specs.declared.parts.Parts.{Parts}
+use Rattle.session_parts.specs.ShowsPlace.{ShowsPlace}
+use Rattle.session_parts.specs.Stepping.{IsFit}
+use Rattle.session_parts.specs.StoreFaults.{fault_of}
+use Rattle.session_parts.specs.StoreStates.{hand_in, store_of}
+use Rattle.session_parts.specs.UndoneLaws.{SameBesidePages, StepsSo}
+use Rattle.session_parts.proofs.Undone.{fit_of_parts, refused_is_undone, spent_is_undone}
+
+-- the pages refuse the step
+pub refused_by : {D : Type 0} (told : D → Told) (old new : Parts D) (n : ℕ) (hand : Hand) (error : StoreError) (fault : StoreFault) → IsFit told old n hand → IsOver told new.transactions.tx new.pages
+    → Leaves told old.pages new.pages → SameBesidePages old new → Refused told (Untold told old.pages) old.pages new.pages error → fault ≡ fault_of error → StepsSo told old new n hand (stepped.Undone fault hand)
+refused_by told old new n hand error fault fits over leaves same refused is =
+    subst (λ (f : StoreFault). StepsSo told old new n hand (stepped.Undone f hand)) (sym is) (refused_is_undone told old new n hand error fits over leaves same refused)
+
+-- they refuse it before anything is done
+pub not_ready : {D : Type 0} (told : D → Told) (parts : Parts D) (n : ℕ) (hand : Hand) (error : StoreError) (fault : StoreFault) → IsFit told parts n hand
+    → Refused told (Untold told parts.pages) parts.pages parts.pages error → fault ≡ fault_of error → StepsSo told parts parts n hand (stepped.Undone fault hand)
+not_ready told parts n hand error fault fits refused is =
+    refused_by told parts parts n hand error fault fits (fit_of_parts told parts n hand fits).over (record { layout = refl; tells = refl; faults = omega arith })
+    (record { transactions = refl; locks = refl; rights = refl; journal = refl; queue = refl; dropped = refl }) refused is
+
+-- the journal has no room
+pub no_room_for : {D : Type 0} (told : D → Told) (parts : Parts D) (n : ℕ) (hand : Hand) (fault : StoreFault) → IsFit told parts n hand → parts.pages.failed ≡ None
+    → fault ≡ stops.Spent (length parts.journal.entries)
+    → ((names : List (List ℕ)) (hands : List (Option Hand)) (p : Place) → hand_in hands n ≡ Some hand → ShowsPlace (store_of parts names hands) p → LacksRoom p n)
+    → StepsSo told parts parts n hand (stepped.Undone fault hand)
+no_room_for told parts n hand fault fits ready is lacks =
+    subst (λ (f : StoreFault). StepsSo told parts parts n hand (stepped.Undone f hand)) (sym is)
+    (spent_is_undone told parts n hand (length parts.journal.entries) fits ready refl (λ names hands p there tells shown. lacks names hands p there shown))

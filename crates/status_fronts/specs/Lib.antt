@@ -1,4 +1,0 @@
-pub mod FrontsStand
-pub mod RowsFollow
-pub mod StepLaws
-pub mod SeenBefore

@@ -1,9 +1,0 @@
-pub mod Begun
-pub mod Boxes
-pub mod FewSteps
-pub mod Moving
-pub mod RangeLeft
-pub mod Shown
-pub mod Sizes
-pub mod StaysBounded
-pub mod VacuumSteps

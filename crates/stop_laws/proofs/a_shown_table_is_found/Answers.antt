@@ -1,8 +1,0 @@
-use Rattle.stop_laws.proofs.Found.{found_shown}
-use Rattle.stop_laws.proofs.a_shown_table_is_found.Goals as goal
-
-pub returns-clause-found : goal.returns-clause-found
-returns-clause-found c = found_shown
-
-pub returns-clause-shown : goal.returns-clause-shown
-returns-clause-shown c = λ layout pages t s table found shows. c.one_table_is_found.ensures layout pages s.table table (found_shown layout pages t s shows) found

@@ -1,5 +1,0 @@
-use Rattle.stop_laws.proofs.Stops.{one_table_in_image}
-use Rattle.stop_laws.proofs.an_image_has_one_table.Goals as goal
-
-pub returns : goal.returns
-returns c = one_table_in_image c.args.layout.now c.an_image_opens_to_one_map.ensures c.one_table_is_found.ensures

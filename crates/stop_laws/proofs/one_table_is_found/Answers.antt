@@ -1,5 +1,0 @@
-use Rattle.stop_laws.proofs.Found.{one_found}
-use Rattle.stop_laws.proofs.one_table_is_found.Goals as goal
-
-pub returns : goal.returns
-returns c = λ layout pages. one_found layout pages (c.statuses_are_one_list.ensures layout pages)

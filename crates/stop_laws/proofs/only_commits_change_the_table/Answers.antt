@@ -1,8 +1,0 @@
-use Rattle.stop_laws.proofs.Commits.{only_commits_change, other_requests_leave}
-use Rattle.stop_laws.proofs.only_commits_change_the_table.Goals as goal
-
-pub returns-clause-effect : goal.returns-clause-effect
-returns-clause-effect c = only_commits_change
-
-pub returns-clause-found : goal.returns-clause-found
-returns-clause-found c = other_requests_leave

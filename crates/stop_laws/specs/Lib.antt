@@ -1,4 +1,0 @@
-pub mod FoundTable
-pub mod FoundLaws
-pub mod StopLaws
-pub mod Passes

@@ -1,7 +1,0 @@
-use Rattle.std.proofs.Common.{◌≡◌, ◌≤◌, [], replicate}
-use Rattle.std.specs.Vec.{vec_capacity}
-use Rattle.statements.specs.declared.limits.TheConstants.{MAX_SESSIONS}
-use Rattle.store_parts.proofs.dropped_requests.DroppedRequests.new.Given as goal
-
-abbrev pub invariant-sessions : goal.invariant-sessions
-invariant-sessions l = record { made : l.lists.items ≡ replicate l.counter []; room : MAX_SESSIONS ≤ vec_capacity l.lists }

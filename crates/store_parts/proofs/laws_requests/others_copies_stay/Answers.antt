@@ -1,5 +1,0 @@
-use Rattle.store_parts.proofs.Requests.{copies_stay}
-use Rattle.store_parts.proofs.laws_requests.others_copies_stay.Goals as goal
-
-pub returns : goal.returns
-returns c = copies_stay

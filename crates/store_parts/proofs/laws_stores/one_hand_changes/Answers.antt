@@ -1,5 +1,0 @@
-use Rattle.store_parts.proofs.Stores.{hand_changes}
-use Rattle.store_parts.proofs.laws_stores.one_hand_changes.Goals as goal
-
-pub returns : goal.returns
-returns c = hand_changes

@@ -1,5 +1,0 @@
-use Rattle.std.proofs.Common.{length, length-take, ap, arith}
-use Rattle.store_scans.proofs.lists.copy_of.Goals as goal
-
-pub push-requires : goal.push-requires
-push-requires c = omega (arith, ap length c.conds.invariant, length-take c.conds.cond-index c.as_slice-cond-items.result.now, c.as_slice-cond-items.ensures.within)

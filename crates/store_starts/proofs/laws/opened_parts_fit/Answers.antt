@@ -1,5 +1,0 @@
-use Rattle.store_starts.proofs.Fits.{opened_fit}
-use Rattle.store_starts.proofs.laws.opened_parts_fit.Goals as goal
-
-pub returns : goal.returns
-returns g c = opened_fit g.D.Disk.told

@@ -1,6 +1,0 @@
-pub mod StoreImage
-pub mod Stops
-pub mod ImageLaws
-pub mod StopRule
-pub mod OpenedParts
-pub mod Started

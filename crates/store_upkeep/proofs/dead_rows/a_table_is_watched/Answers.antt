@@ -1,8 +1,0 @@
-use Rattle.store_upkeep.proofs.Watching.{table_is_spared, table_is_watched}
-use Rattle.store_upkeep.proofs.dead_rows.a_table_is_watched.Goals as goal
-
-pub returns-clause-watched : goal.returns-clause-watched
-returns-clause-watched c = table_is_watched
-
-pub returns-clause-spared : goal.returns-clause-spared
-returns-clause-spared c = table_is_spared

@@ -1,0 +1,31 @@
+use Rattle.std.proofs.Common.{◌≡◌, refl, ap, ◌∙◌}
+use Rattle.page_map.specs.PageMap.{PageMap}
+use Rattle.index_contents.specs.IndexContents.{contents}
+use Rattle.index_steps.specs.IndexTuples.{shape_of}
+use Rattle.index_steps.specs.ShownIndex.{lock_in}
+use Rattle.summarise_core.proofs.DesummariseStepped.{is_named, is_unnamed}
+use Rattle.summarise_core.proofs.desummarise_steps.look.Goals as goal
+
+pub returns-in-Ok-Some-clause-stepped : goal.returns-in-Ok-Some-clause-stepped
+returns-in-Ok-Some-clause-stepped g c = λ tells locks.
+    let store = c.args.pages.now in
+    let at = c.args.at in
+    let shape = shape_of store.layout at.index in
+    let was = contents store.layout store.pages at.index in
+    let is = contents store.layout c.read_map.new.pages.pages at.index in
+    let lock = lock_in store.layout locks at.index in
+    let same : is ≡ was = ap (λ (pages : PageMap). contents store.layout pages at.index) (c.read_map.ensures.kept.pages tells) in
+    is_named shape at.actor at.range was is lock (λ w shows none. c.an_index_that_stays_is_read.ensures shape was is lock lock w at.actor shows same refl none)
+    c.in-Ok-Some.spot (c.in-Ok-Some.ensures.entry tells ∙ c.in-Ok-Some.field-0-is)
+
+pub returns-in-Ok-None-clause-stepped : goal.returns-in-Ok-None-clause-stepped
+returns-in-Ok-None-clause-stepped g c = λ tells locks.
+    let store = c.args.pages.now in
+    let at = c.args.at in
+    let shape = shape_of store.layout at.index in
+    let was = contents store.layout store.pages at.index in
+    let is = contents store.layout c.read_map.new.pages.pages at.index in
+    let lock = lock_in store.layout locks at.index in
+    let same : is ≡ was = ap (λ (pages : PageMap). contents store.layout pages at.index) (c.read_map.ensures.kept.pages tells) in
+    is_unnamed shape at.actor at.range was is lock (λ w shows none. c.an_index_that_stays_is_read.ensures shape was is lock lock w at.actor shows same refl none)
+    (c.in-Ok-None.ensures.entry tells ∙ c.in-Ok-None.field-0-is)

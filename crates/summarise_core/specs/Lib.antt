@@ -1,0 +1,15 @@
+pub mod Summarises
+pub mod SummariseTable
+pub mod SummariseCalls
+pub mod SummariseHands
+pub mod ShownHeap
+pub mod SummariseSteps
+pub mod StepCauses
+pub mod BlockRows
+pub mod Works
+pub mod ExactSummaries
+pub mod StageLocks
+pub mod Growths
+pub mod Desummarises
+pub mod DesummariseTable
+pub mod DesummariseCalls

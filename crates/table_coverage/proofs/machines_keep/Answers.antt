@@ -1,5 +1,0 @@
-use Rattle.table_coverage.proofs.MachinesKeep.{steps_keep, ends_keep, reply_finds, waits_held, scans_step}
-use Rattle.table_coverage.proofs.machines_keep.Goals as goal
-
-pub returns : goal.returns
-returns c = record { steps = steps_keep; ends = ends_keep; replies = reply_finds; waits = waits_held; scans = scans_step }

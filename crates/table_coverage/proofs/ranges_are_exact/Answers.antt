@@ -1,9 +1,0 @@
-use Rattle.table_coverage.proofs.RangesExact.{whole_ranges, each_range, asks_first}
-use Rattle.table_coverage.proofs.ranges_are_exact.Goals as goal
-
-pub returns : goal.returns
-returns c = record {
-  whole = λ w at range extent some. whole_ranges w at some range extent;
-  each = λ w at range extent some. each_range w at some range extent;
-  asks = λ w at b k some. asks_first w at some b k;
-}

@@ -1,9 +1,0 @@
-pub mod Calm
-pub mod Clears
-pub mod Fits
-pub mod Holders
-pub mod Orderly
-pub mod Reaching
-pub mod Selects
-pub mod SummaryStep
-pub mod Summing

@@ -1,8 +1,0 @@
-use Rattle.std.proofs.Common.{arith}
-use Rattle.text_reading.proofs.DigitLemmas.{digits_at_count}
-use Rattle.text_reading.proofs.number.written_number.Goals as goal
-
-pub returns : goal.returns
-returns c =
-    digits_at_count c.args.text.now c.split_at.result.0.now c.split_at.result.1.now c.front_number-length.result.0 c.front_number-length.ensures.count (omega arith)
-    c.split_at.ensures.front c.split_at.ensures.back

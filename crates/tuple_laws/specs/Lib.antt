@@ -1,4 +1,0 @@
-pub mod OwnKinds
-pub mod SoundClasses
-pub mod SoundTuples
-pub mod RowsUnited

@@ -1,9 +1,0 @@
-mod Converses
-mod Bounds
-mod Sets
-mod Equality
-mod Within
-mod Addresses
-mod Networks
-mod Numbers
-mod OperatorKinds

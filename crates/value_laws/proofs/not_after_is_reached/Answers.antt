@@ -1,5 +1,0 @@
-use Rattle.value_laws.proofs.Sets.{not_after_is_reached}
-use Rattle.value_laws.proofs.not_after_is_reached.Goals as goal
-
-pub returns : goal.returns
-returns c = not_after_is_reached
