@@ -24,3 +24,10 @@ pub mod FromStart
 pub mod Deciding
 pub mod Vacuumed
 pub mod Swept
+pub mod CopySizes
+pub mod Entering
+pub mod Budgets
+pub mod SessionSums
+pub mod Paid
+pub mod PaidLines
+pub mod LineVerbs
