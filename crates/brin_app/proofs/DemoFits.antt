@@ -174,7 +174,7 @@ module _ (bound : WordsBoundRequests) (schema : Schema) (rows : ℕ) where
 
   closes_few : (busy : Bool) (said : List Said) → Closes busy said → most said ≤ 2
   closes_few false said is = let none = ap most is in omega (arith, none)
-  closes_few true said is = says_few (keeper (codes "finish") ∷ []) said is (All-from_recursion IsFew (keeper (codes "finish") ∷ []) (no_more _ keeper_finish, tt))
+  closes_few true said is = let less = says_few (keeper (codes "finish") ∷ []) said is (All-from_recursion IsFew (keeper (codes "finish") ∷ []) (no_more _ keeper_finish, tt)) in omega (arith, less)
     where
       no_more : (n : ℕ) → n ≡ 0 → n ≤ 2
       no_more n none = omega (arith, none)
@@ -207,10 +207,12 @@ module _ (bound : WordsBoundRequests) (schema : Schema) (rows : ℕ) where
   round_few : (seed all round : ℕ) (said : List Said) → IsRound seed all round said → most said ≤ 820
   round_few seed all round said is =
       let opened = opens_few round is.busy is.opened is.opens in
-      let begun = says_few (each_session (codes "begin")) is.begun is.begins begin_few in
+      let begins = says_few (each_session (codes "begin")) is.begun is.begins begin_few in
+      let begun : most is.begun ≤ 8 = omega (arith, begins) in
       let put = rows_few seed (400 * round) (rows_of_round all round) is.busy is.busy' is.put is.puts in
       let closed = closes_few is.busy' is.closed is.closes in
-      let committed = says_few (each_session (codes "commit")) is.committed is.commits commit_few in
+      let commits = says_few (each_session (codes "commit")) is.committed is.commits commit_few in
+      let committed : most is.committed ≤ 8 = omega (arith, commits) in
       five (most said) (most is.opened) (most is.begun) (most is.put) (most is.closed) (most is.committed) (rows_of_round all round)
       (ap most is.is ∙ parts is.opened is.begun is.put is.closed is.committed) opened begun put (at_most (all - 400 * round)) closed committed
     where
@@ -256,7 +258,9 @@ module _ (bound : WordsBoundRequests) (schema : Schema) (rows : ℕ) where
 
   demo_few : (seed all : ℕ) (rounds last : List Said) → all ≤ 200000 → IsDemo seed all rounds last → most (rounds ++ last) ≤ 410018
   demo_few seed all rounds last within is =
-      sum (most (rounds ++ last)) (most rounds) (most last) (joined rounds last) (rounds_few seed all 0 (rounds_of all) rounds is.are_rounds) (says_few (last_lines all) last is.are_last (last_few all))
+      let lasts = says_few (last_lines all) last is.are_last (last_few all) in
+      let few_last : most last ≤ 18 = omega (arith, lasts) in
+      sum (most (rounds ++ last)) (most rounds) (most last) (joined rounds last) (rounds_few seed all 0 (rounds_of all) rounds is.are_rounds) few_last
     where
       count : rounds_of all ≤ 500
       count = omega (arith, within)

@@ -9,6 +9,7 @@ use Rattle.script_laws.specs.RequestBounds.{FillJournal, HasRoom, IsFirstPlace, 
 use Rattle.script_run.specs.Runs.{AreFirst, IsFront}
 use Rattle.script_run.specs.Script.{ended_append, ended_from, ended_lines, last_line, rest_from, rest_line, script_lines}
 use Rattle.script_semantics.specs.Place.{Place}
+use Rattle.script_semantics.specs.Starts.{IsStart}
 use Rattle.session_core.specs.StoreImage.{database_with}
 use Rattle.store_layout.specs.DiskLayout.{DiskLayout}
 use Rattle.brin_app.specs.ScriptOutput.{StartsOver}
@@ -53,7 +54,8 @@ module _ (fit : ScriptsWithRoomFit) (room : ScriptsHaveRoom) (layout : DiskLayou
 
 pub scripts_fit_journal : ScriptsBegin → ScriptsWithRoomFit → ScriptsHaveRoom → ScriptsFitJournal
 scripts_fit_journal begin fit room = record {
-  new = λ layout script has. fits fit room layout 0 _ (λ p starts. begin.new layout p starts) script has;
+  new = λ layout script has. fits fit room layout 0 (IsStart layout) (begin.new layout) script has;
   stored = λ layout pages next table script has.
-      fits fit room layout (length (rows_in table)) _ (λ p starts. begin.opened layout (database_with next table) p (StartsOver.opening starts) (λ n. get-empty nat_cmp n)) script has;
+      fits fit room layout (length (rows_in table)) (StartsOver layout pages next table)
+          (λ (p : Place) (starts : StartsOver layout pages next table p). begin.opened layout (database_with next table) p starts.opening (λ n. get-empty nat_cmp n)) script has;
 }

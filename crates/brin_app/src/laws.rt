@@ -39,7 +39,7 @@ pub(crate) fn a_stored_table_is_not_damaged()
     maps_with_the_same_pages_are_equal();
 }
 
-/// No demo fills the journal: of its 200000 rows at most each makes two requests at most, and its other lines are few. Does nothing.
+/// No demo fills the journal: the insert of each of its 200000 rows makes two requests at most, and its other lines are few. Does nothing.
 pub(crate) fn a_demo_fits_the_journal()
     ensures { NoDemoFillsJournal }
 {
@@ -47,8 +47,8 @@ pub(crate) fn a_demo_fits_the_journal()
     words_bound_requests();
 }
 
-/// A script fits the journal, as `complete` of `brin_main` asks: over a new store and over one that stands there, where it has half as many lines as
-/// the journal has places and none of them deletes; or where each of its lines might mark all rows. Does nothing.
+/// A script fits the journal, as `complete` of `brin_main` asks, where its lines have room: `short_scripts_have_room` of script_laws tells which do.
+/// Does nothing.
 pub fn short_scripts_fit()
     ensures { ScriptsFitJournal }
 {

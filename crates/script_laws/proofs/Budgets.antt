@@ -124,7 +124,7 @@ pub record Grows (rows : ℕ) (statement : Statement) (c d : Course) : Type 0 wh
   pub put : puts d.journal + puts_left statement d.answers ≤ puts c.journal + puts_left statement c.answers
   pub are : AreFew rows statement d.answers
 
-stays_as_is : (rows : ℕ) (statement : Statement) (c : Course) → AreFew rows statement c.answers → Grows rows statement c c
+pub stays_as_is : (rows : ℕ) (statement : Statement) (c : Course) → AreFew rows statement c.answers → Grows rows statement c c
 stays_as_is rows statement c are = record { many = refl; put = omega arith; are = are }
 
 grows_on : (rows : ℕ) (statement : Statement) (c d f : Course) → Grows rows statement c d → Grows rows statement d f → Grows rows statement c f

@@ -44,7 +44,7 @@ first_alone n (statements.Desummarize index block) (answer ∷ answers) e not is
 first_alone n (statements.Vacuum table) (answer ∷ answers) e not is = absurd (none-some _ is)
 first_alone n statements.Work (answer ∷ answers) e not is = absurd (none-some _ is)
 
-no_push : {A : Type 0} (xs : List A) (x : A) → xs ++ x ∷ [] ≡ [] → ⊥
+pub no_push : {A : Type 0} (xs : List A) (x : A) → xs ++ x ∷ [] ≡ [] → ⊥
 no_push xs x is = let long = length_push xs x in let none = ap length is in omega (arith, long, none)
 
 no_second : (n : ℕ) (statement : Statement) (answers : List Answer) (answer : Answer) (e : Entry) → ¬ (IsDelete statement) → next_request n statement (answers ++ answer ∷ []) ≡ Some e → ⊥
