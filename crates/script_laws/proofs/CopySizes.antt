@@ -4,6 +4,7 @@ use Rattle.std.specs.Prelude.{if◌then◌else◌}
 use Rattle.std.specs.List.{filter, list_any}
 use Rattle.std.specs.FinMap.{FinMap, get, contains_key, insert, remove, retain_keys, entries, keys, find, len, empty, get-insert, get-remove, get-retain_keys, get-entries, get-empty, len-remove, len-empty, len-entries, contains_key-keys, same_map}
 use Rattle.std.specs.declared.cmp.Ordering.TheVariants.{Equal}
+use Rattle.std.specs.Cmp.{Equal-is}
 use Rattle.std.specs.Ordering.{eq_by_cmp}
 use Rattle.std.specs.FinSet as set
 use Rattle.std.proofs.lemmas.Bool.{false≢true}
@@ -30,7 +31,6 @@ use Rattle.block_model.specs.SerialRun.{serial_run}
 use Rattle.store_layout.specs.StatementRequests.{found_in, look_entry}
 use Rattle.coverage.specs.RowOrder.{IsAmong}
 use Rattle.script_semantics.specs.Openings.{NoneOpen}
-use Rattle.script_semantics.proofs.Rows.{same_ids}
 
 -- ---- puts
 
@@ -45,10 +45,14 @@ puts [] = 0
 puts (e ∷ es) = put_of e.request e.tag + puts es
 
 pub puts-append : (first second : List Entry) → puts (first ++ second) ≡ puts first + puts second
-puts-append [] second = refl
+puts-append [] second = omega arith
 puts-append (e ∷ es) second = let rest = puts-append es second in omega (arith, rest)
 
 -- ---- rows of a map, by ids among which they are
+
+-- only equal ids tie
+same_ids : (a b : RowId) → eq_by_cmp id_cmp a b ≡ true → a ≡ b
+same_ids a b is = ids_exact a b ((Equal-is (id_cmp a b)).0 is)
 
 in_rest : (b : Bool) (o : Option Row) → is_some (cond b None o) ≡ true → (b ≡ false) × (is_some o ≡ true)
 in_rest true o h = absurd (false≢true h)

@@ -3,11 +3,12 @@ use Rattle.std.proofs.Common.{◌≡◌, ◌≢◌, ◌⊎◌, inl, inr, ℕ, ze
 use Rattle.std.proofs.lemmas.Bool.{cases_eq}
 
 -- of the numbers at 0, 1 and so on, as many as are counted
-abbrev pub sum_below : (ℕ → ℕ) → ℕ → ℕ
+pub sum_below : (ℕ → ℕ) → ℕ → ℕ
 sum_below f zero = 0
 sum_below f (suc count) = sum_below f count + f count
 
 pub sum_nothing : (f : ℕ → ℕ) → ((n : ℕ) → f n ≡ 0) → (count : ℕ) → sum_below f count ≡ 0
+unfolding sum_below
 sum_nothing f none zero = refl
 sum_nothing f none (suc count) = let rest = sum_nothing f none count in let here = none count in omega (arith, rest, here)
 
@@ -30,6 +31,7 @@ module _ (f g : ℕ → ℕ) (n : ℕ) (others : (m : ℕ) → (m ≡ n) ⊎ (g 
   past m low is = omega (arith, low, is)
 
   sum_apart : (count : ℕ) → count ≤ n → sum_below g count ≡ sum_below f count
+  unfolding sum_below
   sum_apart zero low = refl
   sum_apart (suc count) low =
       let rest = sum_apart count (let less : count ≤ n = omega (arith, low) in less) in
@@ -37,6 +39,7 @@ module _ (f g : ℕ → ℕ) (n : ℕ) (others : (m : ℕ) → (m ≡ n) ⊎ (g 
       omega (arith, rest, here)
 
   sum_at : (count : ℕ) → count ≡ n → sum_below g (suc count) + f n ≡ sum_below f (suc count) + g n
+  unfolding sum_below
   sum_at count is =
       let rest = sum_apart count (let low : count ≤ n = omega (arith, is) in low) in
       let left : f count ≡ f n = ap f is in
@@ -44,6 +47,7 @@ module _ (f g : ℕ → ℕ) (n : ℕ) (others : (m : ℕ) → (m ≡ n) ⊎ (g 
       omega (arith, rest, left, right)
 
   pub sum_changed : (count : ℕ) → n < count → sum_below g count + f n ≡ sum_below f count + g n
+  unfolding sum_below
   sum_changed zero low = absurd (omega (arith, low))
   sum_changed (suc count) low = by (cases_eq count n) (sum_changed count)
     where
