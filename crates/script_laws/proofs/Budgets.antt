@@ -1,5 +1,5 @@
 -- What a statement has still to enter, by what its requests so far were answered.
-use Rattle.std.proofs.Common.{◌≡◌, ℕ, suc, ◌+◌, ◌-◌, ◌≤◌, ◌<◌, List, [], ◌∷◌, ◌++◌, length, Option, None, Some, refl, sym, ap, ◌∙◌, subst, arith}
+use Rattle.std.proofs.Common.{◌≡◌, ◌⊎◌, inl, inr, ℕ, suc, ◌+◌, ◌-◌, ◌≤◌, ◌<◌, List, [], ◌∷◌, ◌++◌, length, Option, None, Some, refl, sym, ap, ◌∙◌, subst, arith}
 use Rattle.std.specs.Option.{option_map}
 use Rattle.std.specs.FinMap.{get}
 use Rattle.std.proofs.lemmas.List.{length_push}
@@ -21,7 +21,8 @@ use Rattle.script_semantics.specs.Place.{Hand}
 use Rattle.script_semantics.specs.Requests.{Course, Enters, First, Further, MakesAll, MakesMark, MakesOne, NoneLeft, OneMore, entered, next_request, refused_request, row_to_mark}
 use Rattle.script_laws.specs.RequestBounds.{most_of_statement}
 use Rattle.script_laws.proofs.CopySizes.{few_found, put_of, puts, puts-append}
-use Rattle.script_laws.proofs.Entering.{no_push}
+use Rattle.script_laws.proofs.Entering.{first_alone, no_push, no_second}
+use Rattle.script_laws.proofs.Soundness.{IsBeginning, IsInsert, fewer_behind, insert_behind, none_begins, one_session, one_sound, others_behind, sessions_behind, sound_behind}
 
 -- ---- how many requests of a statement are answered
 
@@ -118,22 +119,34 @@ none_left statement answers answer = refl
 abbrev pub SeesFew : (rows : ℕ) (o : DatabaseState) (n : ℕ) → Course → Type 0
 SeesFew rows o n c = c.answers ≡ [] → (x : OpenTransaction) → get (serial_run o c.journal).sessions n ≡ Some x → length (rows_in x.view) ≤ rows
 
--- as many requests are entered as are answered, no more are put than were left, and they stay few
-pub record Grows (rows : ℕ) (statement : Statement) (c d : Course) : Type 0 where
+-- As many requests are entered as are answered, no more are put than were left, and they stay few. The other sessions' transactions stay; this one's is
+-- sound behind them only where it was, but for a begin's, and exactly where it was for an insert.
+pub record Grows (rows : ℕ) (o : DatabaseState) (n : ℕ) (statement : Statement) (c d : Course) : Type 0 where
   pub many : length d.journal + length c.answers ≡ length c.journal + length d.answers
   pub put : puts d.journal + puts_left statement d.answers ≤ puts c.journal + puts_left statement c.answers
   pub are : AreFew rows statement d.answers
+  pub others : (m : ℕ) → (m ≡ n → ⊥) → sessions_behind o d.journal m ≡ sessions_behind o c.journal m
+  pub fewer : ¬ (IsBeginning statement) → sound_behind o d.journal n ≤ sound_behind o c.journal n
+  pub kept : IsInsert statement → sound_behind o d.journal n ≡ sound_behind o c.journal n
 
-pub stays_as_is : (rows : ℕ) (statement : Statement) (c : Course) → AreFew rows statement c.answers → Grows rows statement c c
-stays_as_is rows statement c are = record { many = refl; put = omega arith; are = are }
+pub stays_as_is : (rows : ℕ) (o : DatabaseState) (n : ℕ) (statement : Statement) (c : Course) → AreFew rows statement c.answers → Grows rows o n statement c c
+stays_as_is rows o n statement c are = record { many = refl; put = omega arith; are = are; others = λ m apart. refl; fewer = λ not. omega arith; kept = λ is. refl }
 
-grows_on : (rows : ℕ) (statement : Statement) (c d f : Course) → Grows rows statement c d → Grows rows statement d f → Grows rows statement c f
-grows_on rows statement c d f first rest =
-    let many = first.many in
-    let more = rest.many in
-    let put = first.put in
-    let further = rest.put in
-    record { many = omega (arith, many, more); put = omega (arith, put, further); are = rest.are }
+grows_on : (rows : ℕ) (o : DatabaseState) (n : ℕ) (statement : Statement) (c d f : Course) → Grows rows o n statement c d → Grows rows o n statement d f → Grows rows o n statement c f
+grows_on rows o n statement c d f first rest = record {
+  many = joined (length c.journal) (length d.journal) (length f.journal) (length c.answers) (length d.answers) (length f.answers) first.many rest.many;
+  put = through _ _ _ rest.put first.put;
+  are = rest.are;
+  others = λ m apart. rest.others m apart ∙ first.others m apart;
+  fewer = λ not. through _ _ _ (rest.fewer not) (first.fewer not);
+  kept = λ is. rest.kept is ∙ first.kept is;
+}
+  where
+    joined : (a b c d e f : ℕ) → b + d ≡ a + e → c + e ≡ b + f → c + d ≡ a + f
+    joined a b c d e f one two = omega (arith, one, two)
+
+    through : (a b c : ℕ) → a ≤ b → b ≤ c → a ≤ c
+    through a b c one two = omega (arith, one, two)
 
 abbrev head_or : Answer → List Answer → Answer
 head_or other [] = other
@@ -153,7 +166,7 @@ module _ (rows : ℕ) (o : DatabaseState) (n : ℕ) where
       by (answer ∷ answers) some before is found marks same = before found answers (ap (λ (a : Answer). a ∷ answers) (ap (head_or Illegal) same))
   found_next statement c e next sees few = tt
 
-  pub one_grows : (statement : Statement) (c d : Course) → AreFew rows statement c.answers → SeesFew rows o n c → MakesOne o n statement c d → Grows rows statement c d
+  pub one_grows : (statement : Statement) (c d : Course) → AreFew rows statement c.answers → SeesFew rows o n c → MakesOne o n statement c d → Grows rows o n statement c d
   one_grows statement c _ are sees (Enters e next) =
       let long = length_push c.journal e in
       let answered = length_push c.answers (reply_to (serial_run o c.journal) e) in
@@ -165,22 +178,25 @@ module _ (rows : ℕ) (o : DatabaseState) (n : ℕ) where
         many = omega (arith, long, answered);
         put = omega (arith, count, one, none);
         are = record { few = omega (arith, answered, room); found = found_next statement c e next sees are.found };
+        others = others_behind o c.journal n e (one_session n statement c.answers e next);
+        fewer = λ not. fewer_behind o c.journal n e (one_session n statement c.answers e next) (none_begins n statement c.answers e not next);
+        kept = λ is. insert_behind o c.journal n statement c.answers e is next;
       }
 
   -- behind a request some are answered
   sees_then : (statement : Statement) (c d : Course) → MakesOne o n statement c d → SeesFew rows o n d
   sees_then statement c _ (Enters e next) none = absurd (no_push c.answers _ none)
 
-  pub all_grow : (statement : Statement) (c d : Course) → AreFew rows statement c.answers → SeesFew rows o n c → MakesAll o n statement c d → Grows rows statement c d
-  all_grow statement _ _ are sees (NoneLeft c none) = stays_as_is rows statement c are
+  pub all_grow : (statement : Statement) (c d : Course) → AreFew rows statement c.answers → SeesFew rows o n c → MakesAll o n statement c d → Grows rows o n statement c d
+  all_grow statement _ _ are sees (NoneLeft c none) = stays_as_is rows o n statement c are
   all_grow statement _ _ are sees (OneMore c d f one more) =
       let first = one_grows statement c d are sees one in
-      grows_on rows statement c d f first (all_grow statement d f first.are (sees_then statement c d one) more)
+      grows_on rows o n statement c d f first (all_grow statement d f first.are (sees_then statement c d one) more)
 
-  pub mark_grows : (statement : Statement) (c d : Course) → AreFew rows statement c.answers → SeesFew rows o n c → MakesMark o n statement c d → Grows rows statement c d
+  pub mark_grows : (statement : Statement) (c d : Course) → AreFew rows statement c.answers → SeesFew rows o n c → MakesMark o n statement c d → Grows rows o n statement c d
   mark_grows statement c _ are sees (First d f none one next) =
       let first = one_grows statement c d are sees one in
-      grows_on rows statement c d f first (one_grows statement d f first.are (sees_then statement c d one) next)
+      grows_on rows o n statement c d f first (one_grows statement d f first.are (sees_then statement c d one) next)
   mark_grows statement c _ are sees (Further first more d some one) = one_grows statement c d are sees one
 
 -- ---- what is left
@@ -206,31 +222,63 @@ one_owed None = omega arith
 one_owed (Some hand) = few_left hand.statement hand.answers
 
 -- what was entered was owed, for what is still owed and at the end
-pub pays : (rows : ℕ) (statement : Statement) (c d : Course) → AreFew rows statement c.answers → Grows rows statement c d
+pub pays : (rows : ℕ) (o : DatabaseState) (n : ℕ) (statement : Statement) (c d : Course) → AreFew rows statement c.answers → Grows rows o n statement c d
     → length d.journal + (most_of_statement rows statement - length d.answers) ≤ length c.journal + (most_of_statement rows statement - length c.answers)
-pays rows statement c d are grows =
+pays rows o n statement c d are grows =
     let many = grows.many in
     let few = grows.are.few in
     let before = are.few in
     let within = answered_within rows statement in
     omega (arith, many, few, before, within)
 
-pub pays_all : (rows : ℕ) (statement : Statement) (c d : Course) → AreFew rows statement c.answers → Grows rows statement c d
-    → length d.journal ≤ length c.journal + (most_of_statement rows statement - length c.answers)
-pays_all rows statement c d are grows = let paid = pays rows statement c d are grows in omega (arith, paid)
+-- a begin pays for the transaction that is sound behind it
+pub begin_pays : (rows : ℕ) (o : DatabaseState) (n : ℕ) (statement : Statement) (c d : Course) → IsBeginning statement → MakesAll o n statement c d
+    → length d.journal + sound_behind o d.journal n ≤ length c.journal + (most_of_statement rows statement - length c.answers) + sound_behind o c.journal n
+begin_pays rows o n statements.Begin _ _ is (NoneLeft c none) = omega arith
+begin_pays rows o n statements.Begin _ _ is (OneMore c _ _ (Enters e next) (NoneLeft _ none)) =
+    one (length (c.journal ++ e ∷ [])) (length c.journal) (length c.answers) _ _ (length_push c.journal e) (ap length (first_alone n statements.Begin c.answers e (λ deletes. deletes) next)) (one_sound (serial_run o (c.journal ++ e ∷ [])) n)
+  where
+    one : (longer long answered after before : ℕ) → longer ≡ long + 1 → answered ≡ 0 → after ≤ 1 → longer + after ≤ long + (2 - answered) + before
+    one longer long answered after before a b c = omega (arith, a, b, c)
+begin_pays rows o n statements.Begin _ _ is (OneMore c _ _ (Enters e next) (OneMore _ _ _ (Enters f behind) more)) =
+    absurd (no_second n statements.Begin c.answers _ f (λ deletes. deletes) behind)
+begin_pays rows o n statement c d is made = absurd is
+
+-- any other statement
+pub others_pay : (rows : ℕ) (o : DatabaseState) (n : ℕ) (statement : Statement) (c d : Course) → ¬ (IsBeginning statement) → AreFew rows statement c.answers → Grows rows o n statement c d
+    → length d.journal + sound_behind o d.journal n ≤ length c.journal + (most_of_statement rows statement - length c.answers) + sound_behind o c.journal n
+others_pay rows o n statement c d not are grows =
+    both (length d.journal) (length c.journal) _ _ _ _ (pays rows o n statement c d are grows) (grows.fewer not)
+  where
+    both : (longer long left owed after before : ℕ) → longer + left ≤ long + owed → after ≤ before → longer + after ≤ long + owed + before
+    both longer long left owed after before a b = omega (arith, a, b)
+
+pub begins_or_not : (statement : Statement) → IsBeginning statement ⊎ ¬ (IsBeginning statement)
+begins_or_not statements.Begin = inl tt
+begins_or_not statement = inr (λ begins. begins)
 
 -- a select was answered nothing
 abbrev pub IsFreshSelect : Statement → List Answer → Type 0
 IsFreshSelect (statements.Select q) answers = answers ≡ []
 IsFreshSelect statement answers = Unit {0}
 
--- there is room for the request of a refusal
-pub pays_refusal : (rows n : ℕ) (tag : Tag) (statement : Statement) (answers : List Answer) → AreFew rows statement answers → IsFreshSelect statement answers
+-- there is room for the request of a refusal, but for an insert's
+pub pays_refusal : (rows n : ℕ) (tag : Tag) (statement : Statement) (answers : List Answer) → ¬ (IsInsert statement) → AreFew rows statement answers → IsFreshSelect statement answers
     → length (refused_request n tag statement) ≤ most_of_statement rows statement - length answers
-pays_refusal rows n tag (statements.Insert table values) answers are fresh = let few = are.few in omega (arith, few)
-pays_refusal rows n tag (statements.Select q) answers are fresh = let none = ap length fresh in omega (arith, none)
-pays_refusal rows n tag (statements.Delete q) answers are fresh = let few = are.few in omega (arith, few)
-pays_refusal rows n tag statement answers are fresh = omega arith
+pays_refusal rows n tag (statements.Insert table values) answers not are fresh = absurd (not tt)
+pays_refusal rows n tag (statements.Select q) answers not are fresh = let nothing = ap length fresh in omega (arith, nothing)
+pays_refusal rows n tag (statements.Delete q) answers not are fresh = let few = are.few in omega (arith, few)
+pays_refusal rows n tag statement answers not are fresh = omega arith
+
+pub one_refused : (n : ℕ) (tag : Tag) (statement : Statement) → length (refused_request n tag statement) ≤ 1
+one_refused n tag (statements.Insert table values) = omega arith
+one_refused n tag (statements.Select q) = omega arith
+one_refused n tag (statements.Delete q) = omega arith
+one_refused n tag statement = omega arith
+
+pub inserts_or_not : (statement : Statement) → IsInsert statement ⊎ ¬ (IsInsert statement)
+inserts_or_not (statements.Insert table values) = inl tt
+inserts_or_not statement = inr (λ inserts. inserts)
 
 -- and that puts no row
 pub refusal_puts_none : (n : ℕ) (tag : Tag) (statement : Statement) → (tag ≡ tags.Ok → ⊥) → puts (refused_request n tag statement) ≡ 0

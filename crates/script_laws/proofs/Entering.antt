@@ -47,7 +47,7 @@ first_alone n statements.Work (answer ∷ answers) e not is = absurd (none-some 
 pub no_push : {A : Type 0} (xs : List A) (x : A) → xs ++ x ∷ [] ≡ [] → ⊥
 no_push xs x is = let long = length_push xs x in let none = ap length is in omega (arith, long, none)
 
-no_second : (n : ℕ) (statement : Statement) (answers : List Answer) (answer : Answer) (e : Entry) → ¬ (IsDelete statement) → next_request n statement (answers ++ answer ∷ []) ≡ Some e → ⊥
+pub no_second : (n : ℕ) (statement : Statement) (answers : List Answer) (answer : Answer) (e : Entry) → ¬ (IsDelete statement) → next_request n statement (answers ++ answer ∷ []) ≡ Some e → ⊥
 no_second n statement answers answer e not is = no_push answers answer (first_alone n statement (answers ++ answer ∷ []) e not is)
 
 module _ (o : DatabaseState) (n : ℕ) (statement : Statement) (not : ¬ (IsDelete statement)) where

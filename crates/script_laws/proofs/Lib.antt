@@ -26,6 +26,7 @@ pub mod Vacuumed
 pub mod Swept
 pub mod CopySizes
 pub mod Entering
+pub mod Soundness
 pub mod Budgets
 pub mod SessionSums
 pub mod Paid

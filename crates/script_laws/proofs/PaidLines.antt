@@ -10,9 +10,11 @@ use Rattle.std.proofs.lemmas.List.Sums.{sum_by-append, sum_by-cons, sum_by-le, s
 use Rattle.std.proofs.lemmas.Option.{none-some, same_Some}
 use Rattle.block_model.specs.declared.reply.Point.{Point}
 use Rattle.block_model.specs.declared.reply.Refusal.{Refusal}
+use Rattle.block_model.specs.declared.request.Entry.{Entry}
 use Rattle.block_model.specs.declared.row.Row.{Row}
 use Rattle.block_model.specs.declared.schema.Schema.{Schema}
 use Rattle.block_model.specs.DatabaseState.{DatabaseState, initial_state}
+use Rattle.block_model.specs.SerialRun.{serial_run}
 use Rattle.block_model.specs.TableState.{id_cmp, rows_in}
 use Rattle.query_words.specs.declared.line.Line.{Line}
 use Rattle.query_words.specs.declared.line.Line.TheVariants as lines
@@ -28,13 +30,14 @@ use Rattle.store_layout.specs.declared.statement.Statement.TheVariants as statem
 use Rattle.store_layout.specs.SessionNumbers.{is_past_sessions, session_number}
 use Rattle.store_layout.specs.DiskLayout.{DiskLayout}
 use Rattle.script_semantics.specs.LineTexts.{Answers, Does, Finishes, Further, IsFinished, IsLineText, IsNotRead, LastStep, NoFinish, NoStep, NotTaken, Orders, PastSessions, Plain, RefusesPlain, RefusesStart, SaysNothing, Starts, StepsOnce, Submits}
-use Rattle.script_semantics.specs.LineTexts.{Taken, WantsMemory, named, with_statement}
+use Rattle.script_semantics.specs.LineTexts.{Taken, WantsMemory, named, submit_refusal, with_statement}
 use Rattle.script_semantics.specs.Openings.{NoneOpen}
-use Rattle.script_semantics.specs.Place.{Hand, Place, new_hand}
+use Rattle.script_semantics.specs.Place.{Hand, Place, database_at, new_hand}
 use Rattle.script_semantics.specs.Starts.{IsOpening, IsStart}
 use Rattle.script_semantics.specs.StatementSteps.{LacksRoom, Outcome, Steps}
 use Rattle.script_semantics.specs.Stops.{Begun, ComesTo, IsLineStopped, LineComesTo, MovedTo, OfFinish, OfPlain, OfStep, OffDisk, OnTo, PastRoom, Still}
 use Rattle.script_semantics.proofs.Bare.{updated_there}
+use Rattle.script_semantics.proofs.OneStep.{refusal_is}
 use Rattle.script_semantics.proofs.Orders.{updated_here}
 use Rattle.script_laws.specs.RequestBounds.{Deletes, FillJournal, HasRoom, IsDelete, IsFirstPlace, IsNoDelete, LinesMakeFewRequests, ScriptsBegin, ScriptsHaveRoom, ScriptsWithRoomFit, most_of_line, most_of_lines, most_of_order, most_of_statement}
 use Rattle.script_laws.proofs.Budgets.{AreFew, one_owed, owed_by, puts_owed}
@@ -43,9 +46,10 @@ use Rattle.script_laws.proofs.Paid.{IsPaid, PutsFew, owed_at, owed_in, paid_step
 use Rattle.script_laws.proofs.Reaching.{nothing_first}
 use Rattle.script_laws.proofs.Selects.{AreFresh, fresh_taken}
 use Rattle.script_laws.proofs.SessionSums.{sum_below, sum_changed, sum_nothing}
+use Rattle.script_laws.proofs.Soundness.{IsInsert, sound, sound_at, taken_sound}
 
 more_paid : (o : DatabaseState) (rows paid more : ℕ) (p : Place) → IsPaid o rows paid p → IsPaid o rows (paid + more) p
-more_paid o rows paid more p is = record { opening = is.opening; within = sums (length p.journal) (owed_in rows p) is.within; hands = is.hands; fresh = is.fresh }
+more_paid o rows paid more p is = record { opening = is.opening; within = sums (length p.journal) (owed_in rows p) is.within; hands = is.hands; unfailed = is.unfailed; fresh = is.fresh }
   where
     sums : (long all : ℕ) → long + all ≤ paid → long + all ≤ paid + more
     sums long all less = omega (arith, less)
@@ -89,7 +93,7 @@ module _ (o : DatabaseState) (none : NoneOpen o) (first : ℕ) (few : length (ro
       where
         by : (m ≡ n) ⊎ ((with_statement p n statement).hands m ≡ p.hands m) → (m ≡ n) ⊎ (owed_at rows (with_statement p n statement) m ≡ owed_at rows p m)
         by (inl is) = inl is
-        by (inr same) = inr (ap (owed_by rows) same)
+        by (inr same) = inr (ap (λ (h : Option Hand). owed_by rows h + sound_at (database_at p) m) same)
 
     hands_taken : ((m : ℕ) (hand : Hand) → p.hands m ≡ Some hand → AreFew rows hand.statement hand.answers) → (m : ℕ) (hand : Hand) → (with_statement p n statement).hands m ≡ Some hand
         → AreFew rows hand.statement hand.answers
@@ -101,20 +105,38 @@ module _ (o : DatabaseState) (none : NoneOpen o) (first : ℕ) (few : length (ro
             subst (λ (h : Hand). AreFew rows h.statement h.answers) (same_Some _ _ here) (new_few rows statement)
         by (inr same) = are m hand (sym same ∙ has)
 
-    paid_taken : (paid : ℕ) → IsPaid o rows paid p → IsPaid o rows (paid + most_of_statement rows statement) (with_statement p n statement)
-    paid_taken paid is =
+    -- an insert that is taken has a sound transaction
+    sound_taken : submit_refusal p n statement ≡ None → ((m : ℕ) (hand : Hand) → p.hands m ≡ Some hand → IsInsert hand.statement → sound_at (database_at p) m ≡ 1) → (m : ℕ) (hand : Hand)
+        → (with_statement p n statement).hands m ≡ Some hand → IsInsert hand.statement → sound_at (database_at p) m ≡ 1
+    sound_taken taken are m hand has inserts = by (updated_there p.hands n (Some (new_hand statement)) m)
+      where
+        own : (st : Statement) → statement ≡ st → IsInsert st → sound_at (database_at p) n ≡ 1
+        own (statements.Insert table values) same is =
+            taken_sound (database_at p) n (statements.Insert table values) tt
+            (sym (refusal_is p n (statements.Insert table values) empty tt) ∙ subst (λ (st : Statement). submit_refusal p n st ≡ None) same taken)
+        own st same is = absurd is
+
+        by : (m ≡ n) ⊎ ((with_statement p n statement).hands m ≡ p.hands m) → sound_at (database_at p) m ≡ 1
+        by (inl is) =
+            let here : Some (new_hand statement) ≡ Some hand = sym (updated_here p.hands n (Some (new_hand statement))) ∙ ap (with_statement p n statement).hands (sym is) ∙ has in
+            ap (sound_at (database_at p)) is ∙ own statement refl (subst (λ (h : Hand). IsInsert h.statement) (sym (same_Some _ _ here)) inserts)
+        by (inr same) = are m hand (sym same ∙ has) inserts
+
+    paid_taken : (paid : ℕ) → submit_refusal p n statement ≡ None → IsPaid o rows paid p → IsPaid o rows (paid + most_of_statement rows statement) (with_statement p n statement)
+    paid_taken paid taken is =
         let q = with_statement p n statement in
         let changed : sum_below (owed_at rows q) MAX_SESSIONS + owed_at rows p n ≡ sum_below (owed_at rows p) MAX_SESSIONS + owed_at rows q n = sum_changed (owed_at rows p) (owed_at rows q) n taken_at MAX_SESSIONS low in
-        let owes : owed_at rows q n ≡ owed_by rows (Some (new_hand statement)) = ap (owed_by rows) (updated_here p.hands n (Some (new_hand statement))) in
+        let owes : owed_by rows (q.hands n) ≡ owed_by rows (Some (new_hand statement)) = ap (owed_by rows) (updated_here p.hands n (Some (new_hand statement))) in
         record {
           opening = is.opening;
-          within = sums (length p.journal) (owed_in rows p) (owed_in rows q) (owed_at rows p n) (owed_at rows q n) (most_of_statement rows statement) is.within changed owes;
+          within = sums (length p.journal) (owed_in rows p) (owed_in rows q) (owed_by rows (p.hands n)) (owed_by rows (q.hands n)) (sound_at (database_at p) n) (most_of_statement rows statement) is.within changed owes;
           hands = hands_taken is.hands;
+          unfailed = sound_taken taken is.unfailed;
           fresh = fresh_taken p n statement is.fresh;
         }
       where
-        sums : (long p_all q_all p_owes q_owes own : ℕ) → long + p_all ≤ paid → q_all + p_owes ≡ p_all + q_owes → q_owes ≡ own - 0 → long + q_all ≤ paid + own
-        sums long p_all q_all p_owes q_owes own a b c = omega (arith, a, b, c)
+        sums : (long p_all q_all p_owes q_owes stays own : ℕ) → long + p_all ≤ paid → q_all + (p_owes + stays) ≡ p_all + (q_owes + stays) → q_owes ≡ own - 0 → long + q_all ≤ paid + own
+        sums long p_all q_all p_owes q_owes stays own a b c = omega (arith, a, b, c)
 
     put_taken : puts p.journal + 1 ≤ most → PutsFew most n (with_statement p n statement)
     put_taken one = sums (puts p.journal) (puts_owed ((with_statement p n statement).hands n)) (one_owed ((with_statement p n statement).hands n)) one
@@ -138,7 +160,7 @@ module _ (o : DatabaseState) (none : NoneOpen o) (first : ℕ) (few : length (ro
     amid_submit : (statement : Statement) (told : Option Refusal) (q : Place) → Submits p n statement told q → IsAmid (paid + most_of_statement rows statement) q
     amid_submit statement _ _ (Taken taken) =
         let empty = nothing_first (p.hands n) _ taken in
-        (paid_taken p statement empty paid is, put_taken p statement empty one)
+        (paid_taken p statement empty paid taken is, put_taken p statement empty one)
     amid_submit statement _ _ (NotTaken refusal because) = amid_on (most_of_statement rows statement)
     amid_submit statement _ _ (WantsMemory taken may) = amid_on (most_of_statement rows statement)
 
@@ -169,7 +191,7 @@ module _ (o : DatabaseState) (none : NoneOpen o) (first : ℕ) (few : length (ro
   IsBehind said paid p = IsPaid o rows paid p × (puts p.journal ≤ said)
 
   paid_named : (paid : ℕ) (p : Place) (name : List ℕ) → IsPaid o rows paid p → IsPaid o rows paid (named p name)
-  paid_named paid p name is = record { opening = is.opening; within = is.within; hands = is.hands; fresh = is.fresh }
+  paid_named paid p name is = record { opening = is.opening; within = is.within; hands = is.hands; unfailed = is.unfailed; fresh = is.fresh }
 
   module _ (said paid : ℕ) (room : first + suc said ≤ rows) (p : Place) (is : IsBehind said paid p) where
     one_put : puts p.journal + 1 ≤ suc said
@@ -225,13 +247,21 @@ module _ (o : DatabaseState) (none : NoneOpen o) (first : ℕ) (few : length (ro
 at_first : (rows first : ℕ) (p : Place) → IsFirstPlace first p → IsPaid p.opening rows 0 p
 at_first rows first p is = record {
   opening = refl;
-  within = sums (length p.journal) (owed_in rows p) (ap length is.journal) (sum_nothing (owed_at rows p) (λ n. ap (owed_by rows) (is.hands n)) MAX_SESSIONS);
+  within = sums (length p.journal) (owed_in rows p) (ap length is.journal) (sum_nothing (owed_at rows p) nothing MAX_SESSIONS);
   hands = λ n hand has. absurd (none-some _ (sym (is.hands n) ∙ has));
+  unfailed = λ n hand has inserts. absurd (none-some _ (sym (is.hands n) ∙ has));
   fresh = λ n query answers has. absurd (none-some _ (sym (is.hands n) ∙ has));
 }
   where
     sums : (long all : ℕ) → long ≡ 0 → all ≡ 0 → long + all ≤ 0
     sums long all a b = omega (arith, a, b)
+
+    nothing : (n : ℕ) → owed_at rows p n ≡ 0
+    nothing n = both (owed_by rows (p.hands n)) (sound_at (database_at p) n) (ap (owed_by rows) (is.hands n))
+        (ap (λ (journal : List Entry). sound_at (serial_run p.opening journal) n) is.journal ∙ ap sound (is.none_open n))
+      where
+        both : (a b : ℕ) → a ≡ 0 → b ≡ 0 → a + b ≡ 0
+        both a b one two = omega (arith, one, two)
 
 module _ (schema : Schema) (first : ℕ) (start : Place) (begins : IsFirstPlace first start) (rows : ℕ) (script texts : List (List ℕ)) (p : Place) (room : first + length script ≤ rows)
     (answers : AreAnswers (IsLineText schema) start script texts p) where

@@ -24,13 +24,13 @@ use Rattle.script_semantics.specs.Starts.{IsOpening, IsStart}
 use Rattle.script_semantics.specs.StatementSteps.{Moved, Outcome, StepsTo}
 use Rattle.script_semantics.specs.Stops.{IsLineStopped}
 
--- The requests of a statement at most, where the tables have so many rows at most. An insert that is put and then finds an index full makes a second
--- one. A delete looks, marks each row that it finds, and may be refused.
+-- The requests of a statement at most, where the tables have so many rows at most. A begin counts for two: an insert of its transaction that is put and
+-- then finds an index full makes a second request, by which the transaction fails. A delete looks, marks each row that it finds, and may be refused.
 abbrev pub most_of_statement : (rows : ℕ) → Statement → ℕ
-most_of_statement rows statements.Begin = 1
+most_of_statement rows statements.Begin = 2
 most_of_statement rows statements.Commit = 1
 most_of_statement rows statements.Rollback = 1
-most_of_statement rows (statements.Insert table values) = 2
+most_of_statement rows (statements.Insert table values) = 1
 most_of_statement rows (statements.Select q) = 1
 most_of_statement rows (statements.Delete q) = rows + 2
 most_of_statement rows statement = 0
