@@ -1,5 +1,5 @@
 -- What a statement has still to enter, by what its requests so far were answered.
-use Rattle.std.proofs.Common.{◌≡◌, ◌⊎◌, inl, inr, ℕ, suc, ◌+◌, ◌-◌, ◌≤◌, ◌<◌, List, [], ◌∷◌, ◌++◌, length, Option, None, Some, refl, sym, ap, ◌∙◌, subst, arith}
+use Rattle.std.proofs.Common.{◌≡◌, ◌⊎◌, inl, inr, ℕ, suc, ◌+◌, ◌-◌, ◌≤◌, ◌<◌, List, [], ◌∷◌, ◌++◌, length, Option, None, Some, refl, ap, ◌∙◌, subst, arith}
 use Rattle.std.specs.Option.{option_map}
 use Rattle.std.specs.FinMap.{get}
 use Rattle.std.proofs.lemmas.List.{length_push}
@@ -16,9 +16,9 @@ use Rattle.block_model.specs.SerialRun.{serial_run}
 use Rattle.block_model.specs.TableState.{rows_in}
 use Rattle.store_layout.specs.declared.statement.Statement.{Statement}
 use Rattle.store_layout.specs.declared.statement.Statement.TheVariants as statements
-use Rattle.store_layout.specs.StatementRequests.{look_entry, mark_entry, request_entry}
+use Rattle.store_layout.specs.StatementRequests.{mark_entry}
 use Rattle.script_semantics.specs.Place.{Hand}
-use Rattle.script_semantics.specs.Requests.{Course, Enters, First, Further, MakesAll, MakesMark, MakesOne, NoneLeft, OneMore, entered, next_request, refused_request, row_to_mark}
+use Rattle.script_semantics.specs.Requests.{Course, Enters, First, Further, MakesAll, MakesMark, MakesOne, NoneLeft, OneMore, next_request, refused_request, row_to_mark}
 use Rattle.script_laws.specs.RequestBounds.{most_of_statement}
 use Rattle.script_laws.proofs.CopySizes.{few_found, put_of, puts, puts-append}
 use Rattle.script_laws.proofs.Entering.{first_alone, no_push, no_second}

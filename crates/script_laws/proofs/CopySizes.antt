@@ -1,9 +1,7 @@
 -- The copies of open transactions have no more rows than there were at the opening and were put since.
-use Rattle.std.proofs.Common.{◌≡◌, ◌⊎◌, inl, inr, ℕ, ◌+◌, ◌-◌, ◌≤◌, Bool, true, false, not, cond, ◌||◌, List, [], ◌∷◌, ◌++◌, map, length, Option, Some, None, is_some, refl, sym, ap, ◌∙◌, subst, arith}
-use Rattle.std.specs.Prelude.{if◌then◌else◌}
-use Rattle.std.specs.List.{filter, list_any}
-use Rattle.std.specs.FinMap.{FinMap, get, contains_key, insert, remove, retain_keys, entries, keys, find, len, empty, get-insert, get-remove, get-retain_keys, get-entries, get-empty, len-remove, len-empty, len-entries, contains_key-keys, same_map}
-use Rattle.std.specs.declared.cmp.Ordering.TheVariants.{Equal}
+use Rattle.std.proofs.Common.{◌≡◌, ◌⊎◌, inl, inr, ℕ, ◌+◌, ◌-◌, ◌≤◌, Bool, true, false, not, cond, ◌||◌, List, [], ◌∷◌, ◌++◌, length, Option, Some, None, is_some, refl, sym, ap, ◌∙◌, subst, arith}
+use Rattle.std.specs.List.{list_any}
+use Rattle.std.specs.FinMap.{get, contains_key, insert, remove, retain_keys, entries, keys, find, len, empty, get-insert, get-remove, get-retain_keys, get-entries, get-empty, len-remove, len-empty, len-entries, contains_key-keys, same_map}
 use Rattle.std.specs.Cmp.{Equal-is}
 use Rattle.std.specs.Ordering.{eq_by_cmp}
 use Rattle.std.specs.FinSet as set
@@ -25,7 +23,7 @@ use Rattle.block_model.specs.TableState.{TableState, id_cmp, ids_exact, ids_tota
 use Rattle.block_model.specs.DatabaseState.{DatabaseState, OpenTransaction}
 use Rattle.block_model.specs.NumberMaps.{found_after_put, found_after_removal}
 use Rattle.block_model.specs.RequestEffect.{Answer, Found, after_begin, after_commit, after_mark, after_put, after_request, effect_at, effect_is, effect_within, failed_transaction, is_conflict, is_own}
-use Rattle.block_model.specs.RequestEffect.{merged, new_transaction, next_row, own_rows, reply_to, rows_found, with_rows, with_transaction, without_transaction}
+use Rattle.block_model.specs.RequestEffect.{new_transaction, next_row, own_rows, reply_to, rows_found, with_rows, with_transaction, without_transaction}
 use Rattle.block_model.specs.RequestLaws.{after_merge, commit_merges, effect_by, failed_commit_ends, mark_effect, outside_leads}
 use Rattle.block_model.specs.SerialRun.{serial_run}
 use Rattle.store_layout.specs.StatementRequests.{found_in, look_entry}

@@ -1,5 +1,5 @@
 -- A line that is read has its order's verb as its second word.
-use Rattle.std.proofs.Common.{◌≡◌, ◌≢◌, ◌⊎◌, inl, inr, ℕ, ◌≤◌, Bool, true, false, List, [], ◌∷◌, length, slice_get, Option, None, Some, Ok, Err, refl, sym, ap, ◌∙◌, subst, arith}
+use Rattle.std.proofs.Common.{◌≡◌, ◌⊎◌, inl, inr, ℕ, ◌≤◌, Bool, true, false, List, [], ◌∷◌, length, slice_get, None, Some, Ok, refl, sym, ap, ◌∙◌, subst}
 use Rattle.std.specs.Prelude.{Result, codes, nat_lt}
 use Rattle.std.specs.Str.{bytes_eq}
 use Rattle.std.proofs.lemmas.Bool.{false≢true}
@@ -26,7 +26,7 @@ use Rattle.query_words.proofs.LineLawLemmas.{unstopped}
 use Rattle.store_layout.specs.declared.statement.Statement.{Statement}
 use Rattle.store_layout.specs.declared.statement.Statement.TheVariants as statements
 use Rattle.script_laws.specs.LineVerbs.{HasNoDelete, LinesAreReadByVerbs, WordsBoundRequests, order_verb, word_at}
-use Rattle.script_laws.specs.RequestBounds.{Deletes, IsNoDelete, most_of_line}
+use Rattle.script_laws.specs.RequestBounds.{IsNoDelete, most_of_line}
 use Rattle.script_laws.proofs.Fits.{judged}
 use Rattle.script_laws.proofs.PaidLines.{no_delete_read}
 

@@ -1,5 +1,5 @@
 -- At each place the journal and what the statements in hand may still enter are within a budget, and a step leaves it so.
-use Rattle.std.proofs.Common.{◌≡◌, ◌⊎◌, inl, inr, ℕ, ◌+◌, ◌-◌, ◌≤◌, ◌<◌, List, [], ◌∷◌, ◌++◌, length, Option, None, Some, refl, sym, ap, ◌∙◌, subst, arith, length-append}
+use Rattle.std.proofs.Common.{◌≡◌, ◌⊎◌, inl, inr, ℕ, ◌+◌, ◌≤◌, ◌<◌, List, ◌++◌, length, Option, None, Some, refl, sym, ap, ◌∙◌, subst, arith, length-append}
 use Rattle.std.specs.FinMap.{get}
 use Rattle.std.proofs.lemmas.Bool.{cases_eq}
 use Rattle.std.proofs.lemmas.Option.{none-some, same_Some}
@@ -22,7 +22,6 @@ use Rattle.script_semantics.specs.Place.{Hand, Place, database_at}
 use Rattle.script_semantics.specs.Requests.{Course, MakesAll, refused_request}
 use Rattle.script_semantics.specs.StatementSteps.{AtOnce, ForMemory, GoesOn, HeapIsFull, IndexIsFull, IsRefused, IsWaiting, LacksMemoryAtOnce, MakesAt, MeetsConflict, NoNumber, NothingAsked, Outcome, RefusesSo, Replies, StepsTo, course_of}
 use Rattle.script_semantics.specs.Turns.{Leads}
-use Rattle.script_laws.specs.RequestBounds.{most_of_statement}
 use Rattle.script_laws.proofs.Budgets.{AreFew, Grows, IsFreshSelect, SeesFew, all_grow, begin_pays, begins_or_not, inserts_or_not, mark_grows, one_grows, one_refused, others_pay, owed, owed_by, pays, pays_refusal, puts_left, puts_owed, refusal_puts_none, stays_as_is}
 use Rattle.script_laws.proofs.CopySizes.{few_copied, puts, puts-append}
 use Rattle.script_laws.proofs.Selects.{AreFresh, fresh_step, select_hand}

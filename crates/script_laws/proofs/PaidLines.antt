@@ -1,14 +1,13 @@
 -- Lines of a script stay within the budget to which each of them adds its own.
-use Rattle.std.proofs.Common.{◌≡◌, ◌⊎◌, inl, inr, ℕ, zero, suc, ◌+◌, ◌-◌, ◌*◌, ◌≤◌, ◌<◌, false, List, [], ◌∷◌, ◌++◌, length, Option, None, Some, Ok, refl, sym, ap, ◌∙◌, subst, arith, length-append}
-use Rattle.std.specs.Prelude.{Result, All, slice_index_or, sum_by}
+use Rattle.std.proofs.Common.{◌≡◌, ◌⊎◌, inl, inr, ℕ, suc, ◌+◌, ◌-◌, ◌*◌, ◌≤◌, ◌<◌, false, List, [], ◌∷◌, ◌++◌, length, Option, None, Some, Ok, refl, sym, ap, ◌∙◌, subst, arith, length-append}
+use Rattle.std.specs.Prelude.{Result, All, slice_index_or}
 use Rattle.std.specs.FinMap.{entries, get-empty, len-empty, len-entries}
 use Rattle.std.specs.Ordering.{nat_cmp}
 use Rattle.std.proofs.lemmas.Bool.{leb-false}
 use Rattle.std.proofs.lemmas.List.{length_push, length-map}
-use Rattle.std.proofs.lemmas.List.Elements.{All-weaker}
+use Rattle.std.proofs.lemmas.List.Elements.{All-head, All-tail}
 use Rattle.std.proofs.lemmas.List.Sums.{sum_by-append, sum_by-cons, sum_by-le, sum_by-le-sum_by, sum_by_push}
 use Rattle.std.proofs.lemmas.Option.{none-some, same_Some}
-use Rattle.block_model.specs.declared.reply.Point.{Point}
 use Rattle.block_model.specs.declared.reply.Refusal.{Refusal}
 use Rattle.block_model.specs.declared.request.Entry.{Entry}
 use Rattle.block_model.specs.declared.row.Row.{Row}
@@ -39,12 +38,12 @@ use Rattle.script_semantics.specs.Stops.{Begun, ComesTo, IsLineStopped, LineCome
 use Rattle.script_semantics.proofs.Bare.{updated_there}
 use Rattle.script_semantics.proofs.OneStep.{refusal_is}
 use Rattle.script_semantics.proofs.Orders.{updated_here}
-use Rattle.script_laws.specs.RequestBounds.{Deletes, FillJournal, HasRoom, IsDelete, IsFirstPlace, IsNoDelete, LinesMakeFewRequests, ScriptsBegin, ScriptsHaveRoom, ScriptsWithRoomFit, most_of_line, most_of_lines, most_of_order, most_of_statement}
+use Rattle.script_laws.specs.RequestBounds.{Deletes, FillJournal, HasRoom, IsDelete, IsFirstPlace, IsNoDelete, LinesMakeFewRequests, ScriptsBegin, ScriptsHaveRoom, ScriptsWithRoomFit, begins_of, begins_of_line, begins_of_order, most_of_line, most_of_lines, most_of_order, most_of_statement}
 use Rattle.script_laws.proofs.Budgets.{AreFew, one_owed, owed_by, puts_owed}
 use Rattle.script_laws.proofs.CopySizes.{puts}
 use Rattle.script_laws.proofs.Paid.{IsPaid, PutsFew, owed_at, owed_in, paid_step}
 use Rattle.script_laws.proofs.Reaching.{nothing_first}
-use Rattle.script_laws.proofs.Selects.{AreFresh, fresh_taken}
+use Rattle.script_laws.proofs.Selects.{fresh_taken}
 use Rattle.script_laws.proofs.SessionSums.{sum_below, sum_changed, sum_nothing}
 use Rattle.script_laws.proofs.Soundness.{IsInsert, sound, sound_at, taken_sound}
 
@@ -364,10 +363,43 @@ all_within schema rows each script all enough = joined (most_of_lines schema row
     joined : (sum most : ℕ) → sum ≤ most → most ≤ MAX_ENTRIES → sum ≤ MAX_ENTRIES
     joined sum most a b = omega (arith, a, b)
 
-room_without : (schema : Schema) (rows : ℕ) (script : List (List ℕ)) → All (IsNoDelete schema) script → length script * 2 ≤ MAX_ENTRIES → HasRoom schema rows script
-room_without schema rows script none enough =
-    let most = rows + length script in
-    all_within schema most 2 script (All-weaker (IsNoDelete schema) (λ (line : List ℕ). most_of_line most (line_of schema line) ≤ 2) (λ line not. no_delete_read most (line_of schema line) not) script none) enough
+one_of : (rows : ℕ) (statement : Statement) → ¬ (IsDelete statement) → most_of_statement rows statement ≤ 1 + begins_of_order (orders.Whole statement)
+one_of rows (statements.Delete q) not = absurd (not tt)
+one_of rows statements.Begin not = omega arith
+one_of rows statements.Commit not = omega arith
+one_of rows statements.Rollback not = omega arith
+one_of rows (statements.Insert table values) not = omega arith
+one_of rows (statements.Select q) not = omega arith
+one_of rows statement not = omega arith
+
+started_begins : (statement : Statement) → begins_of_order (orders.Start statement) ≡ begins_of_order (orders.Whole statement)
+started_begins statements.Begin = refl
+started_begins statement = refl
+
+one_of_order : (rows : ℕ) (order : Order) → ¬ (Deletes order) → most_of_order rows order ≤ 1 + begins_of_order order
+one_of_order rows (orders.Whole statement) not = one_of rows statement not
+one_of_order rows (orders.Start statement) not = let one = one_of rows statement not in let same = started_begins statement in omega (arith, one, same)
+one_of_order rows order not = omega arith
+
+one_of_read : (rows : ℕ) (read : Result Line LineFault) → ((name : List ℕ) (order : Order) → read ≡ Ok (lines.Say name order) → ¬ (Deletes order)) → most_of_line rows read ≤ 1 + begins_of_line read
+one_of_read rows (Ok (lines.Say name order)) not = one_of_order rows order (not name order refl)
+one_of_read rows read not = omega arith
+
+one_each : (schema : Schema) (rows : ℕ) (script : List (List ℕ)) → All (IsNoDelete schema) script → most_of_lines schema rows script ≤ length script + begins_of schema script
+one_each schema rows [] none = omega arith
+one_each schema rows (line ∷ script) none =
+    joined (most_of_lines schema rows (line ∷ script)) (most_of_line rows (line_of schema line)) (most_of_lines schema rows script) (begins_of schema (line ∷ script)) (begins_of_line (line_of schema line)) (begins_of schema script)
+    (length script) (sum_by-cons (λ (l : List ℕ). most_of_line rows (line_of schema l)) line script) (sum_by-cons (λ (l : List ℕ). begins_of_line (line_of schema l)) line script)
+    (one_of_read rows (line_of schema line) (All-head (IsNoDelete schema) line script none)) (one_each schema rows script (All-tail (IsNoDelete schema) line script none))
+  where
+    joined : (most own rest begins one more count : ℕ) → most ≡ own + rest → begins ≡ one + more → own ≤ 1 + one → rest ≤ count + more → most ≤ suc count + begins
+    joined most own rest begins one more count a b c d = omega (arith, a, b, c, d)
+
+room_without : (schema : Schema) (rows : ℕ) (script : List (List ℕ)) → All (IsNoDelete schema) script → length script + begins_of schema script ≤ MAX_ENTRIES → HasRoom schema rows script
+room_without schema rows script none enough = through (most_of_lines schema (rows + length script) script) (length script + begins_of schema script) (one_each schema (rows + length script) script none) enough
+  where
+    through : (a b : ℕ) → a ≤ b → b ≤ MAX_ENTRIES → a ≤ MAX_ENTRIES
+    through a b one two = omega (arith, one, two)
 
 room_of_any : (schema : Schema) (rows : ℕ) (script : List (List ℕ)) → length script * (rows + length script + 2) ≤ MAX_ENTRIES → HasRoom schema rows script
 room_of_any schema rows script enough =

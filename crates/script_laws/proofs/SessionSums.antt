@@ -1,5 +1,5 @@
 -- Sums over the sessions, of which one changes.
-use Rattle.std.proofs.Common.{◌≡◌, ◌≢◌, ◌⊎◌, inl, inr, ℕ, zero, suc, ◌+◌, ◌≤◌, ◌<◌, refl, ap, arith}
+use Rattle.std.proofs.Common.{◌≡◌, ◌⊎◌, inl, inr, ℕ, zero, suc, ◌+◌, ◌≤◌, ◌<◌, refl, ap, arith}
 use Rattle.std.proofs.lemmas.Bool.{cases_eq}
 
 -- of the numbers at 0, 1 and so on, as many as are counted

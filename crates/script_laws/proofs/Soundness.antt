@@ -1,11 +1,10 @@
 -- Which requests leave a session's transaction sound, that is under way and not failed.
-use Rattle.std.proofs.Common.{◌≡◌, ℕ, ◌+◌, ◌≤◌, Bool, true, false, List, [], ◌∷◌, ◌++◌, Option, None, Some, refl, sym, ap, ◌∙◌, subst, arith, append-nil}
+use Rattle.std.proofs.Common.{◌≡◌, ℕ, ◌≤◌, Bool, true, false, List, [], ◌∷◌, ◌++◌, Option, None, Some, refl, sym, ap, ◌∙◌, subst, arith, append-nil}
 use Rattle.std.specs.Prelude.{if◌then◌else◌}
 use Rattle.std.specs.Option.{option_map}
-use Rattle.std.specs.FinMap.{get, insert, remove}
+use Rattle.std.specs.FinMap.{get}
 use Rattle.std.proofs.lemmas.Cmp.{nat_cmp_total}
 use Rattle.std.proofs.lemmas.Option.{none-some, same_Some}
-use Rattle.block_model.specs.declared.reply.Refusal.{Refusal}
 use Rattle.block_model.specs.declared.reply.Refusal.TheVariants as refusals
 use Rattle.block_model.specs.declared.request.Entry.{Entry}
 use Rattle.block_model.specs.declared.request.Request.{Request}
@@ -17,7 +16,7 @@ use Rattle.block_model.specs.declared.row.RowId.{RowId}
 use Rattle.block_model.specs.declared.value.Value.{Value}
 use Rattle.block_model.specs.DatabaseState.{DatabaseState, OpenTransaction}
 use Rattle.block_model.specs.NumberMaps.{get_put_here, get_removed_here}
-use Rattle.block_model.specs.RequestEffect.{Answer, Found, after_commit, after_mark, after_request, effect_at, effect_outside, effect_within, after_put, next_row, failed_transaction, is_conflict, with_transaction, without_transaction}
+use Rattle.block_model.specs.RequestEffect.{Answer, Found, after_commit, after_mark, after_request, effect_at, effect_outside, effect_within, after_put, failed_transaction, is_conflict, with_transaction, without_transaction}
 use Rattle.block_model.specs.RequestLaws.{commit_merges, effect_by, failed_commit_ends, mark_effect, others_stay}
 use Rattle.block_model.specs.SerialRun.{serial_run, serial_run-append}
 use Rattle.store_layout.specs.declared.statement.Statement.{Statement}

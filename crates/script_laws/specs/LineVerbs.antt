@@ -1,5 +1,5 @@
 -- What a line makes at most, by its second word, and by its third one where that is `start`.
-use Rattle.std.specs.Prelude.{◌≡◌, ◌≢◌, ◌⊎◌, ℕ, ◌≤◌, codes, List, slice_get, Option, Some, Ok}
+use Rattle.std.specs.Prelude.{◌≡◌, ◌≢◌, ℕ, ◌≤◌, codes, List, slice_get, Option, Some, Ok}
 use Rattle.block_model.specs.declared.schema.Schema.{Schema}
 use Rattle.query_words.specs.declared.line.Line.TheVariants as lines
 use Rattle.query_words.specs.declared.line.Order.{Order}

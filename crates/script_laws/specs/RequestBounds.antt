@@ -1,5 +1,5 @@
 -- How many requests a script makes at most, and which scripts fit the journal.
-use Rattle.std.specs.Prelude.{◌≡◌, ℕ, ◌+◌, ◌*◌, ◌≤◌, ◌<◌, List, [], ◌∷◌, ◌++◌, length, All, None, Result, Ok, sum_by}
+use Rattle.std.specs.Prelude.{◌≡◌, ℕ, ◌+◌, ◌*◌, ◌≤◌, List, [], ◌∷◌, ◌++◌, length, All, None, Result, Ok, sum_by}
 use Rattle.block_model.specs.DatabaseState.{DatabaseState}
 use Rattle.block_model.specs.TableState.{rows_in}
 use Rattle.block_model.specs.declared.reply.Point.{Point}
@@ -99,10 +99,24 @@ Deletes order = ⊥
 abbrev pub IsNoDelete : Schema → List ℕ → Type 0
 IsNoDelete schema line = (name : List ℕ) (order : Order) → line_of schema line ≡ Ok (lines.Say name order) → ¬ (Deletes order)
 
--- Lines without deletes have room where they are half as many as the journal has places, however large the tables are. Any lines have it where each of
--- them may mark all rows, those that were there and one for each line. First lines of those that have it do.
+-- the line begins a transaction
+abbrev pub begins_of_order : Order → ℕ
+begins_of_order (orders.Whole statements.Begin) = 1
+begins_of_order (orders.Start statements.Begin) = 1
+begins_of_order order = 0
+
+abbrev pub begins_of_line : Result Line LineFault → ℕ
+begins_of_line (Ok (lines.Say name order)) = begins_of_order order
+begins_of_line said = 0
+
+-- in how many lines one begins
+abbrev pub begins_of : Schema → List (List ℕ) → ℕ
+begins_of schema script = sum_by (λ line. begins_of_line (line_of schema line)) script
+
+-- Lines without deletes have room where they and their begins are as many as the journal has places, however large the tables are. Any lines have it
+-- where each of them may mark all rows, those that were there and one for each line. First lines of those that have it do.
 pub record ScriptsHaveRoom : Type 0 where
-  pub without : (schema : Schema) (rows : ℕ) (script : List (List ℕ)) → All (IsNoDelete schema) script → length script * 2 ≤ MAX_ENTRIES → HasRoom schema rows script
+  pub without : (schema : Schema) (rows : ℕ) (script : List (List ℕ)) → All (IsNoDelete schema) script → length script + begins_of schema script ≤ MAX_ENTRIES → HasRoom schema rows script
   pub any : (schema : Schema) (rows : ℕ) (script : List (List ℕ)) → length script * (rows + length script + 2) ≤ MAX_ENTRIES → HasRoom schema rows script
   pub front : (schema : Schema) (rows : ℕ) (script more : List (List ℕ)) → HasRoom schema rows (script ++ more) → HasRoom schema rows script
 

@@ -1,4 +1,3 @@
-use Rattle.query_words.proofs.FitLemmas.{KnowsValues}
 use Rattle.script_laws.proofs.LineVerbs.{read_by_verbs, words_bound_requests}
 use Rattle.script_laws.proofs.requests.words_bound_requests.Goals as goal
 
