@@ -256,7 +256,7 @@ module _ (one : HaveOneLayout) (law : AreNotDamaged) (layout : DiskLayout) (seed
       ]
       new_complete write disk_ damage (inr run) room = demo_complete layout seed rows status (StopsOfRun mid new) new k k' run.0 run.1 run.2 write disk_ damage room
 
-    module _ (r w : Type 0) (holds : IsTrue old.tells_contents → HoldsFresh mid layout) (sums : SumsFresh status seed rows mid new k k' w) where
+    module _ (r w : Type 0) (holds : IsTrue old.tells_contents → HoldsFresh mid layout) (sums : SumsFresh status seed rows mid new k k' w) (fits_journal : ¬ (DemoFillsJournal layout seed rows)) where
       no_damage_then : status ≡ 11 → IsTrue old.tells_contents → ⊥
       no_damage_then eleven tells =
           let damage = sums.damaged eleven (moments.tells_contents ∙ tells) in
@@ -278,7 +278,7 @@ module _ (one : HaveOneLayout) (law : AreNotDamaged) (layout : DiskLayout) (seed
             refused_disk = λ wrong. absurd (wrong fit.0);
             damaged = no_damage_then;
             no_usage = sums.others.0;
-            spent = λ tells eight. new_spent l (far tells l) eight;
-            complete = λ _ no_write no_disk tells fits room.
-                new_complete l (λ e. no_write (sums.write_fault e)) (λ e. no_disk (rose e)) (λ e. no_damage_then e tells) (far tells l) room;
+            spent = λ tells eight. fits_journal (new_spent l (far tells l) eight);
+            complete = λ _ no_write no_disk tells fits.
+                new_complete l (λ e. no_write (sums.write_fault e)) (λ e. no_disk (rose e)) (λ e. no_damage_then e tells) (far tells l) fits_journal;
           }

@@ -162,7 +162,7 @@ module _ (old : Told) (l k : Option (List ℕ)) (only : (image : List ℕ) → I
   pub idle_complete_of : (task : Task) → IsCompleteOf task 7 old l
   idle_complete_of (Init layout) = λ fits. inr refl
   idle_complete_of (Run layout) = λ tells fits limit room. inr refl
-  idle_complete_of (Demo layout seed rows) = λ tells fits room. inr refl
+  idle_complete_of (Demo layout seed rows) = λ tells fits. inr refl
   idle_complete_of RunStored = λ tells layout table holds limit room. inr refl
 
 -- ---- a store that isn't opened

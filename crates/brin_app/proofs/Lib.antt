@@ -1,6 +1,7 @@
 pub mod Asked
 pub mod Crash
 pub mod DemoDone
+pub mod DemoFits
 pub mod DemoRuns
 pub mod Doing
 pub mod Heeding
@@ -11,6 +12,7 @@ pub mod Outputs
 pub mod Performed
 pub mod Running
 pub mod Saying
+pub mod ScriptRoom
 pub mod Simulated
 pub mod Starting
 pub mod Stepping

@@ -2,6 +2,7 @@
 use Rattle.std.specs.Prelude.{◌≡◌, ◌≢◌, ◌⊎◌, ℕ, IsTrue, List, Option, Ok, Err}
 use Rattle.std.specs.Io.KnownBytes.{Appends}
 use Rattle.block_model.specs.DatabaseState.{initial_state}
+use Rattle.command_line.specs.Laws.{AreDemoNumbers}
 use Rattle.disk_trait.specs.Told.{Told}
 use Rattle.io_traits.specs.Written.{AppendsPart}
 use Rattle.store_layout.specs.DiskLayout.{DiskLayout, disk_size}
@@ -62,14 +63,13 @@ pub record IsDemoOutput (status : ℕ) (layout : DiskLayout) (seed rows : ℕ) (
   pub run : IsTrue old.tells_contents → IsUnmade status layout old new left left' taken taken'
       ⊎ ((start : Place) × IsStart layout start × IsDemoRun status layout seed rows (StopsOfNewRun old new) new taken taken' start)
 
--- some first lines of the demo lead to a journal that has no room for the requests of the next one
+-- Some first lines of the demo lead to a journal that has no room for the requests of the next one. No demo does so.
 abbrev pub DemoFillsJournal : DiskLayout → (seed rows : ℕ) → Type 0
 DemoFillsJournal layout seed rows = (start : Place) × IsStart layout start × ((after : Place) × IsLeftOff layout seed rows start after Full)
 
--- 8 comes only there, where the disk tells its contents; and else, where it has the size, the demo is run to its end or memory ran out
-abbrev pub IsSpentByDemo : ℕ → DiskLayout → (seed rows : ℕ) → Told → Type 0
-IsSpentByDemo status layout seed rows disk = IsTrue disk.tells_contents → status ≡ 8 → DemoFillsJournal layout seed rows
+abbrev pub NoDemoFillsJournal : Type 0
+NoDemoFillsJournal = (layout : DiskLayout) (seed rows : ℕ) → AreDemoNumbers seed rows → ¬ (DemoFillsJournal layout seed rows)
 
-abbrev pub IsCompleteDemo : ℕ → DiskLayout → (seed rows : ℕ) → Told → Type 0
-IsCompleteDemo status layout seed rows disk =
-    IsTrue disk.tells_contents → disk.size ≡ disk_size layout → ¬ (DemoFillsJournal layout seed rows) → (status ≡ 0) ⊎ (status ≡ 7)
+-- so where the disk tells its contents and has the size, the demo is run to its end or memory ran out
+abbrev pub IsCompleteDemo : ℕ → DiskLayout → Told → Type 0
+IsCompleteDemo status layout disk = IsTrue disk.tells_contents → disk.size ≡ disk_size layout → (status ≡ 0) ⊎ (status ≡ 7)

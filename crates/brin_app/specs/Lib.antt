@@ -6,6 +6,7 @@ pub mod Leading
 pub mod Orders
 pub mod SessionPlaces
 pub mod ScriptOutput
+pub mod ScriptRoom
 pub mod Simulations
 pub mod Statuses
 pub mod StatusCauses

@@ -15,7 +15,7 @@ use Rattle.script_run.specs.Runs.{AreFirst}
 use Rattle.brin_app.specs.declared.status.TheConstants.{SCRIPT_LIMIT}
 use Rattle.brin_app.specs.declared.top.Task.{Task}
 use Rattle.brin_app.specs.declared.top.Task.TheVariants.{Demo, Init, Run, RunStored}
-use Rattle.brin_app.specs.DemoOutput.{IsCompleteDemo, IsSpentByDemo}
+use Rattle.brin_app.specs.DemoOutput.{IsCompleteDemo}
 use Rattle.brin_app.specs.ScriptOutput.{HoldsTable, IsIdle, StartsOver, Stops, Texts}
 use Rattle.brin_app.specs.Statuses.{IsStatus}
 use Rattle.brin_app.specs.TaskOutputs.{IsOutputOf}
@@ -89,11 +89,11 @@ abbrev pub HasSpentCauses : ℕ → (Place → Type 0) → DiskLayout → Option
 HasSpentCauses status Starts layout (Some old) (Some new) = IsSpentExactly status Starts layout old new
 HasSpentCauses status Starts layout old new = Unit {0}
 
--- where the disk tells its contents: over a new store, and over each that may stand there
+-- where the disk tells its contents: over a new store, and over each that may stand there; a demo fits the journal
 abbrev pub IsSpentOf : Task → ℕ → Told → Option (List ℕ) → Option (List ℕ) → Type 0
 IsSpentOf (Init layout) status disk left left' = status ≢ 8
 IsSpentOf (Run layout) status disk left left' = IsTrue disk.tells_contents → HasSpentCauses status (IsStart layout) layout left left'
-IsSpentOf (Demo layout seed rows) status disk left left' = IsSpentByDemo status layout seed rows disk
+IsSpentOf (Demo layout seed rows) status disk left left' = IsTrue disk.tells_contents → status ≢ 8
 IsSpentOf RunStored status disk left left' =
     IsTrue disk.tells_contents → (layout : DiskLayout) (table : TableState) (holds : HoldsTable disk layout table) → HasSpentCauses status (StartsOver layout holds.pages holds.image.next table) layout left left'
 
@@ -115,7 +115,7 @@ IsComplete status Starts layout left = FitsLimit left → FitsJournal Starts lay
 abbrev pub IsCompleteOf : Task → ℕ → Told → Option (List ℕ) → Type 0
 IsCompleteOf (Init layout) status disk left = disk.size ≡ disk_size layout → (status ≡ 0) ⊎ (status ≡ 7)
 IsCompleteOf (Run layout) status disk left = IsTrue disk.tells_contents → disk.size ≡ disk_size layout → IsComplete status (IsStart layout) layout left
-IsCompleteOf (Demo layout seed rows) status disk left = IsCompleteDemo status layout seed rows disk
+IsCompleteOf (Demo layout seed rows) status disk left = IsCompleteDemo status layout disk
 IsCompleteOf RunStored status disk left =
     IsTrue disk.tells_contents → (layout : DiskLayout) (table : TableState) (holds : HoldsTable disk layout table) → IsComplete status (StartsOver layout holds.pages holds.image.next table) layout left
 

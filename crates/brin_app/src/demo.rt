@@ -17,7 +17,7 @@ ghost use Rattle.brin_app.specs.ScriptOutput.{RunsThrough};
 ghost use Rattle.brin_app.specs.StatusCauses.{IsDoneSo};
 ghost use Rattle.brin_app.specs.Statuses.{IsStatus};
 
-use crate::laws::a_stored_table_is_not_damaged;
+use crate::laws::{a_demo_fits_the_journal, a_stored_table_is_not_damaged};
 use crate::sessions::Sessions;
 use crate::top::{make, refused, status};
 use demo_script::{play, render_summary};
@@ -56,6 +56,7 @@ pub(crate) fn run_demo<D: Disk + Drop, K: Sink>(
     an_image_opens_to_one_map(layout);
     a_stored_table_is_not_damaged();
     a_new_store_opens_to_fresh_pages(layout);
+    a_demo_fits_the_journal();
     match make(layout, &mut disk) {
         Ok(()) => demo_on(alloc, disk, numbers, sink),
         Err(status) => (status, disk),

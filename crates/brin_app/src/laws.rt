@@ -9,11 +9,16 @@ ghost use Rattle.page_map.specs.PageMap.{PageMap};
 ghost use Rattle.recovery.specs.Damaged.{IsDamaged};
 ghost use Rattle.recovery.specs.Opens.{Opens};
 ghost use Rattle.recovery.specs.PageOrder.{AreInOrder};
+ghost use Rattle.brin_app.specs.DemoOutput.{NoDemoFillsJournal};
+ghost use Rattle.brin_app.specs.ScriptRoom.{ScriptsFitJournal};
 
 use index_steps::{every_index_of_a_table_is_listed, tuples_of_an_index_are_lawful};
 use log_area::an_area_opens_in_one_way;
 use page_map::maps_with_the_same_pages_are_equal;
 use page_redo::redo_is_a_function;
+use script_laws::{
+    short_scripts_have_room, the_requests_of_lines_are_bounded, words_bound_requests,
+};
 use wal_record::no_change_begins_another;
 
 /// Each layout that passes no limit has a place at which a script starts. Does nothing.
@@ -32,4 +37,21 @@ pub(crate) fn a_stored_table_is_not_damaged()
     no_change_begins_another();
     redo_is_a_function();
     maps_with_the_same_pages_are_equal();
+}
+
+/// No demo fills the journal: the insert of each of its 200000 rows makes two requests at most, and its other lines are few. Does nothing.
+pub(crate) fn a_demo_fits_the_journal()
+    ensures { NoDemoFillsJournal }
+{
+    the_requests_of_lines_are_bounded();
+    words_bound_requests();
+}
+
+/// A script fits the journal, as `complete` of `brin_main` asks, where its lines have room: `short_scripts_have_room` of script_laws tells which do.
+/// Does nothing.
+pub fn short_scripts_fit()
+    ensures { ScriptsFitJournal }
+{
+    the_requests_of_lines_are_bounded();
+    short_scripts_have_room();
 }

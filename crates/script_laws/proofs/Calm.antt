@@ -1,13 +1,20 @@
--- A table as one without scans, whose rows don't count: the steps of its statements are steps there, whatever rows come to count.
+-- A table as one without scans, whose rows don't count: the steps of its statements are steps there, whatever rows come to count; and what rests and is
+-- covered is so there.
 use Rattle.std.proofs.Common.{◌≡◌, ◌⊎◌, inl, inr, ℕ, false, Option, None, Some, ◌∷◌, refl, sym, ap, ◌∙◌, subst}
+use Rattle.std.specs.Prelude.{IsTrue}
+use Rattle.std.proofs.lemmas.Bool.{false≢true}
 use mathlib.Core.Path.{fun_ext}
 use Rattle.block_model.specs.declared.place.Spot.{Spot}
 use Rattle.block_model.specs.declared.row.Row.{Row}
-use Rattle.coverage.specs.IndexView.{Building, IndexView}
-use Rattle.coverage.specs.Statements.{Phase, Statement, Idle, Inserting, Maintaining, Holding, building_of, loose_of}
+use Rattle.coverage.specs.IndexView.{Building, IndexTuple, IndexView, IsBuilding, IsTupleOf, Progress}
+use Rattle.coverage.specs.IsCovered.{StatementHolds}
+use Rattle.coverage.specs.IsSound.{IsLeftUnnamed}
+use Rattle.coverage.specs.PageOrder.{AreOrdered}
+use Rattle.coverage.specs.Statements.{Phase, Statement, Idle, Inserting, Maintaining, Holding, Scanning, building_of, loose_of}
 use Rattle.coverage.specs.Steps.{IsUnnamed, SweepsTuples, InsertStep, SummariseLockPasses}
 use Rattle.coverage.specs.Verdicts.{Full, Waits, SwapVerdict, ClearVerdict}
 use Rattle.coverage.specs.Waiting.{IsPhaseWaiting}
+use Rattle.coverage.specs.TableCovered.{IsTableAtRest, IsTableCovered}
 use Rattle.coverage.specs.Table.{Job, EachRange, OneRange, WholeRanges, Desummarising, Task, Resting, Reaches, SweepsFrom, Scans, Marks, TableState, index_view_at, seen_by}
 use Rattle.coverage.specs.TableSteps.{AsksSummary, BeginsScan, BeginsWith, Blocked, Conflicts, Desummarize, DesummariseWaits, Does, Fails, GivesLock, GoesOn, HasPut, HasRange, HasStep, IndexFull}
 use Rattle.coverage.specs.TableSteps.{Inserted, InsertCompletes, InsertGoes, InsertWaits, IsBlocked, IsInsertRefused, IsLastIndex, IsMaintained, IsMaintainRefused, IsVacuuming, JobStep, JudgesNext, Judges}
@@ -244,3 +251,59 @@ settles_calm s w v (GivesLock old done turns given rows indexes) =
 
 pub steps_calm : (s : ℕ) (w v : TableState) → TableStep s w v → TableStep s (calm w) (calm v)
 steps_calm s w v step = record { between = calm step.between; does = does_calm s w step.between step.does; settles = settles_calm s step.between v step.settles }
+
+-- ---- a store that was opened
+
+-- a statement at nothing holds no place, and is no scan
+abbrev IsScanning : Statement → Type 0
+IsScanning (Scanning scan) = Unit
+IsScanning statement = ⊥
+
+module _ (w : TableState) (rest : IsTableAtRest w) where
+  idle_calm : (i s : ℕ) → seen_by i (calmed (w.task s)) ≡ Idle
+  idle_calm i s = ap (λ (task : Task). seen_by i (calmed task)) (rest.resting s)
+
+  pub rest_calm : IsTableAtRest (calm w)
+  rest_calm = record {
+    resting = λ s. ap calmed (rest.resting s);
+    free = rest.free;
+    rest = λ i below.
+        record {
+          idle = idle_calm i;
+          unlocked = (rest.rest i below).unlocked;
+          free = rest.free;
+          unnamed_tuples = one_view i w (λ y. (x : Spot) → IsTrue (y.unnamed x) → IsLeftUnnamed y x) (rest.rest i below).unnamed_tuples;
+        };
+    ordered = λ i below. one_view i w AreOrdered (rest.ordered i below);
+    lawful = rest.lawful;
+    ranged = rest.ranged;
+    rows_below = rest.rows_below;
+  }
+
+-- an entry names a tuple of its range, which is one of the index
+abbrev NameTuples : IndexView → Type 0
+NameTuples y = (range : ℕ) (x : Spot) → y.entry range ≡ Some x → (t : IndexTuple) × (y.tuple x ≡ Some t) × (t.range ≡ range) × IsTupleOf y t
+
+abbrev AreNamed : IndexView → Type 0
+AreNamed y = (x : Spot) (t : IndexTuple) → y.tuple x ≡ Some t → (y.entry t.range ≡ Some x) ⊎ ((s : ℕ) × (y.loose s ≡ Some x) × (y.lock x.block ≡ Some s)) ⊎ IsTrue (y.unnamed x)
+
+abbrev HasOneBuilder : IndexView → Type 0
+HasOneBuilder y = (s n range m : ℕ) (p q : Progress) → IsBuilding y s range p → IsBuilding y n m q → s ≡ n
+
+-- who builds there builds here
+builds_calm : (i : ℕ) (w : TableState) (s range : ℕ) (p : Progress) → IsBuilding (index_view_at i (calm w)) s range p → IsBuilding (index_view_at i w) s range p
+builds_calm i w s range p builds = subst (λ (y : IndexView). IsBuilding y s range p) (sym (same_view i w)) builds
+
+pub covered_calm : (w : TableState) → IsTableCovered w → IsTableAtRest w → IsTableCovered (calm w)
+covered_calm w covered rest = record {
+  indexes = λ i below.
+      record {
+        rows_settled = λ b k r stands counts. absurd (false≢true counts);
+        entries_name_tuples = one_view i w NameTuples (covered.indexes i below).entries_name_tuples;
+        tuples_are_named = one_view i w AreNamed (covered.indexes i below).tuples_are_named;
+        one_builder_a_table = one_view i w HasOneBuilder (covered.indexes i below).one_builder_a_table;
+        held_places_were_named = λ s range x holds. absurd (subst (λ (st : Statement). StatementHolds (index_view_at i (calm w)) st range x) (idle_calm w rest i s) holds);
+        held_tuples_include = λ s scan is. absurd (subst IsScanning (sym is ∙ idle_calm w rest i s) tt);
+      };
+  one_builder = λ i j s n range m p q low less builds other. covered.one_builder i j s n range m p q low less (builds_calm i w s range p builds) (builds_calm j w n m q other);
+}

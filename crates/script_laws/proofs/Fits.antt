@@ -25,7 +25,7 @@ use Rattle.index_steps.proofs.Lawful.{its_table}
 use Rattle.script_semantics.specs.Beginnings.{IsIn, IsWorkIn}
 use Rattle.script_semantics.specs.Place.{Place}
 
-judged : (schema : Schema) (len : ℕ) (stop : Option ℕ) (said : Option (SaidLine PlacedWord)) (read : Line) → line_judged schema len stop said ≡ Ok read
+pub judged : (schema : Schema) (len : ℕ) (stop : Option ℕ) (said : Option (SaidLine PlacedWord)) (read : Line) → line_judged schema len stop said ≡ Ok read
     → (stop ≡ None) × (line_judged schema len None said ≡ Ok read)
 judged schema len (Some at) said read h = absurd (cc)
 judged schema len None said read h = (refl, h)

@@ -24,3 +24,11 @@ pub mod FromStart
 pub mod Deciding
 pub mod Vacuumed
 pub mod Swept
+pub mod CopySizes
+pub mod Entering
+pub mod Soundness
+pub mod Budgets
+pub mod SessionSums
+pub mod Paid
+pub mod PaidLines
+pub mod LineVerbs

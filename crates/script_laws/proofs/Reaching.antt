@@ -4,6 +4,7 @@ use Rattle.std.specs.Prelude.{Result}
 use Rattle.std.proofs.lemmas.Bool.Decides.{eqb_tells}
 use Rattle.std.proofs.lemmas.List.Elements.{All-nil}
 use Rattle.std.proofs.lemmas.Option.{none-some, same_Some}
+use Rattle.block_model.specs.DatabaseState.{DatabaseState}
 use Rattle.block_model.specs.declared.reply.Refusal.{Refusal}
 use Rattle.query_words.specs.declared.line.Line.{Line}
 use Rattle.query_words.specs.declared.line.Line.TheVariants as lines
@@ -19,15 +20,15 @@ use Rattle.store_layout.specs.StatementFits.{IsStatementFor}
 use Rattle.store_layout.specs.DiskLayout.{DiskLayout}
 use Rattle.store_layout.specs.FirstBrokenRule.{KeepsLimits}
 use Rattle.coverage.specs.Table.{Resting, TableState}
-use Rattle.coverage.specs.TableCovered.{IsNewTable, IsTableKept}
+use Rattle.coverage.specs.TableCovered.{IsNewTable, IsTableAtRest, IsTableCovered, IsTableKept}
 use Rattle.script_semantics.specs.LineTexts.{Answers, Does, Finishes, Further, IsFinished, IsLineText, IsNotRead, LastStep, NoFinish, NoStep, NotTaken, Orders, PastSessions, Plain, RefusesPlain, RefusesStart, SaysNothing, Starts, StepsOnce, Submits}
 use Rattle.script_semantics.specs.LineTexts.{Taken, WantsMemory, in_hand_refusal, named, or_else, with_statement}
 use Rattle.script_semantics.specs.Place.{Hand, Place, new_hand}
-use Rattle.script_semantics.specs.Starts.{IsStart}
+use Rattle.script_semantics.specs.Starts.{IsOpening, IsStart}
 use Rattle.script_semantics.specs.StatementSteps.{AtOnce, Begin, Commit, GoesOn, IsAtOnce, IsRefused, IsWaiting, LacksMemoryAtOnce, MeetsConflict, NoNumber, NothingAsked, Outcome, Replies, Rollback, Steps, StepsTo}
 use Rattle.script_semantics.specs.Stops.{Begun, ComesTo, LineComesTo, MovedTo, OfFinish, OfPlain, OfStep, OnTo, Still}
-use Rattle.script_laws.specs.Reached.{AtStart, BehindLine, IsReached, WithinLine}
-use Rattle.script_laws.proofs.Calm.{calm, calmed}
+use Rattle.script_laws.specs.Reached.{AtOpening, AtStart, BehindLine, IsReached, WithinLine}
+use Rattle.script_laws.proofs.Calm.{calm, calmed, rest_calm, covered_calm}
 use Rattle.script_laws.proofs.Fits.{AreOfTables, IsHome, IsOfTables, read_fits}
 use Rattle.script_laws.proofs.Orderly.{AreKept, IsOrderly, goes, orderly_then, over, rests, rests_nowhere, rests_still, stays, step_refused}
 
@@ -40,6 +41,16 @@ at_once_homeless layout p _ Rollback i home = home
 
 begin_homeless : (layout : DiskLayout) (statement : Statement) → statement ≡ statements.Begin → (i : ℕ) → IsHome layout statement i → ⊥
 begin_homeless layout statement is i home = subst (λ st. IsHome layout st i) is home
+
+-- a statement is taken only where none is in hand
+pub nothing_first : (hand : Option Hand) (second : Option Refusal) → or_else (in_hand_refusal hand) second ≡ None → hand ≡ None
+nothing_first None second none = refl
+nothing_first (Some hand) second none = absurd (none-some _ (sym none))
+
+-- a table that a script begins with is kept: a new one, and one of a store that was opened
+pub record BeginKept : Type 0 where
+  pub new : (w : TableState) → IsNewTable w → IsTableKept w
+  pub opened : (w : TableState) → IsTableCovered w → IsTableAtRest w → IsTableKept w
 
 module _ (keeps : AreKept) (layout : DiskLayout) (limits : KeepsLimits layout.schema layout.sizes) where
   orderly_step : (p : Place) (n : ℕ) (hand : Hand) (outcome : Outcome) (q : Place) → IsOrderly layout p → p.hands n ≡ Some hand → StepsTo p n hand outcome q → IsOrderly layout q
@@ -78,10 +89,6 @@ module _ (keeps : AreKept) (layout : DiskLayout) (limits : KeepsLimits layout.sc
   orderly_moved n _ _ o (OnTo p q r point step more) = orderly_moved n q r (orderly_steps p n _ q o step) more
 
   -- ---- orders
-
-  nothing_first : (hand : Option Hand) (second : Option Refusal) → or_else (in_hand_refusal hand) second ≡ None → hand ≡ None
-  nothing_first None second none = refl
-  nothing_first (Some hand) second none = absurd (none-some _ (sym none))
 
   module _ (p : Place) (n : ℕ) (statement : Statement) (o : IsOrderly layout p) (fit : IsStatementFor layout.schema statement) (empty : p.hands n ≡ None) where
     hand_of : (m : ℕ) → ((m ≡ n) × ((with_statement p n statement).hands m ≡ Some (new_hand statement))) ⊎ ((with_statement p n statement).hands m ≡ p.hands m)
@@ -182,18 +189,28 @@ module _ (keeps : AreKept) (layout : DiskLayout) (limits : KeepsLimits layout.sc
     asked = subst (AreOfTables layout) (sym start.queue) (All-nil (IsOfTables layout));
   }
 
-  pub reached_is_orderly : ((w : TableState) → IsNewTable w → IsTableKept w) → KnowsValues → (p : Place) → IsReached layout p → IsOrderly layout p
-  reached_is_orderly kept knows _ (AtStart p start) = orderly_start kept p start
+  orderly_opening : ((w : TableState) → IsTableCovered w → IsTableAtRest w → IsTableKept w) → (opening : DatabaseState) (p : Place) → IsOpening layout opening p → IsOrderly layout p
+  orderly_opening kept opening p start = record {
+    same = start.layout_is;
+    kept = λ i below. kept (calm (p.tables i)) (covered_calm (p.tables i) (start.covered i below) (start.rest i below)) (rest_calm (p.tables i) (start.rest i below));
+    idle = λ n i none below. (start.rest i below).resting n;
+    fits = λ n hand has. absurd (none-some _ (sym (start.hands n) ∙ has));
+    home = λ n i hand has below. absurd (none-some _ (sym (start.hands n) ∙ has));
+    alone = λ n i j low less. inl ((start.rest i low).resting n);
+    asked = subst (AreOfTables layout) (sym start.queue) (All-nil (IsOfTables layout));
+  }
+
+  pub reached_is_orderly : BeginKept → KnowsValues → (p : Place) → IsReached layout p → IsOrderly layout p
+  reached_is_orderly kept knows _ (AtStart p start) = orderly_start kept.new p start
+  reached_is_orderly kept knows _ (AtOpening opening p start) = orderly_opening kept.opened opening p start
   reached_is_orderly kept knows _ (BehindLine p q line text reached answers) =
       orderly_answer p (line_of layout.schema line) text q (λ read is. read_fits knows layout.schema line read is) (reached_is_orderly kept knows p reached) answers
   reached_is_orderly kept knows _ (WithinLine p q line n reached comes) =
       orderly_within p (line_of layout.schema line) n q (λ read is. read_fits knows layout.schema line read is) (reached_is_orderly kept knows p reached) comes
 
-reached_on : (layout : DiskLayout) (p q : Place) (lines texts : List (List ℕ)) → IsReached layout p → AreAnswers (IsLineText layout.schema) p lines texts q → IsReached layout q
-reached_on layout p q [] [] reached e = subst (IsReached layout) (sym e) reached
-reached_on layout p q [] (text ∷ texts) reached e = absurd e
-reached_on layout p q (line ∷ more) [] reached e = absurd e
-reached_on layout p q (line ∷ more) (text ∷ texts) reached e = reached_on layout e.0 q more texts (BehindLine p e.0 line text reached e.1) e.2
+pub answered_lines_reach : (layout : DiskLayout) (p q : Place) (lines texts : List (List ℕ)) → IsReached layout p → AreAnswers (IsLineText layout.schema) p lines texts q → IsReached layout q
+answered_lines_reach layout p q [] [] reached e = subst (IsReached layout) (sym e) reached
+answered_lines_reach layout p q [] (text ∷ texts) reached e = absurd e
+answered_lines_reach layout p q (line ∷ more) [] reached e = absurd e
+answered_lines_reach layout p q (line ∷ more) (text ∷ texts) reached e = answered_lines_reach layout e.0 q more texts (BehindLine p e.0 line text reached e.1) e.2
 
-pub answered_lines_reach : (layout : DiskLayout) (start p : Place) (lines texts : List (List ℕ)) → IsStart layout start → AreAnswers (IsLineText layout.schema) start lines texts p → IsReached layout p
-answered_lines_reach layout start p lines texts starts answers = reached_on layout start p lines texts (AtStart start starts) answers

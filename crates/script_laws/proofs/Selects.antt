@@ -39,7 +39,7 @@ use Rattle.script_semantics.specs.Requests.{Course, next_request}
 use Rattle.script_semantics.specs.StatementSteps.{AtOnce, GoesOn, IsRefused, IsWaiting, LacksMemoryAtOnce, MakesAt, MeetsConflict, NoNumber, NothingAsked, Outcome, Replies, StepsTo}
 use Rattle.script_semantics.specs.Stops.{Begun, ComesTo, LineComesTo, MovedTo, OfFinish, OfPlain, OfStep, OnTo, Still}
 use Rattle.script_semantics.specs.Turns.{Leads, Turn, point_of}
-use Rattle.script_laws.specs.Reached.{AtStart, BehindLine, IsReached, WithinLine}
+use Rattle.script_laws.specs.Reached.{AtOpening, AtStart, BehindLine, IsReached, WithinLine}
 
 -- ---- the step with the name of a put row is that
 
@@ -161,7 +161,7 @@ one_left : (n : ℕ) (query : Query) (answers : List Answer) (e : Entry) → nex
 one_left n query [] e is = refl
 one_left n query (answer ∷ answers) e is = absurd (none-some _ is)
 
-abbrev select_hand : Query → List Answer → Hand
+abbrev pub select_hand : Query → List Answer → Hand
 select_hand query answers = record { statement = statements.Select query; answers = answers }
 
 none_at : (point : Point) (p : Place) (n : ℕ) (query : Query) (c : Course) → (point ≡ points.Row → ⊥) → MakesAt point p n (select_hand query []) c → c.answers ≡ []
@@ -204,7 +204,7 @@ goes_fresh p n hand point c q turn fresh has is made query select =
 
 -- ---- steps
 
-fresh_step : (p : Place) (n : ℕ) (hand : Hand) (outcome : Outcome) (q : Place) → AreFresh p → p.hands n ≡ Some hand → StepsTo p n hand outcome q → AreFresh q
+pub fresh_step : (p : Place) (n : ℕ) (hand : Hand) (outcome : Outcome) (q : Place) → AreFresh p → p.hands n ≡ Some hand → StepsTo p n hand outcome q → AreFresh q
 fresh_step p n hand _ _ fresh has (GoesOn point c q turn is more makes leads) =
     fresh_then p q n (Some (record hand { answers = c.answers })) c.journal fresh leads
     (λ query answers now.
@@ -228,7 +228,7 @@ fresh_moved n _ _ fresh (OnTo p q r point step more) = fresh_moved n q r (fresh_
 
 -- ---- lines
 
-fresh_taken : (p : Place) (n : ℕ) (statement : Statement) → AreFresh p → AreFresh (with_statement p n statement)
+pub fresh_taken : (p : Place) (n : ℕ) (statement : Statement) → AreFresh p → AreFresh (with_statement p n statement)
 fresh_taken p n statement fresh m query answers has = by (eqb_tells m n)
   where
     by : ((eqb m n ≡ true) × (m ≡ n)) ⊎ ((eqb m n ≡ false) × (m ≢ n)) → answers ≡ []
@@ -266,5 +266,6 @@ fresh_within p _ _ _ fresh (Begun name order q within comes) = fresh_comes (name
 
 pub reached_is_fresh : (layout : DiskLayout) (p : Place) → IsReached layout p → AreFresh p
 reached_is_fresh layout _ (AtStart p start) = λ n query answers has. absurd (none-some _ (sym (start.hands n) ∙ has))
+reached_is_fresh layout _ (AtOpening opening p start) = λ n query answers has. absurd (none-some _ (sym (start.hands n) ∙ has))
 reached_is_fresh layout _ (BehindLine p q line text reached answers) = fresh_answer p (line_of layout.schema line) text q (reached_is_fresh layout p reached) answers
 reached_is_fresh layout _ (WithinLine p q line n reached comes) = fresh_within p (line_of layout.schema line) n q (reached_is_fresh layout p reached) comes

@@ -4,3 +4,5 @@ pub mod Answered
 pub mod Words
 pub mod Finds
 pub mod RowLaws
+pub mod RequestBounds
+pub mod LineVerbs

@@ -23,7 +23,6 @@ use Rattle.script_semantics.specs.Beginnings.{StandsAt}
 use Rattle.script_semantics.specs.LineTexts.{Finishes, IsLineText}
 use Rattle.script_semantics.specs.Names.{name_of}
 use Rattle.script_semantics.specs.Place.{Hand, Place, database_at, new_hand}
-use Rattle.script_semantics.specs.Starts.{IsStart}
 use Rattle.script_semantics.specs.StatementSteps.{Ended, StepsTo, Waits}
 use Rattle.script_laws.specs.Reached.{IsReached}
 
@@ -55,9 +54,9 @@ abbrev pub RestsWithoutStatement : Type 0
 RestsWithoutStatement = (layout : DiskLayout) (p : Place) (n table : ℕ) → first_broken_rule layout.schema layout.sizes ≡ None → IsReached layout p → p.hands n ≡ None
     → table < length layout.schema.tables → (p.tables table).task n ≡ Resting
 
--- a place behind lines that were answered is one to which the script comes
+-- a place behind lines that were answered is one to which the script comes, where the one before them is
 abbrev pub AnsweredLinesReach : Type 0
-AnsweredLinesReach = (layout : DiskLayout) (start p : Place) (lines texts : List (List ℕ)) → IsStart layout start → AreAnswers (IsLineText layout.schema) start lines texts p → IsReached layout p
+AnsweredLinesReach = (layout : DiskLayout) (start p : Place) (lines texts : List (List ℕ)) → IsReached layout start → AreAnswers (IsLineText layout.schema) start lines texts p → IsReached layout p
 
 -- a desummarize counted its range: one exactly where that had an entry, and it has none now
 pub record IsCleared (before after : Option Spot) (count : ℕ) : Type 0 where

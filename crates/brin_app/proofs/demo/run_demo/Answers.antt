@@ -12,7 +12,8 @@ pub returns-in-Ok : goal.returns-in-Ok
 returns-in-Ok g c = record {
   done = λ left.
       new_demo c.one_layout.ensures c.a_stored_table_is_not_damaged.ensures c.args.layout.now c.args.numbers.seed c.args.numbers.rows (g.D.Disk.told c.args.disk) (g.D.Disk.told c.make.new.disk)
-      c.make.ensures.any_moment (g.D.Disk.told c.demo_on.result.1) c.demo_on.result.0 _ _ c.in-Ok.ensures.made ⊥ _ c.in-Ok.ensures.holds c.demo_on.ensures.sums c.in-Ok.ensures.fit left;
+      c.make.ensures.any_moment (g.D.Disk.told c.demo_on.result.1) c.demo_on.result.0 _ _ c.in-Ok.ensures.made ⊥ _ c.in-Ok.ensures.holds c.demo_on.ensures.sums
+      (c.a_demo_fits_the_journal.ensures c.args.layout.now c.args.numbers.seed c.args.numbers.rows c.requires) c.in-Ok.ensures.fit left;
 }
 
 pub returns-in-Err : goal.returns-in-Err

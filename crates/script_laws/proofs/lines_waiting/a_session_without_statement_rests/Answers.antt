@@ -7,5 +7,5 @@ pub returns : goal.returns
 returns c = λ layout p n table within reached none below.
     let limits = keeps_limits layout.schema layout.sizes within in
     let knows : KnowsValues = record { denoted = c.value_of_is_denoted.ensures; of_kind = c.denoted_is_of_kind.ensures } in
-    let o = reached_is_orderly c.table_stays_covered.ensures.kept layout limits c.table_stays_covered.ensures.new knows p reached in
+    let o = reached_is_orderly c.table_stays_covered.ensures.kept layout limits (record { new = c.table_stays_covered.ensures.new; opened = c.table_stays_covered.ensures.opened }) knows p reached in
     o.idle n table none below

@@ -9,7 +9,7 @@ returns-clause-hands c = λ layout p q n hand told within reached has step.
     let limits = keeps_limits layout.schema layout.sizes within in
     let knows : KnowsValues = record { denoted = c.value_of_is_denoted.ensures; of_kind = c.denoted_is_of_kind.ensures } in
     only_hands c.blocked_statements_wait.ensures.held layout limits p q n hand told
-    (reached_is_orderly c.table_stays_covered.ensures.kept layout limits c.table_stays_covered.ensures.new knows p reached) has step
+    (reached_is_orderly c.table_stays_covered.ensures.kept layout limits (record { new = c.table_stays_covered.ensures.new; opened = c.table_stays_covered.ensures.opened }) knows p reached) has step
 
 pub returns-clause-alone : goal.returns-clause-alone
 returns-clause-alone c = λ layout p q n hand told within reached has alone step.
@@ -17,4 +17,4 @@ returns-clause-alone c = λ layout p q n hand told within reached has alone step
     let knows : KnowsValues = record { denoted = c.value_of_is_denoted.ensures; of_kind = c.denoted_is_of_kind.ensures } in
     not_alone p n told alone
     (only_hands c.blocked_statements_wait.ensures.held layout limits p q n hand told
-    (reached_is_orderly c.table_stays_covered.ensures.kept layout limits c.table_stays_covered.ensures.new knows p reached) has step)
+    (reached_is_orderly c.table_stays_covered.ensures.kept layout limits (record { new = c.table_stays_covered.ensures.new; opened = c.table_stays_covered.ensures.opened }) knows p reached) has step)

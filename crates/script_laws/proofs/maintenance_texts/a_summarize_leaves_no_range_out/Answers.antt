@@ -12,7 +12,7 @@ pub returns : goal.returns
 returns c = λ layout p q n index count within reached has rests finishes.
     let limits = keeps_limits layout.schema layout.sizes within in
     let knows : KnowsValues = record { denoted = c.value_of_is_denoted.ensures; of_kind = c.denoted_is_of_kind.ensures } in
-    let o = reached_is_orderly c.table_stays_covered.ensures.kept layout limits c.table_stays_covered.ensures.new knows p reached in
+    let o = reached_is_orderly c.table_stays_covered.ensures.kept layout limits (record { new = c.table_stays_covered.ensures.new; opened = c.table_stays_covered.ensures.opened }) knows p reached in
     let fits = o.fits n _ has in
     let below = in_below layout p n (index_at p.layout index).table o.same limits o.asked (statements.Summarize index None) fits refl in
     summarize_counts p q n index count has rests (o.kept (index_at p.layout index).table below) finishes
