@@ -4,6 +4,7 @@ pub mod DemoDone
 pub mod DemoRuns
 pub mod Doing
 pub mod Heeding
+pub mod Holding
 pub mod Known
 pub mod Leading
 pub mod Making

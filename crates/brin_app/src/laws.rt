@@ -33,3 +33,13 @@ pub(crate) fn a_stored_table_is_not_damaged()
     redo_is_a_function();
     maps_with_the_same_pages_are_equal();
 }
+
+/// No bytes open to two maps of pages, whatever the layout. Does nothing.
+pub(crate) fn each_image_opens_to_one_map()
+    ensures { (layout : DiskLayout) (image : List ℕ) (a b : PageMap) → Opens layout image a → Opens layout image b → a ≡ b }
+{
+    an_area_opens_in_one_way();
+    no_change_begins_another();
+    redo_is_a_function();
+    maps_with_the_same_pages_are_equal();
+}
