@@ -28,7 +28,7 @@ pub fn run_twice(
     second: &mut Streams,
 ) -> Result<Ends, u8>
     // The second script starts from the table that the first one left, where no fault of the disk and no want of memory ended them.
-    ensures in_turn { IfOk result (λ ends. (layout : DiskLayout) → Asks making.now (tasks.Init layout) → Asks running.now tasks.RunStored → HasRun ends.first → HasRun ends.second
+    ensures { IfOk result (λ ends. (layout : DiskLayout) → Asks making.now (tasks.Init layout) → Asks running.now tasks.RunStored → HasRun ends.first → HasRun ends.second
         → AreInTurn layout ends first.old first.new second.old second.new) }
 {
     let disk = new_store(alloc, making, room)?;
