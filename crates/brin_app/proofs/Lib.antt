@@ -5,6 +5,7 @@ pub mod DemoFits
 pub mod DemoRuns
 pub mod Doing
 pub mod Heeding
+pub mod Holding
 pub mod Known
 pub mod Leading
 pub mod Making

@@ -29,13 +29,14 @@ use Rattle.session_parts.specs.ShowsPlace.{ShowsPlace}
 use Rattle.session_parts.specs.StepAnswers.{HasFaultCause, StaysReady}
 use Rattle.session_parts.specs.StepIs.{LeadsOn, StepIs}
 use Rattle.session_core.specs.ImageLaws.{ShownIsImage, StepCommits}
+use Rattle.session_core.specs.Sessions.{StaysStill}
 use Rattle.session_core.specs.StopRule.{AllHaveTable, StopsWhole}
 use Rattle.session_core.specs.Stops.{StopsSo}
 use Rattle.session_parts.specs.StoreStates.{StoreState, hand_at}
 use Rattle.demo_script.specs.declared.answer.Answer.{Answer}
 use Rattle.demo_script.specs.declared.answer.Answer.TheVariants as answers
 use Rattle.brin_app.specs.CrashRule.{IsFurther}
-use Rattle.brin_app.specs.Leading.{PlacesLead, PlacesStop}
+use Rattle.brin_app.specs.Leading.{LeavesUnmade, PlacesLead, PlacesStop}
 use Rattle.brin_app.specs.Orders.{DoesSo, FinishesSo, IsCutShort, IsHalted, IsNotMade, StepsSo, fault_of_step, step_answer}
 use Rattle.brin_app.proofs.Crash.{KeepsJournal, answered_between, failed_amid, passes_in_hand, still, unmade_between}
 
@@ -123,6 +124,16 @@ module _ {D : Type 0} (told : D → Told) (shown_law : ShownIsImage) (commit_law
     cause = λ tells was. cause.3 tells;
     places = λ tells was p shown. absurd (cause.3 tells);
   }
+
+-- what is kept of the fault
+kept : (failed : Option ℕ) (faults : ℕ) → failed ≡ Some faults → IsSome failed
+kept failed faults is = subst (λ (o : Option ℕ). IsSome o) (sym is) refl
+
+pub step_leaves : {D : Type 0} (told : D → Told) (s s' : StoreState D) (fault : StoreFault) → HasFaultCause told s.pages s'.pages fault → StaysStill told s s' (Err fault) → LeavesUnmade told s s' (fault_of_step fault)
+step_leaves told s s' (stops.Spent entries) cause unchanged = unchanged
+step_leaves told s s' stops.Disk cause unchanged = kept s'.pages.failed _ cause.2
+step_leaves told s s' (stops.Reopen faults) cause unchanged = kept s'.pages.failed faults cause.1
+step_leaves told s s' (stops.Damaged at) cause unchanged = (cause.1, cause.3)
 
 -- ---- all steps
 

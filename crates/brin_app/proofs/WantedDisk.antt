@@ -1,5 +1,5 @@
 -- how large a disk words want
-use Rattle.std.proofs.Common.{◌≡◌, ℕ, List, Some, None, sym, ap, inl, inr}
+use Rattle.std.proofs.Common.{◌≡◌, ℕ, List, Some, None, refl, sym, ap, inl, inr}
 use Rattle.store_layout.specs.DiskLayout.{DiskLayout, disk_size}
 use Rattle.brin_app.specs.declared.top.Task.{Task}
 use Rattle.brin_app.specs.declared.top.Task.TheVariants.{Demo, Init, Run, RunStored}
@@ -27,6 +27,7 @@ task_size words task asks alone = record {
     | inr (inr demo) ↦ sym (ap size_for (alone (Demo layout demo.0 demo.1) demo.2))
   ];
   only = λ n e. made_by words task n asks e;
+  stored = λ run. sym (ap size_for (alone RunStored run));
 }
 
 -- words that ask for nothing want none
@@ -38,4 +39,5 @@ no_task_size words nothing = record {
     | inr (inr demo) ↦ absurd (nothing (Demo layout demo.0 demo.1) demo.2)
   ];
   only = λ n e. absurd (no_size n e);
+  stored = λ _. refl;
 }

@@ -1,5 +1,5 @@
 -- from the places that a store shows to those that another one shows
-use Rattle.std.specs.Prelude.{◌≡◌, None}
+use Rattle.std.specs.Prelude.{◌≡◌, None, IsSome}
 use Rattle.block_model.specs.Causes.{Rose}
 use Rattle.disk_trait.specs.Told.{Told}
 use Rattle.page_map.specs.Keeps.{Leaves, Tells}
@@ -7,6 +7,7 @@ use Rattle.script_run.specs.declared.engine.AnswerFault.{AnswerFault}
 use Rattle.script_run.specs.declared.engine.AnswerFault.TheVariants.{Memory, Full, Disk, Damaged}
 use Rattle.script_semantics.specs.Place.{Place}
 use Rattle.session_parts.specs.ShowsPlace.{ShowsPlace}
+use Rattle.session_parts.specs.StepAnswers.{StaysAsItWas}
 use Rattle.session_parts.specs.StoreStates.{StoreState}
 use Rattle.brin_app.specs.CrashRule.{IsFurther, StopsAmid, StopsBetween}
 
@@ -38,6 +39,14 @@ abbrev pub HasStopCause : {D : Type 0} → (D → Told) → (s s' : StoreState D
 HasStopCause told s s' Disk = s.pages.failed ≡ None → Rose (told s.pages.disk).faults (told s'.pages.disk).faults
 HasStopCause told s s' Damaged = Tells told s.pages → s.pages.failed ≡ None → ⊥
 HasStopCause told s s' fault = Unit {0}
+
+-- What a step that isn't made leaves on any disk, by what is told of it. At a full journal nothing is changed, behind a fault of the disk one is kept, and
+-- no step is told as want of memory. What leaves anything else is told as damage, where none is kept and the disk doesn't tell its contents.
+abbrev pub LeavesUnmade : {D : Type 0} → (D → Told) → (s s' : StoreState D) → AnswerFault → Type 0
+LeavesUnmade told s s' Memory = ⊥
+LeavesUnmade told s s' Full = StaysAsItWas told s s'
+LeavesUnmade told s s' Disk = IsSome s'.pages.failed
+LeavesUnmade told s s' Damaged = (s'.pages.failed ≡ None) × (Tells told s.pages → ⊥)
 
 -- a place that the store showed leads so to the place at which the fault came
 pub record StopsWith {D : Type 0} (told : D → Told) (s s' : StoreState D) (fault : AnswerFault) (P : Place → Place → Type 0) (p : Place) : Type 0 where

@@ -2,6 +2,7 @@ pub mod Asking
 pub mod CrashRule
 pub mod DemoOutput
 pub mod DemoSums
+pub mod Holding
 pub mod Leading
 pub mod Orders
 pub mod SessionPlaces
@@ -14,3 +15,6 @@ pub mod TaskOutputs
 pub mod Tasks
 pub mod WantedSizes
 pub mod WordsFaults
+pub use Rattle.script_semantics.specs.Place
+pub use Rattle.session_core.specs.Started
+pub use Rattle.store_layout.specs.DiskLayout

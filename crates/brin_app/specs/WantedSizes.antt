@@ -20,3 +20,4 @@ AsksForNew words layout = Asks words (Init layout) ⊎ (Asks words (Run layout) 
 pub record IsWantedSize (words : List (List ℕ)) (size : Option ℕ) : Type 0 where
   pub asked : (layout : DiskLayout) → AsksForNew words layout → size ≡ Some (disk_size layout)
   pub only : (n : ℕ) → size ≡ Some n → (layout : DiskLayout) × AsksForNew words layout × (n ≡ disk_size layout)
+  pub stored : Asks words RunStored → size ≡ None

@@ -4,8 +4,6 @@ ghost use Rattle.std.specs.Prelude.{◌≡◌, ◌≢◌, ℕ, List, None, Optio
 ghost use Rattle.block_model.specs.Causes.{Rose};
 ghost use Rattle.command_line.specs.Laws.{AreDemoNumbers};
 ghost use Rattle.page_map.specs.Keeps.{Tells};
-ghost use Rattle.page_map.specs.PageMap.{PageMap};
-ghost use Rattle.recovery.specs.Opens.{Opens};
 ghost use Rattle.session_core.specs.StopRule.{AllHaveTable};
 ghost use Rattle.session_parts.specs.ShowsPlace.{ShowsPlace};
 ghost use Rattle.session_core.specs.Started.{HoldsImage};
@@ -13,17 +11,19 @@ ghost use Rattle.script_semantics.specs.Place.{Place};
 ghost use Rattle.brin_app.specs.declared.top.Task.TheVariants as tasks;
 ghost use Rattle.brin_app.specs.DemoOutput.{IsDemoRun};
 ghost use Rattle.brin_app.specs.DemoSums.{HasSummed, SumsFresh};
+ghost use Rattle.brin_app.specs.Holding.{HoldsOnFor};
 ghost use Rattle.brin_app.specs.ScriptOutput.{RunsThrough};
 ghost use Rattle.brin_app.specs.StatusCauses.{IsDoneSo};
 ghost use Rattle.brin_app.specs.Statuses.{IsStatus};
 
-use crate::laws::{a_demo_fits_the_journal, a_stored_table_is_not_damaged};
+use crate::laws::{
+    a_demo_fits_the_journal, a_stored_table_is_not_damaged, each_image_opens_to_one_map,
+};
 use crate::sessions::Sessions;
 use crate::top::{make, refused, status};
 use demo_script::{play, render_summary};
 use disk_trait::Disk;
 use io_traits::{Sink, write_all};
-use recovery::an_image_opens_to_one_map;
 use script_run::RunFault;
 use session_core::{Store, a_new_store_opens_to_fresh_pages};
 use std::alloc::Global;
@@ -51,9 +51,10 @@ pub(crate) fn run_demo<D: Disk + Drop, K: Sink>(
     requires { AreDemoNumbers numbers.seed numbers.rows }
     // Whatever source there is, nothing is read of it, and no fault of it is met.
     ensures done { (left : Option (List ℕ)) → IsDoneSo (tasks.Demo layout.now numbers.seed numbers.rows) result.0 (D.told disk) (D.told result.1) left left (K.taken sink.old) (K.taken sink.new) ⊥ (Rose (K.faults sink.old) (K.faults sink.new)) }
+    ensures holds_on { HoldsOnFor (tasks.Demo layout.now numbers.seed numbers.rows) result.0 (D.told disk) (D.told result.1) }
 {
     one_layout();
-    an_image_opens_to_one_map(layout);
+    each_image_opens_to_one_map();
     a_stored_table_is_not_damaged();
     a_new_store_opens_to_fresh_pages(layout);
     a_demo_fits_the_journal();
@@ -75,6 +76,7 @@ fn demo_on<D: Disk + Drop, K: Sink>(
     ensures sums { SumsFresh result.0 numbers.seed numbers.rows (D.told disk) (D.told result.1) (K.taken sink.old) (K.taken sink.new) (Rose (K.faults sink.old) (K.faults sink.new)) }
 {
     one_layout();
+    each_image_opens_to_one_map();
     a_stored_table_is_not_damaged();
     match Store::start(alloc, disk) {
         Ok(store) => demo_over(alloc, store, numbers, sink),
@@ -91,7 +93,6 @@ fn demo_over<D: Disk + Drop, K: Sink>(
 ) -> (u8, D)
     requires { AreDemoNumbers numbers.seed numbers.rows }
     ensures known { IsStatus result.0 }
-    ensures one_map { (image : List ℕ) (a b : PageMap) → Opens store.pages.layout image a → Opens store.pages.layout image b → a ≡ b }
     ensures runs { (start : Place) → Tells D.told store.pages → store.pages.failed ≡ None → ShowsPlace store start → AllHaveTable D.told store.pages start
         → IsDemoRun result.0 store.pages.layout numbers.seed numbers.rows (RunsThrough (D.told store.pages.disk) (D.told result.1)) (D.told result.1) (K.taken sink.old) (K.taken sink.new) start }
     ensures write_fault { result.0 ≡ 5 → Rose (K.faults sink.old) (K.faults sink.new) }
@@ -99,7 +100,6 @@ fn demo_over<D: Disk + Drop, K: Sink>(
     ensures damaged { result.0 ≡ 11 → Tells D.told store.pages → store.pages.failed ≡ None → ⊥ }
     ensures others { (result.0 ≢ 2) × ((result.0 ≢ 4) × (result.0 ≢ 9)) }
 {
-    an_image_opens_to_one_map(store.layout());
     let mut sessions = Sessions { alloc, store };
     let end = sum_up(&mut sessions, numbers, sink);
     (status(end), sessions.store.into_disk())

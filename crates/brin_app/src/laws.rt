@@ -55,3 +55,13 @@ pub fn short_scripts_fit()
     the_requests_of_lines_are_bounded();
     short_scripts_have_room();
 }
+
+/// No bytes open to two maps of pages, whatever the layout. Does nothing.
+pub(crate) fn each_image_opens_to_one_map()
+    ensures { (layout : DiskLayout) (image : List ℕ) (a b : PageMap) → Opens layout image a → Opens layout image b → a ≡ b }
+{
+    an_area_opens_in_one_way();
+    no_change_begins_another();
+    redo_is_a_function();
+    maps_with_the_same_pages_are_equal();
+}

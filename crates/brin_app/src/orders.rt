@@ -5,7 +5,7 @@ ghost use Rattle.session_parts.specs.StoreStates.{hand_at};
 ghost use Rattle.session_core.specs.Sessions.{NamesASession};
 ghost use Rattle.query_words.specs.LineFits.{IsOrderFor};
 ghost use Rattle.store_layout.specs.StatementFits.{IsStatementFor};
-ghost use Rattle.brin_app.specs.Leading.{PlacesLead, PlacesStop};
+ghost use Rattle.brin_app.specs.Leading.{LeavesUnmade, PlacesLead, PlacesStop};
 ghost use Rattle.brin_app.specs.Orders.{IsCutShort, DoesSo, FinishesSo, IsHalted, IsInHandStill, IsNotMade, StepsSo, fault_of_step, step_answer};
 
 use block_model::Refusal;
@@ -125,6 +125,8 @@ fn step<D: Disk + Drop>(store: &mut Store<D>, session: u32) -> Result<Answer, An
     ensures hand { IfOk result (λ answer. IsInHandStill answer (hand_at store.new session)) }
     ensures ok { IfOk result (λ answer. PlacesLead D.told store.old store.new (StepsSo session answer)) }
     ensures stops { IfErr result (λ fault. PlacesStop D.told store.old store.new fault (IsNotMade session fault)) }
+    // So damage that the store finds is told as damage.
+    ensures unmade { IfErr result (LeavesUnmade D.told store.old store.new) }
 {
     a_shown_store_is_an_image();
     a_commit_makes_its_table();

@@ -1,6 +1,6 @@
 //! The top call.
 
-ghost use Rattle.std.specs.Prelude.{◌≡◌, ◌≢◌, ◌⊎◌, ℕ, List, None, Ok, Err, IfOk, IfErr, OnOk, IsSome, IsTrue};
+ghost use Rattle.std.specs.Prelude.{◌≡◌, ◌≢◌, ◌⊎◌, None, Ok, Err, IfOk, IfErr, OnOk, IsSome, IsTrue};
 ghost use Rattle.block_model.specs.Causes.{Rose};
 ghost use Rattle.block_model.specs.DatabaseState.{initial_state};
 ghost use Rattle.block_model.specs.declared.schema.Schema.{Schema};
@@ -8,13 +8,12 @@ ghost use Rattle.disk_trait.specs.Throughout.{Throughout};
 ghost use Rattle.store_layout.specs.FirstBrokenRule.{first_broken_rule};
 ghost use Rattle.command_line.specs.DeclaredSchema.{Denotes};
 ghost use Rattle.page_map.specs.Keeps.{Tells};
-ghost use Rattle.page_map.specs.PageMap.{PageMap};
-ghost use Rattle.recovery.specs.Opens.{Opens};
 ghost use Rattle.script_semantics.specs.Place.{Place};
 ghost use Rattle.session_parts.specs.ShowsPlace.{ShowsPlace};
 ghost use Rattle.session_core.specs.StopRule.{AllHaveTable};
 ghost use Rattle.session_core.specs.Started.{HoldsImage};
 ghost use Rattle.session_core.specs.FreshPages.{IsOldOrFresh};
+ghost use Rattle.brin_app.specs.Holding.{HoldsOn, HoldsOnFor};
 ghost use Rattle.brin_app.specs.ScriptOutput.{EachImageHas, EachImageIsFresh, HoldsFresh, IsFreshOutput, IsMade, IsOldOrEmpty, IsScriptRun, RunsThrough, exit_status};
 ghost use Rattle.brin_app.specs.StatusCauses.{HasDamage, IsCompleteOf, IsDoneSo, IsRefusedSo, IsSpentOf, LacksStore};
 ghost use Rattle.brin_app.specs.Statuses.{IsFit, IsStatus, IsUnfit, format_status, start_status};
@@ -26,7 +25,7 @@ ghost use Rattle.brin_app.specs.declared.top.Task.TheVariants as tasks;
 ghost use Rattle.brin_app.specs.TaskOutputs.{IsOutputOf};
 
 use crate::demo::{DemoNumbers, run_demo};
-use crate::laws::a_stored_table_is_not_damaged;
+use crate::laws::{a_stored_table_is_not_damaged, each_image_opens_to_one_map};
 use crate::sessions::Sessions;
 use crate::status::{
     DAMAGED, DISK_FAULT, DONE, LIMIT, MEMORY, NO_STORE, READ_FAULT, SCRIPT_LIMIT, USAGE,
@@ -39,7 +38,7 @@ use command_line::{
 use demo_script::demo_layout;
 use disk_trait::Disk;
 use io_traits::{Sink, Source};
-use recovery::{StartFault, an_image_opens_to_one_map};
+use recovery::StartFault;
 use script_run::{AnswerFault, RunFault, run};
 use session_core::{
     Store, a_format_leaves_old_or_none_or_new, a_new_store_is_an_image,
@@ -62,10 +61,13 @@ pub fn brin_main<D: Disk + Drop, S: Source, K: Sink>(
     source: &mut S,
     sink: &mut K,
 ) -> (u8, D)
-    // A run over the store that stands there needs one that a stop of a store left, or bytes that are none; other tasks need nothing of the disk.
+    // A run over the store that stands there needs one that a stop of a store left, or bytes that are none; other tasks need nothing of the disk. From call to
+    // call `holds_on` gives it.
     requires { Asks words.now tasks.RunStored → HoldsImage (D.told disk) }
     // What is written, and which table a stop at any moment leaves.
     ensures script_output { (task : Task) → Asks words.now task → IsOutputOf task result.0 (D.told disk) (D.told result.1) (S.left source.old) (S.left source.new) (K.taken sink.old) (K.taken sink.new) }
+    // What stands on the disk that comes back: where it tells its images, a further run may be called over it, if a store stood there for sure or was made.
+    ensures holds_on { HoldsOn words.now result.0 (D.told disk) (D.told result.1) }
 
     // Which statuses there are, and when each comes. Want of memory, 7, is free.
     ensures known { IsStatus result.0 }
@@ -83,6 +85,8 @@ pub fn brin_main<D: Disk + Drop, S: Source, K: Sink>(
     ensures complete { (task : Task) → Asks words.now task → ¬ (Rose (S.faults source.old) (S.faults source.new)) → ¬ (Rose (K.faults sink.old) (K.faults sink.new)) → ¬ (Rose (D.told disk).faults (D.told result.1).faults)
         → IsCompleteOf task result.0 (D.told disk) (S.left source.old) }
 {
+    one_layout();
+    each_image_opens_to_one_map();
     match read_words(alloc, words) {
         Ok(task) => perform(alloc, task, disk, source, sink),
         Err(WordsFault::Usage) => (USAGE, disk),
@@ -245,6 +249,7 @@ fn perform<D: Disk + Drop, S: Source, K: Sink>(
     requires image { task ≡ tasks.RunStored → HoldsImage (D.told disk) }
     requires numbers { HasNumbers task }
     ensures done { IsDoneSo task result.0 (D.told disk) (D.told result.1) (S.left source.old) (S.left source.new) (K.taken sink.old) (K.taken sink.new) (Rose (S.faults source.old) (S.faults source.new)) (Rose (K.faults sink.old) (K.faults sink.new)) }
+    ensures holds_on { HoldsOnFor task result.0 (D.told disk) (D.told result.1) }
 {
     match task {
         Task::Init(layout) => init(&layout, disk),
@@ -260,7 +265,10 @@ fn perform<D: Disk + Drop, S: Source, K: Sink>(
 fn init<D: Disk + Drop>(layout: &Layout, mut disk: D) -> (u8, D)
     ensures made { IsMade result.0 layout.now (D.told disk) (D.told result.1) }
     ensures cause { ((result.0 ≡ 0) × IsFit layout.now (D.told disk) (D.told result.1)) ⊎ IsUnfit result.0 layout.now (D.told disk) (D.told result.1) }
+    ensures holds_on { HoldsOnFor (tasks.Init layout.now) result.0 (D.told disk) (D.told result.1) }
 {
+    one_layout();
+    each_image_opens_to_one_map();
     match make(layout, &mut disk) {
         Ok(()) => (DONE, disk),
         Err(status) => (status, disk),
@@ -296,9 +304,10 @@ fn run_new<D: Disk + Drop, S: Source, K: Sink>(
     sink: &mut K,
 ) -> (u8, D)
     ensures done { IsDoneSo (tasks.Run layout.now) result.0 (D.told disk) (D.told result.1) (S.left source.old) (S.left source.new) (K.taken sink.old) (K.taken sink.new) (Rose (S.faults source.old) (S.faults source.new)) (Rose (K.faults sink.old) (K.faults sink.new)) }
+    ensures holds_on { HoldsOnFor (tasks.Run layout.now) result.0 (D.told disk) (D.told result.1) }
 {
     one_layout();
-    an_image_opens_to_one_map(layout);
+    each_image_opens_to_one_map();
     a_stored_table_is_not_damaged();
     a_new_store_opens_to_fresh_pages(layout);
     match make(layout, &mut disk) {
@@ -318,8 +327,10 @@ fn run_stored<D: Disk + Drop, S: Source, K: Sink>(
     ensures done { IsDoneSo tasks.RunStored result.0 (D.told disk) (D.told result.1) (S.left source.old) (S.left source.new) (K.taken sink.old) (K.taken sink.new) (Rose (S.faults source.old) (S.faults source.new)) (Rose (K.faults sink.old) (K.faults sink.new)) }
     // Over a new store the tables are new as well.
     ensures fresh { IsFreshOutput result.0 (D.told disk) (D.told result.1) (S.left source.old) (S.left source.new) (K.taken sink.old) (K.taken sink.new) }
+    ensures holds_on { HoldsOnFor tasks.RunStored result.0 (D.told disk) (D.told result.1) }
 {
     one_layout();
+    each_image_opens_to_one_map();
     a_stored_table_is_not_damaged();
     match Store::start(alloc, disk) {
         Ok(store) => run_opened(alloc, store, source, sink),
@@ -344,8 +355,6 @@ fn run_opened<D: Disk + Drop, S: Source, K: Sink>(
     sink: &mut K,
 ) -> (u8, D)
     ensures known { IsStatus result.0 }
-    // The law of its layout, for the caller.
-    ensures one_map { (image : List ℕ) (a b : PageMap) → Opens store.pages.layout image a → Opens store.pages.layout image b → a ≡ b }
     ensures runs { (start : Place) → Tells D.told store.pages → store.pages.failed ≡ None → ShowsPlace store start → AllHaveTable D.told store.pages start
         → IsScriptRun result.0 store.pages.layout (RunsThrough (D.told store.pages.disk) (D.told result.1)) (D.told result.1) (S.left source.old) (S.left source.new) (K.taken sink.old) (K.taken sink.new) start }
     ensures read_fault { result.0 ≡ 4 → Rose (S.faults source.old) (S.faults source.new) }
@@ -354,7 +363,6 @@ fn run_opened<D: Disk + Drop, S: Source, K: Sink>(
     ensures damaged { result.0 ≡ 11 → Tells D.told store.pages → store.pages.failed ≡ None → ⊥ }
     ensures others { (result.0 ≢ 2) × (result.0 ≢ 9) }
 {
-    an_image_opens_to_one_map(store.layout());
     let mut sessions = Sessions { alloc, store };
     let end = run(alloc, SCRIPT_LIMIT, &mut sessions, source, sink);
     (status(end), sessions.store.into_disk())

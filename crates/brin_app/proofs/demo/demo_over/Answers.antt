@@ -1,14 +1,9 @@
 use Rattle.std.proofs.Common.{refl, sym, ◌∙◌, subst}
 use Rattle.block_model.specs.Causes.{Rose}
-use Rattle.store_layout.specs.DiskLayout.{DiskLayout}
 use Rattle.brin_app.proofs.DemoRuns.{demo_damage_cause, demo_disk_cause, demo_run, no_demo_other}
-use Rattle.brin_app.proofs.Doing.{OpenToOneMap}
 use Rattle.brin_app.proofs.Known.{exit_known, same_status}
 use Rattle.brin_app.proofs.Outputs.{write_ended}
 use Rattle.brin_app.proofs.demo.demo_over.Goals as goal
-
-pub returns-clause-one_map : goal.returns-clause-one_map
-returns-clause-one_map g c = subst (λ (m : DiskLayout). OpenToOneMap m) c.layout.ensures c.an_image_opens_to_one_map.ensures
 
 pub returns-clause-known : goal.returns-clause-known
 returns-clause-known g c = same_status c.status.result _ c.status.ensures (exit_known c.sum_up-end.result)

@@ -1,9 +1,9 @@
 use Rattle.std.proofs.Common.{sym, subst}
 use Rattle.script_run.specs.declared.engine.AnswerFault.{AnswerFault}
 use Rattle.demo_script.specs.declared.answer.Answer.{Answer}
-use Rattle.brin_app.specs.Leading.{PlacesLead, PlacesStop}
+use Rattle.brin_app.specs.Leading.{LeavesUnmade, PlacesLead, PlacesStop}
 use Rattle.brin_app.specs.Orders.{IsNotMade, StepsSo}
-use Rattle.brin_app.proofs.Stepping.{step_led, step_unmade}
+use Rattle.brin_app.proofs.Stepping.{step_leaves, step_led, step_unmade}
 use Rattle.brin_app.proofs.orders.step.Goals as goal
 
 pub returns-in-Ok-clause-ok : goal.returns-in-Ok-clause-ok
@@ -17,3 +17,8 @@ returns-in-Err-clause-stops g c =
     subst (λ (a : AnswerFault). PlacesStop g.D.Disk.told c.args.store.now c.step.new.self a (IsNotMade c.args.session a)) (sym c.fault_of_step.ensures)
     (step_unmade g.D.Disk.told c.a_shown_store_is_an_image.ensures c.a_commit_makes_its_table.ensures c.requests_are_entered_in_place.ensures.own c.args.store.now c.step.new.self c.args.session
     c.in-Err.ensures.leaves c.in-Err.fault c.in-Err.ensures.steps c.in-Err.ensures.cause c.requires.hand c.in-Err.ensures.survives c.in-Err.ensures.stops)
+
+pub returns-in-Err-clause-unmade : goal.returns-in-Err-clause-unmade
+returns-in-Err-clause-unmade g c =
+    subst (λ (a : AnswerFault). LeavesUnmade g.D.Disk.told c.args.store.now c.step.new.self a) (sym c.fault_of_step.ensures)
+    (step_leaves g.D.Disk.told c.args.store.now c.step.new.self c.in-Err.fault c.in-Err.ensures.cause c.in-Err.ensures.still)

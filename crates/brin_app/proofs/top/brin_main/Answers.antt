@@ -1,6 +1,7 @@
-use Rattle.std.proofs.Common.{Err, ap, subst}
+use Rattle.std.proofs.Common.{Err, refl, ap, subst}
 use Rattle.brin_app.specs.Tasks.{Asks}
 use Rattle.brin_app.proofs.Doing.{idle_complete_of, idle_output, idle_refused_of, idle_spent_of}
+use Rattle.brin_app.proofs.Holding.{holds_words, idle_on, laws_of, run_only}
 use Rattle.brin_app.proofs.Known.{is_2, is_7}
 use Rattle.brin_app.proofs.Performed.{performed}
 use Rattle.brin_app.proofs.top.brin_main.Goals as goal
@@ -79,3 +80,16 @@ returns-in-Err-Memory-clause-spent g c = λ task _. idle_spent_of (g.D.Disk.told
 
 pub returns-in-Err-Memory-clause-complete : goal.returns-in-Err-Memory-clause-complete
 returns-in-Err-Memory-clause-complete g c = λ task _ _ _ _. idle_complete_of (g.D.Disk.told c.args.disk) _ (g.K.Sink.taken c.args.sink.now) (g.met.D.Disk.since_now_is_now c.args.disk) task
+
+pub returns-in-Ok-clause-holds_on : goal.returns-in-Ok-clause-holds_on
+returns-in-Ok-clause-holds_on g c = holds_words c.args.words.now c.in-Ok.task c.in-Ok.ensures.alone c.perform.ensures.holds_on
+
+pub returns-in-Err-Usage-clause-holds_on : goal.returns-in-Err-Usage-clause-holds_on
+returns-in-Err-Usage-clause-holds_on g c =
+    let obeys = laws_of g.D.Disk.told g.met.D.Disk.images_need_contents g.met.D.Disk.contents_are_an_image g.met.D.Disk.now_is_since in
+    idle_on c.one_layout.ensures c.each_image_opens_to_one_map.ensures c.args.words.now 2 (g.D.Disk.told c.args.disk) (obeys c.args.disk) (λ run. (run_only 2 run).4 refl)
+
+pub returns-in-Err-Memory-clause-holds_on : goal.returns-in-Err-Memory-clause-holds_on
+returns-in-Err-Memory-clause-holds_on g c =
+    let obeys = laws_of g.D.Disk.told g.met.D.Disk.images_need_contents g.met.D.Disk.contents_are_an_image g.met.D.Disk.now_is_since in
+    idle_on c.one_layout.ensures c.each_image_opens_to_one_map.ensures c.args.words.now 7 (g.D.Disk.told c.args.disk) (obeys c.args.disk) (λ run. (run_only 7 run).1 refl)
