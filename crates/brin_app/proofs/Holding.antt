@@ -188,7 +188,7 @@ module _ (one : HaveOneLayout) (map : (layout : DiskLayout) → OpenToOneMap lay
           | inr both ↦ stays_as new laws status images after.layout (table_committed (database_at after) both.0) both.2 size (λ not. (after.layout, (database_at after).table, whole not))
         ]
 
-    pub stored_on : (status : ℕ) (l l' k k' : Option (List ℕ)) → IsStoredOutput status old new l l' k k' → HoldsStore old → StaysStore status new
+    stored_on : (status : ℕ) (l l' k k' : Option (List ℕ)) → IsStoredOutput status old new l l' k k' → HoldsStore old → StaysStore status new
     stored_on status l l' k k' output store =
         let sure : HoldsSure old store.0 store.1 = store.2 in
         elim (output sure.tells_contents store.0 store.1 sure.holds) [
@@ -205,7 +205,7 @@ module _ (one : HaveOneLayout) (map : (layout : DiskLayout) → OpenToOneMap lay
 
     -- ---- over an image of one, or bytes that don't open
 
-    pub stored_image : (status : ℕ) (l l' k k' : Option (List ℕ)) → IsStoredOutput status old new l l' k k' → (layout : DiskLayout) (table : TableState) → HoldsTable old layout table → HasRun status ⊎ (status ≡ 9)
+    stored_image : (status : ℕ) (l l' k k' : Option (List ℕ)) → IsStoredOutput status old new l l' k k' → (layout : DiskLayout) (table : TableState) → HoldsTable old layout table → HasRun status ⊎ (status ≡ 9)
         → IsTrue old.tells_contents → IsTrue new.tells_images → HoldsImage new
     stored_image status l l' k k' output layout table holds has tells images = elim (output tells layout table holds) [
       | inl un ↦ absurd (not_unopened status has un.why)
@@ -215,6 +215,15 @@ module _ (one : HaveOneLayout) (map : (layout : DiskLayout) → OpenToOneMap lay
     pub demo_image : (status seed rows : ℕ) (layout : DiskLayout) (l k k' : Option (List ℕ)) → IsFreshDemo status seed rows old new layout l l k k' → HasRun status ⊎ (status ≡ 9) → IsTrue new.tells_images → HoldsImage new
     demo_image status seed rows layout l k k' (inl un) has images = absurd (not_unopened status has un.why)
     demo_image status seed rows layout l k k' (inr run) has images = ran_image new laws images run.2.after run.2.at_end
+
+    -- a store was opened; where its bytes were known to be one's, these are its table and layout
+    pub opened_on : (status : ℕ) (l l' k k' : Option (List ℕ)) → IsStoredOutput status old new l l' k k' → (HoldsImage old → IsTrue old.tells_contents → (layout : DiskLayout) × (table : TableState) × HoldsTable old layout table)
+        → HoldsOnFor RunStored status old new
+    opened_on status l l' k k' output found = record {
+      kept = stored_on status l l' k k' output;
+      made = λ made _. absurd made;
+      image = λ holds has tells images. stored_image status l l' k k' output (found holds tells).0 (found holds tells).1 (found holds tells).2 has tells images;
+    }
 
     -- no store was opened
     pub refused_on : (status : ℕ) (fault : StartFault) (l l' k k' : Option (List ℕ)) (r w : Type 0) → status ≡ start_status fault → IsDoneSo RunStored status old new l l' k k' r w → HoldsOnFor RunStored status old new

@@ -1,5 +1,5 @@
 -- what follows from the clauses of the program
-use Rattle.std.proofs.Common.{◌≡◌, ℕ, List, Option, Some, sym, ◌∙◌, subst, ◌⊎◌, inl, inr}
+use Rattle.std.proofs.Common.{◌≡◌, ℕ, Some, ◌∙◌, subst, inl, inr}
 use Rattle.std.specs.Prelude.{IsTrue}
 use Rattle.block_model.specs.DatabaseState.{initial_state}
 use Rattle.block_model.specs.TableState.{TableState}

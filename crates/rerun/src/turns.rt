@@ -53,11 +53,5 @@ fn run_over(
         → IsRunOver layout table result.0 (told_by_memory disk) (told_by_memory result.1) streams.old streams.new }
     ensures image { HoldsStore (told_by_memory disk) → HoldsImage (told_by_memory result.1) }
 {
-    brin_main(
-        alloc,
-        words,
-        disk,
-        &mut streams.script,
-        &mut streams.texts,
-    )
+    brin_main(alloc, words, disk, &mut streams.script, &mut streams.texts)
 }

@@ -25,11 +25,13 @@ returns-in-Ok g c = record {
       let new = g.D.Disk.told c.demo_on.result.1 in
       let obeys = laws_of g.D.Disk.told g.met.D.Disk.images_need_contents g.met.D.Disk.contents_are_an_image g.met.D.Disk.now_is_since in
       let laws = obeys c.demo_on.result.1 in
+      let taken = g.K.Sink.taken c.args.sink.now in
+      let taken' = g.K.Sink.taken c.demo_on.new.sink in
       let holds = λ (tells : IsTrue mid.tells_contents). c.in-Ok.ensures.holds (sym c.make.ensures.any_moment.tells_contents ∙ tells) in
       let run = λ (tells : IsTrue mid.tells_contents). c.demo_on.ensures.sums.run tells layout (holds tells) None in
       made_on one map layout (g.D.Disk.told c.args.disk) mid c.make.ensures.any_moment c.in-Ok.ensures.made c.in-Ok.ensures.holds (obeys c.args.disk) (Demo layout c.args.numbers.seed c.args.numbers.rows)
-      c.demo_on.result.0 new (λ sure. demo_on one map mid new laws c.demo_on.result.0 c.args.numbers.seed c.args.numbers.rows layout None _ _ (run sure.tells_contents) sure)
-      (λ _ has tells images. demo_image one map mid new laws c.demo_on.result.0 c.args.numbers.seed c.args.numbers.rows layout None _ _ (run tells) has images);
+      c.demo_on.result.0 new (λ sure. demo_on one map mid new laws c.demo_on.result.0 c.args.numbers.seed c.args.numbers.rows layout None taken taken' (run sure.tells_contents) sure)
+      (λ _ has tells images. demo_image one map mid new laws c.demo_on.result.0 c.args.numbers.seed c.args.numbers.rows layout None taken taken' (run tells) has images);
 }
 
 pub returns-in-Err : goal.returns-in-Err

@@ -1,5 +1,5 @@
 use Rattle.brin_app.proofs.Doing.{fresh_run, refused_done, refused_fresh, stored_done}
-use Rattle.brin_app.proofs.Holding.{laws_of, refused_on, stored_image, stored_on}
+use Rattle.brin_app.proofs.Holding.{laws_of, opened_on, refused_on}
 use Rattle.brin_app.proofs.Performed.{answered_done, answered_fresh}
 use Rattle.brin_app.proofs.top.run_stored.Goals as goal
 
@@ -28,21 +28,14 @@ returns-in-Err-clause-fresh g c =
 
 pub returns-in-Ok-clause-holds_on : goal.returns-in-Ok-clause-holds_on
 returns-in-Ok-clause-holds_on g c =
-    let one = c.one_layout.ensures in
-    let map = c.each_image_opens_to_one_map.ensures in
-    let old = g.D.Disk.told c.args.disk in
-    let new = g.D.Disk.told c.run_opened.result.1 in
     let obeys = laws_of g.D.Disk.told g.met.D.Disk.images_need_contents g.met.D.Disk.contents_are_an_image g.met.D.Disk.now_is_since in
-    let laws = obeys c.run_opened.result.1 in
-    let done = returns-in-Ok-clause-done g c in
-    record {
-      kept = stored_on one map old new laws c.run_opened.result.0 _ _ _ _ done.output;
-      made = λ made _. absurd made;
-      image = λ holds has tells images.
-          let found = holds tells c.in-Ok.store.pages.layout c.in-Ok.store.pages.pages (c.in-Ok.ensures.pages tells) in
-          stored_image one map old new laws c.run_opened.result.0 _ _ _ _ done.output c.in-Ok.store.pages.layout found.0
-          (record { sized = (c.in-Ok.ensures.there tells).sized; pages = c.in-Ok.store.pages.pages; opens = c.in-Ok.ensures.pages tells; image = found.1 }) has tells images;
-    }
+    let layout = c.in-Ok.store.pages.layout in
+    let pages = c.in-Ok.store.pages.pages in
+    opened_on c.one_layout.ensures c.each_image_opens_to_one_map.ensures (g.D.Disk.told c.args.disk) (g.D.Disk.told c.run_opened.result.1) (obeys c.run_opened.result.1) c.run_opened.result.0 _ _ _ _
+    (returns-in-Ok-clause-done g c).output
+    (λ holds tells.
+    let found = holds tells layout pages (c.in-Ok.ensures.pages tells) in
+    (layout, found.0, record { sized = (c.in-Ok.ensures.there tells).sized; pages = pages; opens = c.in-Ok.ensures.pages tells; image = found.1 }))
 
 pub returns-in-Err-clause-holds_on : goal.returns-in-Err-clause-holds_on
 returns-in-Err-clause-holds_on g c =
