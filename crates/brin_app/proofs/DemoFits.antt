@@ -1,5 +1,5 @@
 -- No demo fills the journal.
-use Rattle.std.proofs.Common.{◌≡◌, ◌≢◌, ◌⊎◌, inl, inr, ℕ, zero, suc, ◌+◌, ◌-◌, ◌*◌, ◌/◌, ◌%◌, ◌≤◌, ◌<◌, ◌==◌, eqb, min, Bool, true, false, List, [], ◌∷◌, ◌++◌, length, map, codes, decimal, slice_get, Option, None, Some, refl, sym, ap, ◌∙◌, subst, arith, append_assoc, ne_eqb}
+use Rattle.std.proofs.Common.{◌≡◌, inl, inr, ℕ, zero, suc, ◌+◌, ◌-◌, ◌*◌, ◌%◌, ◌≤◌, ◌==◌, min, Bool, true, false, List, [], ◌∷◌, ◌++◌, length, map, codes, slice_get, Option, None, Some, refl, sym, ap, ◌∙◌, subst, arith, ne_eqb}
 use Rattle.std.specs.Prelude.{All, if◌then◌else◌}
 use Rattle.std.specs.Str.{bytes_eq}
 use Rattle.std.proofs.lemmas.Bool.{false≢true}
@@ -8,15 +8,14 @@ use Rattle.std.proofs.lemmas.List.{map_push}
 use Rattle.std.proofs.lemmas.List.Elements.{All-from_recursion}
 use Rattle.std.proofs.lemmas.List.Sums.{sum_by-append, sum_by-cons, sum_by-le}
 use Rattle.std.proofs.lemmas.Option.{none-some, same_Some}
-use Rattle.command_line.specs.Laws.{AreDemoNumbers}
 use Rattle.demo_script.specs.declared.answer.Answer.{Answer}
-use Rattle.demo_script.specs.Conversation.{AreRounds, AreRows, Closes, IsDemo, IsDemoFront, IsRound, IsRow, Opens, Puts, PutsBlocked, Said, Says, StepsOn, each_session, keeper, last_lines, rounds_of, rows_of_round, selects}
+use Rattle.demo_script.specs.Conversation.{AreRounds, AreRows, Closes, IsDemo, IsDemoFront, IsRound, IsRow, Opens, Puts, Said, Says, StepsOn, each_session, keeper, last_lines, rounds_of, rows_of_round}
 use Rattle.demo_script.specs.DemoLines.{insert_line, line, middle_conditions, row_text, select_line, session_of}
-use Rattle.demo_script.specs.Played.{AreSaid, HasStopped}
+use Rattle.demo_script.specs.Played.{AreSaid}
 use Rattle.query_words.specs.Lines.{line_of}
 use Rattle.query_words.specs.Words.{ended, texts_of, words_from, words_of}
 use Rattle.script_laws.specs.LineVerbs.{HasNoDelete, WordsBoundRequests, word_at}
-use Rattle.script_laws.specs.RequestBounds.{FillJournal, HasRoom, ScriptsBegin, ScriptsWithRoomFit, most_of_line, most_of_lines}
+use Rattle.script_laws.specs.RequestBounds.{HasRoom, ScriptsBegin, ScriptsWithRoomFit, most_of_line, most_of_lines}
 use Rattle.script_run.specs.Answers.{AreAnswers}
 use Rattle.script_run.specs.declared.engine.AnswerFault.TheVariants.{Full, Memory}
 use Rattle.script_semantics.specs.LineTexts.{IsLineText}

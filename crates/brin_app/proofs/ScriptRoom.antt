@@ -1,11 +1,10 @@
 -- A script whose lines have room fits the journal.
-use Rattle.std.proofs.Common.{◌≡◌, ◌⊎◌, inl, inr, ℕ, List, [], ◌∷◌, ◌++◌, length, Option, None, Some, refl, sym, ap, ◌∙◌, subst, append_assoc, append-nil}
-use Rattle.std.specs.Io.KnownBytes.{Consumes, IsAtEnd}
+use Rattle.std.proofs.Common.{inl, inr, ℕ, List, [], ◌∷◌, ◌++◌, length, Option, None, Some, refl, sym, ap, ◌∙◌, subst, append_assoc, append-nil}
+use Rattle.std.specs.Io.KnownBytes.{Consumes}
 use Rattle.std.specs.FinMap.{get-empty}
 use Rattle.std.specs.Ordering.{nat_cmp}
-use Rattle.block_model.specs.TableState.{TableState, rows_in}
-use Rattle.page_map.specs.PageMap.{PageMap}
-use Rattle.script_laws.specs.RequestBounds.{FillJournal, HasRoom, IsFirstPlace, ScriptsBegin, ScriptsHaveRoom, ScriptsWithRoomFit}
+use Rattle.block_model.specs.TableState.{rows_in}
+use Rattle.script_laws.specs.RequestBounds.{HasRoom, IsFirstPlace, ScriptsBegin, ScriptsHaveRoom, ScriptsWithRoomFit}
 use Rattle.script_run.specs.Runs.{AreFirst, IsFront}
 use Rattle.script_run.specs.Script.{ended_append, ended_from, ended_lines, last_line, rest_from, rest_line, script_lines}
 use Rattle.script_semantics.specs.Place.{Place}
@@ -14,7 +13,7 @@ use Rattle.session_core.specs.StoreImage.{database_with}
 use Rattle.store_layout.specs.DiskLayout.{DiskLayout}
 use Rattle.brin_app.specs.ScriptOutput.{StartsOver}
 use Rattle.brin_app.specs.ScriptRoom.{ScriptsFitJournal}
-use Rattle.brin_app.specs.StatusCauses.{FillsJournal, FitsJournal, JournalWasFull}
+use Rattle.brin_app.specs.StatusCauses.{FitsJournal}
 
 -- lines that ended in a part of the script are first lines of it
 front_of_part : (done : List (List ℕ)) (part rest : List ℕ) → IsFront done (ended_lines part) → IsFront done (script_lines (part ++ rest))
