@@ -4,7 +4,7 @@ use Rattle.std.specs.Prelude.{◌==◌, not, slice_index, slice_index_or}
 use Rattle.std.proofs.lemmas.List.{get_or-replicate, get_or_past}
 use Rattle.block_model.specs.declared.limits.TheConstants.{PAGE_SIZE}
 use Rattle.block_model.specs.declared.value.Kind.{Kind}
-use Rattle.store_layout.specs.DiskLayout.{DiskLayout, relation_blocks}
+use Rattle.store_layout.specs.DiskLayout.{DiskLayout}
 use Rattle.page_layout.specs.PageContents.{IsHeap, IsUnstarted, Slot, heap_bytes}
 use Rattle.page_map.specs.PageMap.{IsWhole, PageMap, block_at, unstarted_page}
 use Rattle.page_map.specs.Started.{is_started, started_count}
@@ -45,6 +45,8 @@ extent_shown layout pages table blocks whole there has =
     let size : length (slice_index_or pages r []) ≡ layout.sizes.heap_blocks =
     sym (length_at pages r) ∙ ap (λ (l : List ℕ). slice_index l r) whole ∙ limit_is layout table r refl there in
     let few : length blocks ≤ length (slice_index_or pages r []) = omega (arith, has.within, size) in
+    let counted : started_count pages r ≡ 0 + length blocks =
     counts_from is_started unstarted_page (slice_index_or pages r []) 0 (length blocks) few
     (λ b below. started_heap (block_at pages r b) (has.started b below))
-    (λ b low below. unstarted (block_at pages r b) (has.unstarted b low (omega (arith, below, size))))
+    (λ b low below. unstarted (block_at pages r b) (has.unstarted b low (omega (arith, below, size)))) in
+    omega (arith, counted)

@@ -1,5 +1,5 @@
 -- which blocks are given
-use Rattle.std.proofs.Common.{◌≡◌, ◌≢◌, ℕ, zero, suc, ◌+◌, ◌*◌, ◌/◌, ◌<◌, ◌≤◌, Bool, true, false, cond, ◌&&◌, List, [], ◌∷◌, length, Option, None, Some, refl, sym, ap, ◌∙◌, arith, true≢false, div-mul-le_self, lt_of_le_of_lt}
+use Rattle.std.proofs.Common.{◌≡◌, ℕ, zero, suc, ◌+◌, ◌*◌, ◌/◌, ◌<◌, ◌≤◌, Bool, true, false, cond, ◌&&◌, List, [], ◌∷◌, length, Option, None, Some, refl, sym, ap, ◌∙◌, arith, true≢false, div-mul-le_self, lt_of_le_of_lt}
 use Rattle.std.specs.Prelude.{IsTrue, slice_index_or}
 use Rattle.std.specs.List.{filter, list_all, range_with_len}
 use Rattle.std.proofs.lemmas.Bool.{and_from, and_parts}
@@ -9,7 +9,7 @@ use Rattle.store_layout.specs.DiskLayout.{DiskLayout}
 use Rattle.coverage.specs.Table.{TableScan, TableState}
 use Rattle.coverage.specs.TableCovered.{JudgesExactly}
 use Rattle.coverage.specs.TableSteps.{first_block, range_in}
-use Rattle.index_steps.specs.IndexTuples.{IndexShape, index_at, seen, shape_of}
+use Rattle.index_steps.specs.IndexTuples.{IndexShape, seen, shape_of}
 use Rattle.index_steps.specs.ShownTable.{indexes_of}
 use Rattle.shown_index.specs.GivenBlocks.{given_blocks, gives, is_given, keeps_range, range_of}
 use Rattle.shown_index.specs.JudgesAsShown.{JudgesAsShown}
@@ -106,9 +106,12 @@ module _ (layout : DiskLayout) (shown : Shown) (query : Query) (w : TableState) 
           is_true (gives layout shown query b (number_at layout query.table at)) (λ out. ((exact.candidate b).0 is).1 at within (verdict b at below within ∙ ap (λ (x : Bool). Some x) out)))
 
       candidate : IsTrue (is_given layout shown query b) → IsTrue (scan.candidate b)
-      candidate is = (exact.candidate b).1 (below, λ i within out.
-          let inside : i < length (indexes_of layout query.table) = omega (arith, within, judges.indexes) in
-          true≢false (sym (all_at (gives layout shown query b) (indexes_of layout query.table) i inside is) ∙ ap truth_of (sym (verdict b i below within) ∙ out)))
+      candidate is = (exact.candidate b).1 (
+        below,
+        λ i within out.
+            let inside : i < length (indexes_of layout query.table) = omega (arith, within, judges.indexes) in
+            true≢false (sym (all_at (gives layout shown query b) (indexes_of layout query.table) i inside is) ∙ ap truth_of (sym (verdict b i below within) ∙ out)),
+      )
 
   pub explain_tells : filter scan.candidate (range_with_len 0 scan.extent) ≡ given_blocks layout shown query
   explain_tells =

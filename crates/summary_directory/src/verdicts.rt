@@ -99,9 +99,8 @@ fn judge_ranges(
     ensures kept { IfOk result (λ v. v.items ≡ map (keeps_cell judge.old.classes keys.now) ranges.now) }
 {
     let mut kept = Vec::with_capacity(alloc, ranges.len())?;
-    'ranges: for at in 0..ranges.len() {
-        let keeps = judge.keeps(&ranges[at], keys);
-        kept.push(keeps)?;
+    'ranges: for tuple in ranges {
+        kept.push(judge.keeps(tuple, keys))?;
     }
     Ok(kept)
 }

@@ -5,5 +5,5 @@ use Rattle.summary_directory.proofs.verdicts.judge_ranges.Given as goal
 abbrev pub invariant-ranges : goal.invariant-ranges
 invariant-ranges l = record {
   same : l.judge ≡ l.fn.judge;
-  kept : l.kept.items ≡ map (keeps_cell l.fn.judge.classes l.keys) (take l.at l.ranges);
+  kept : l.kept.items ≡ map (keeps_cell l.fn.judge.classes l.keys) (take l.tuple-index l.ranges);
 }
