@@ -48,7 +48,7 @@ fn list(alloc: Global, verdicts: &[Verdicts], extent: u32) -> Result<Blocks, NoM
     ensures { IfOk result (λ blocks. blocks ≡ filter (all_keep verdicts.now) (range_with_len 0 extent)) }
 {
     let mut blocks = Blocks::new(alloc);
-    'blocks: for block in 0..extent {
+    'candidates: for block in 0..extent {
         list_if(are_kept(verdicts, block), block, &mut blocks)?;
     }
     Ok(blocks)

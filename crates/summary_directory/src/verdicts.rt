@@ -99,7 +99,7 @@ fn judge_ranges(
     ensures kept { IfOk result (λ v. v.items ≡ map (keeps_cell judge.old.classes keys.now) ranges.now) }
 {
     let mut kept = Vec::with_capacity(alloc, ranges.len())?;
-    'ranges: for tuple in ranges {
+    'tuples: for tuple in ranges {
         kept.push(judge.keeps(tuple, keys))?;
     }
     Ok(kept)
