@@ -40,12 +40,7 @@ impl Model for Judge {
 
 impl Judge {
     /// The index of that number. Takes the memory of a tuple.
-    fn of(
-        alloc: Global,
-        index: &Index,
-        schema: &Schema,
-        number: u8,
-    ) -> Result<Judge, NoMemory>
+    fn of(alloc: Global, index: &Index, schema: &Schema, number: u8) -> Result<Judge, NoMemory>
         requires { IsReadable schema.now index.now }
         ensures { IfOk result (λ judge. judge ≡ scanned_in schema.now number index.now) }
     {

@@ -37,7 +37,11 @@ impl Verdicts {
     {
         let range = (block / self.pages_per_range) as usize;
         let kept = &self.kept;
-        if range < kept.len() { kept[range] } else { true }
+        if range < kept.len() {
+            kept[range]
+        } else {
+            true
+        }
     }
 }
 
