@@ -1,0 +1,5 @@
+pub mod Shown
+pub mod ShownByPages
+pub mod GivenBlocks
+pub mod LeavesOut
+pub mod JudgesAsShown

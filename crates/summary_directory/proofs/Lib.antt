@@ -1,0 +1,4 @@
+pub mod Placed
+pub mod Folds
+pub mod Steps
+pub mod Judged
