@@ -3,7 +3,7 @@ use Rattle.std.proofs.Common.{◌≡◌, ◌≢◌, ℕ, inl, inr, Bool, true, f
 use Rattle.std.specs.Prelude.{◌==◌, if◌then◌else◌, slice_index, slice_index_or}
 use Rattle.std.proofs.lemmas.Bool.{cases_eq, eq-eqb, ne_eqb}
 use Rattle.std.proofs.lemmas.List.{get_or_past}
-use Rattle.shown_index.specs.Shown.{Shown}
+use Rattle.summary_directory.specs.Shown.{Shown}
 use Rattle.summary_directory.specs.declared.post.Post.{Post}
 use Rattle.summary_directory.specs.declared.post.Post.TheVariants.{Set, Clear, Extent}
 use Rattle.summary_directory.specs.declared.kept.Kept.{Kept}

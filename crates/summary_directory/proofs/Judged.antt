@@ -14,8 +14,8 @@ use Rattle.range_tuple.specs.Tuples.{Tuple}
 use Rattle.index_steps.specs.IndexTuples.{IndexShape, classes_of, keeps_conds, seen, shape_of}
 use Rattle.index_steps.specs.ShownTable.{indexes_of}
 use Rattle.bitmap_scan.specs.ScanHands.{ScannedIndex, scanned_index, scanned_indexes}
-use Rattle.shown_index.specs.GivenBlocks.{given_blocks, gives, is_given, keeps_range, range_of}
-use Rattle.shown_index.specs.Shown.{Shown}
+use Rattle.summary_directory.specs.GivenBlocks.{given_blocks, gives, is_given, keeps_range, range_of}
+use Rattle.summary_directory.specs.Shown.{Shown}
 use Rattle.summary_directory.specs.declared.kept.Kept.{Kept}
 use Rattle.summary_directory.specs.JudgedBlocks.{blocks_by, gives_by, keeps_cell}
 use Rattle.summary_directory.specs.ShelfFold.{shown_of}

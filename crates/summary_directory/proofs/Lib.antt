@@ -1,3 +1,5 @@
+pub mod Given
+pub mod Extents
 pub mod Placed
 pub mod Folds
 pub mod Steps

@@ -6,7 +6,7 @@ use mathlib.Core.Option.{some, some-ne-none, some-injective}
 use lib.ListN.{get_elem?}
 use Rattle.crossbeam_utils.specs.Register.{Admits, Turns, TurnsAt, Forks, Merges}
 use Rattle.atomic_table.proofs.Lists.{at_set, at_snoc}
-use Rattle.shown_index.specs.Shown.{Shown}
+use Rattle.summary_directory.specs.Shown.{Shown}
 use Rattle.summary_directory.specs.declared.post.Post.{Post}
 use Rattle.summary_directory.specs.declared.post.Post.TheVariants.{Set, Clear, Extent}
 use Rattle.summary_directory.specs.declared.kept.Kept.{Kept}

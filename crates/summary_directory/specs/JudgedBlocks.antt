@@ -7,7 +7,7 @@ use Rattle.opclass_any.specs.declared.classes.AnyClass.{AnyClass}
 use Rattle.range_tuple.specs.TupleReading.{tuple_in}
 use Rattle.index_steps.specs.IndexTuples.{keeps_conds}
 use Rattle.bitmap_scan.specs.ScanHands.{ScannedIndex}
-use Rattle.shown_index.specs.Shown.{Shown}
+use Rattle.summary_directory.specs.Shown.{Shown}
 
 -- a range without a tuple is kept, and one with a tuple where that keeps the conditions
 abbrev pub keeps_cell : List (ℕ × AnyClass) → List Cond → Option (List ℕ) → Bool

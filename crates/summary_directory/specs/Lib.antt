@@ -1,3 +1,8 @@
+pub mod Shown
+pub mod ShownByPages
+pub mod GivenBlocks
+pub mod LeavesOut
+pub mod JudgesAsShown
 pub mod Places
 pub mod PublishedState
 pub mod ShelfFold

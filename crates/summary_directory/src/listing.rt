@@ -4,7 +4,7 @@ ghost use Rattle.std.specs.Prelude.{◌≡◌, ◌++◌, ◌∷◌, [], if◌the
 ghost use Rattle.std.specs.List.{list_all, range_with_len};
 ghost use Rattle.store_layout.specs.DiskLayout.{DiskLayout};
 ghost use Rattle.bitmap_scan.specs.ScanHands.{scanned_indexes};
-ghost use Rattle.shown_index.specs.GivenBlocks.{given_blocks};
+ghost use Rattle.summary_directory.specs.GivenBlocks.{given_blocks};
 ghost use Rattle.summary_directory.specs.Rule.{kept};
 ghost use Rattle.summary_directory.specs.ShelfFold.{shown_of};
 ghost use Rattle.summary_directory.specs.Verdicts.{all_keep, keeps_block};

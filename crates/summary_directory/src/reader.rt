@@ -5,7 +5,7 @@ ghost use Rattle.std.specs.Box.{boxed_slice_items};
 ghost use Rattle.left_right.specs.Sides.{view};
 ghost use Rattle.store_layout.specs.DiskLayout.{DiskLayout};
 ghost use Rattle.bitmap_scan.specs.ScanHands.{scanned_indexes};
-ghost use Rattle.shown_index.specs.GivenBlocks.{given_blocks};
+ghost use Rattle.summary_directory.specs.GivenBlocks.{given_blocks};
 ghost use Rattle.summary_directory.specs.PublishedState.{shown_after};
 ghost use Rattle.summary_directory.specs.Rule.{StartsWith, kept};
 ghost use Rattle.summary_directory.specs.ShelfFold.{shown_of};

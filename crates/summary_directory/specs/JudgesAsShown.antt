@@ -6,9 +6,9 @@ use Rattle.coverage.specs.Table.{TableScan, TableState}
 use Rattle.coverage.specs.TableSteps.{first_block}
 use Rattle.index_steps.specs.IndexTuples.{index_at, shape_of}
 use Rattle.index_steps.specs.ShownTable.{indexes_of}
-use Rattle.shown_index.specs.GivenBlocks.{keeps_range}
-use Rattle.shown_index.specs.LeavesOut.{number_at}
-use Rattle.shown_index.specs.Shown.{Shown}
+use Rattle.summary_directory.specs.GivenBlocks.{keeps_range}
+use Rattle.summary_directory.specs.LeavesOut.{number_at}
+use Rattle.summary_directory.specs.Shown.{Shown}
 
 -- The table is that of the query, with its indexes; the scan has the extent that is shown; and of each index it has judged each range below
 -- the extent, as the tuple that is shown for it keeps the conditions or doesn't.

@@ -1,5 +1,5 @@
-use Rattle.shown_index.proofs.Given.{left_out, left_out_by}
-use Rattle.shown_index.proofs.laws.a_block_is_left_out_by_a_tuple.Goals as goal
+use Rattle.summary_directory.proofs.Given.{left_out, left_out_by}
+use Rattle.summary_directory.proofs.laws.a_block_is_left_out_by_a_tuple.Goals as goal
 
 pub returns-clause-by : goal.returns-clause-by
 returns-clause-by c = λ layout shown query block out. left_out_by layout shown query block out

@@ -6,7 +6,7 @@ use Rattle.block_model.specs.declared.row.Query.{Query}
 use Rattle.store_layout.specs.DiskLayout.{DiskLayout}
 use Rattle.index_steps.specs.IndexTuples.{IndexShape, index_at, seen, shape_of}
 use Rattle.index_steps.specs.ShownTable.{indexes_of}
-use Rattle.shown_index.specs.Shown.{Shown}
+use Rattle.summary_directory.specs.Shown.{Shown}
 
 -- a range without a tuple is kept, and one with a tuple where that keeps the conditions
 abbrev pub keeps_range : IndexShape → List Cond → Option (List ℕ) → Bool

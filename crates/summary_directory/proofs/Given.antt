@@ -11,10 +11,10 @@ use Rattle.coverage.specs.TableCovered.{JudgesExactly}
 use Rattle.coverage.specs.TableSteps.{first_block, range_in}
 use Rattle.index_steps.specs.IndexTuples.{IndexShape, seen, shape_of}
 use Rattle.index_steps.specs.ShownTable.{indexes_of}
-use Rattle.shown_index.specs.GivenBlocks.{given_blocks, gives, is_given, keeps_range, range_of}
-use Rattle.shown_index.specs.JudgesAsShown.{JudgesAsShown}
-use Rattle.shown_index.specs.LeavesOut.{LeavesOut, number_at}
-use Rattle.shown_index.specs.Shown.{Shown}
+use Rattle.summary_directory.specs.GivenBlocks.{given_blocks, gives, is_given, keeps_range, range_of}
+use Rattle.summary_directory.specs.JudgesAsShown.{JudgesAsShown}
+use Rattle.summary_directory.specs.LeavesOut.{LeavesOut, number_at}
+use Rattle.summary_directory.specs.Shown.{Shown}
 
 -- ---- tests over lists
 

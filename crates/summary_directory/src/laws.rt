@@ -9,11 +9,11 @@ ghost use Rattle.page_map.specs.PageMap.{IsWhole, PageMap};
 ghost use Rattle.heap_rows.specs.HeapBlocks.{HasBlocks};
 ghost use Rattle.coverage.specs.Table.{TableScan, TableState};
 ghost use Rattle.coverage.specs.TableCovered.{JudgesExactly};
-ghost use Rattle.shown_index.specs.GivenBlocks.{given_blocks, is_given};
-ghost use Rattle.shown_index.specs.JudgesAsShown.{JudgesAsShown};
-ghost use Rattle.shown_index.specs.LeavesOut.{LeavesOut};
-ghost use Rattle.shown_index.specs.Shown.{Shown};
-ghost use Rattle.shown_index.specs.ShownByPages.{shown_by_pages};
+ghost use Rattle.summary_directory.specs.GivenBlocks.{given_blocks, is_given};
+ghost use Rattle.summary_directory.specs.JudgesAsShown.{JudgesAsShown};
+ghost use Rattle.summary_directory.specs.LeavesOut.{LeavesOut};
+ghost use Rattle.summary_directory.specs.Shown.{Shown};
+ghost use Rattle.summary_directory.specs.ShownByPages.{shown_by_pages};
 
 /// A block is left out exactly where an index of the table has a tuple for its range that doesn't keep the conditions.
 pub fn a_block_is_left_out_by_a_tuple()

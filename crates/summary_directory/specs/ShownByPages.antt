@@ -5,7 +5,7 @@ use Rattle.page_map.specs.PageMap.{PageMap}
 use Rattle.page_map.specs.Started.{started_count}
 use Rattle.heap_rows.specs.Heaps.{relation_of}
 use Rattle.index_contents.specs.IndexContents.{contents}
-use Rattle.shown_index.specs.Shown.{Shown}
+use Rattle.summary_directory.specs.Shown.{Shown}
 
 -- of each range the bytes at the spot that the map names for it; of each table as many blocks as are started
 abbrev pub shown_by_pages : DiskLayout → PageMap → Shown

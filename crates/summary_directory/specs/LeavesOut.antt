@@ -4,8 +4,8 @@ use Rattle.block_model.specs.declared.row.Query.{Query}
 use Rattle.store_layout.specs.DiskLayout.{DiskLayout}
 use Rattle.index_steps.specs.IndexTuples.{seen, shape_of}
 use Rattle.index_steps.specs.ShownTable.{indexes_of}
-use Rattle.shown_index.specs.GivenBlocks.{range_of}
-use Rattle.shown_index.specs.Shown.{Shown}
+use Rattle.summary_directory.specs.GivenBlocks.{range_of}
+use Rattle.summary_directory.specs.Shown.{Shown}
 
 -- the index at a place among the table's
 abbrev pub number_at : DiskLayout → (table at : ℕ) → ℕ

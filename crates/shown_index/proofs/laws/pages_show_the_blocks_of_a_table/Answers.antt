@@ -1,5 +1,0 @@
-use Rattle.shown_index.proofs.Extents.{extent_shown}
-use Rattle.shown_index.proofs.laws.pages_show_the_blocks_of_a_table.Goals as goal
-
-pub returns : goal.returns
-returns c = λ layout pages table blocks whole there has. extent_shown layout pages table blocks whole there has
