@@ -52,7 +52,7 @@ pub struct Planned<P: Plan, L: Ledger, E: Ledger> {
 
 impl<P: Plan, L: Ledger, E: Ledger> Model for Planned<P, L, E> {
     ghost use Rattle.std.specs.Prelude.{◌≡◌, ◌↔◌, IsNone};
-    ghost use Rattle.thread_tests.specs.Books.{Books};
+    ghost use Rattle.store_tests.specs.Books.{Books};
 
     ghost Value = { Books };
 

@@ -5,7 +5,7 @@ use Rattle.block_model.specs.Networks.{Network}
 use Rattle.block_model.specs.Ranges.{Range}
 use Rattle.block_model.specs.declared.value.Value.{Value}
 use Rattle.block_model.specs.declared.value.Value.TheVariants.{Null, Int, Span, Net}
-use Rattle.value_tests.specs.FiveColumns.{minmax_part, multi_part, span_part, net_part, bloom_part, five_parts}
+use Rattle.data_tests.specs.FiveColumns.{minmax_part, multi_part, span_part, net_part, bloom_part, five_parts}
 use Rattle.opclass_any.specs.AnyClass.{takes}
 use Rattle.opclass_any.specs.declared.classes.AnyClass.{AnyClass}
 use Rattle.range_tuple.specs.SameIndex.{takes_by_parts}

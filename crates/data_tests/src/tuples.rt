@@ -1,7 +1,7 @@
 //! Each call of a range tuple but `new`: what it answers and the bytes that it writes, with memory and without.
 
 ghost use Rattle.std.specs.Prelude.{◌≡◌, IfOk};
-ghost use Rattle.value_tests.specs.FiveColumns.{five_parts};
+ghost use Rattle.data_tests.specs.FiveColumns.{five_parts};
 ghost use Rattle.range_tuple.specs.Tuples.{parts_of};
 
 use crate::all_memory::{AllMemory, Outcome};

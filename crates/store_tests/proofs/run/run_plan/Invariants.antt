@@ -1,4 +1,4 @@
-use Rattle.thread_tests.proofs.run.run_plan.Given as goal
+use Rattle.store_tests.proofs.run.run_plan.Given as goal
 
 -- the ledgers of both books are those of the blanks
 abbrev pub ghosts-with_books-L-Ledger : goal.ghosts-with_books-L-Ledger

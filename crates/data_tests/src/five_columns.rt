@@ -5,7 +5,7 @@ ghost use Rattle.std.specs.List.{list_all};
 ghost use Rattle.block_model.specs.declared.limits.TheConstants.{MAX_TUPLE};
 ghost use Rattle.block_model.specs.ClassLimits.{class_is_lawful};
 ghost use Rattle.block_model.specs.TupleSize.{tuple_size};
-ghost use Rattle.value_tests.specs.FiveColumns.{five_parts};
+ghost use Rattle.data_tests.specs.FiveColumns.{five_parts};
 ghost use Rattle.range_tuple.specs.Tuples.{empty_placeholder, parts_of};
 
 use block_model::{
