@@ -5,6 +5,8 @@
 #![tactic(auto)]
 
 #[cfg(test)]
+mod ended;
+#[cfg(test)]
 mod ends;
 #[cfg(test)]
 mod faults;
@@ -28,8 +30,6 @@ mod signal;
 mod status_pages;
 #[cfg(test)]
 mod stores;
-#[cfg(test)]
-mod transactions;
 #[cfg(test)]
 mod trial;
 #[cfg(test)]
