@@ -29,7 +29,7 @@ const WIDE_ROW: [u8; 53] = [
 type Fault = (usize, u8, Option<u16>);
 
 /// Of a page whose first slot has the wide row.
-const HEAP_FAULTS: [Fault; 21] = [
+const HEAP_FAULTS: [Fault; 23] = [
     (0, 2, None),
     (0, 0, Some(32)),
     (0, 1, Some(0)),
@@ -42,6 +42,8 @@ const HEAP_FAULTS: [Fault; 21] = [
     (53, 4, Some(79)),
     (62, 8, Some(62)),
     (62, 1, Some(63)),
+    (62, 2, Some(63)),
+    (62, 4, Some(71)),
     (78, 1, Some(71)),
     (79, 6, Some(79)),
     (80, 33, Some(80)),
@@ -64,7 +66,7 @@ const STATUS_FAULTS: [Fault; 6] = [
 ];
 
 /// Of a page of tuples.
-const TUPLE_FAULTS: [Fault; 18] = [
+const TUPLE_FAULTS: [Fault; 21] = [
     (0, 5, None),
     (0, 6, None),
     (0, 0, Some(3)),
@@ -75,14 +77,35 @@ const TUPLE_FAULTS: [Fault; 18] = [
     (1, 1, Some(1)),
     (2, 8, Some(2)),
     (3, 1, Some(34)),
-    (3, 3, Some(42)),
+    (3, 2, Some(40)),
+    (3, 4, Some(46)),
     (31, 9, Some(31)),
     (33, 1, Some(32)),
     (35, 1, Some(32)),
     (37, 252, Some(36)),
     (39, 0, Some(36)),
-    (40, 1, Some(40)),
-    (8188, 1, Some(8188)),
+    (41, 250, Some(40)),
+    (43, 1, Some(40)),
+    (44, 1, Some(44)),
+    (8186, 1, Some(8186)),
+];
+
+/// Of a metapage.
+const META_FAULTS: [Fault; 5] = [
+    (0, 3, None),
+    (1, 1, Some(1)),
+    (3, 1, Some(3)),
+    (36, 1, Some(36)),
+    (8191, 1, Some(8191)),
+];
+
+/// Of a page of the map.
+const MAP_FAULTS: [Fault; 5] = [
+    (37, 1, None),
+    (31, 1, Some(31)),
+    (3, 1, Some(3)),
+    (38, 1, Some(38)),
+    (8190, 1, Some(8190)),
 ];
 
 /// Of a page of zeros that is read as one of an index, which has kinds of its own.
@@ -143,13 +166,21 @@ fn statuses() -> [u8; 8192] {
     bytes
 }
 
-/// A page of tuples: a free slot and one with three bytes, which end the page.
+/// A page of tuples: a free slot, one with three bytes, which end the page, and one with two bytes in front of these.
 fn tuples() -> [u8; 8192] {
     let mut bytes = [0; 8192];
     bytes[0] = 5;
-    bytes[3] = 2;
-    bytes[36..40].copy_from_slice(&[31, 253, 0, 3]);
-    bytes[8189..].copy_from_slice(b"abc");
+    bytes[3] = 3;
+    bytes[36..44].copy_from_slice(&[31, 253, 0, 3, 31, 251, 0, 2]);
+    bytes[8187..].copy_from_slice(b"xyabc");
+    bytes
+}
+
+/// A page of zeros but for its kind and the number in front of byte 36: how many pages the map has, or the block that its first entry names.
+fn map_page(kind: u8) -> [u8; 8192] {
+    let mut bytes = [0; 8192];
+    bytes[0] = kind;
+    bytes[35] = 2;
     bytes
 }
 
@@ -165,6 +196,15 @@ fn faults_of_pages_are_at_their_fields(rt: HostRuntime) {
         first_other(&zeros, &wide_heap(), &NO_FAULT),
     ];
     assert_eq!(rt; found, [None; 6]);
+}
+
+#[test]
+fn faults_of_the_map_are_at_their_fields(rt: HostRuntime) {
+    let found = [
+        first_other(&map_page(3), &Form::Index, &META_FAULTS),
+        first_other(&map_page(4), &Form::Index, &MAP_FAULTS),
+    ];
+    assert_eq!(rt; found, [None; 2]);
 }
 
 #[test]

@@ -1,10 +1,10 @@
-//! Runs of scripts over an engine that answers each line with itself.
+//! Runs of scripts over an engine that answers each line with itself, and the lines of a script without end.
 
-ghost use Rattle.std.specs.Prelude.{◌≡◌, ◌<◌, codes};
+ghost use Rattle.std.specs.Prelude.{◌≡◌, ◌<◌, None, codes};
 
 use block_model::NoMemory;
-use io_traits::{MemorySink, MemorySource};
-use script_run::{AnswerFault, Engine, RunFault, run};
+use io_traits::{MemorySink, MemorySource, Source, SourceFault};
+use script_run::{AnswerFault, Engine, Lines, LinesEnd, RunFault, run};
 use std::alloc::Global;
 
 /// Answers each line with itself, runs out of memory at the line `!`, and of room at `?`.
@@ -90,4 +90,40 @@ fn first_wrong(alloc: Global) -> Option<&'static Case> {
 #[test]
 fn each_end_comes_where_it_should(rt: HostRuntime) {
     assert_eq!(rt; first_wrong(rt.alloc()), None);
+}
+
+/// Line feeds without end.
+#[derive(Drop)]
+struct Endless;
+
+impl Source for Endless {
+    ghost left = { λ _. None };
+
+    ghost faults = { λ _. 0 };
+
+    fn read(&mut self, into: &mut [u8]) -> Result<usize, SourceFault> {
+        into.fill(b'\n');
+        Ok(into.len())
+    }
+
+    fn faults(&self) -> u64 {
+        0
+    }
+}
+
+/// How many lines come of it up to the limit, and what ends them. `None` is want of memory, or no end.
+fn endless_lines(alloc: Global, limit: u64) -> Option<(u64, LinesEnd)> {
+    let mut lines = Lines::new(alloc, limit).ok()?;
+    for count in 0..2000 {
+        if let Err(end) = lines.next(&mut Endless) {
+            return Some((count, end));
+        }
+    }
+    None
+}
+
+#[test]
+fn a_script_without_end_is_spent(rt: HostRuntime) {
+    let spent = LinesEnd::Spent { taken: 1000 };
+    assert_eq!(rt; endless_lines(rt.alloc(), 1000), Some((1000, spent)));
 }
