@@ -5,6 +5,8 @@
 
 mod making;
 mod streams;
+#[cfg(test)]
+mod tests;
 mod turns;
 
 pub use streams::{Ends, Room, Streams};
