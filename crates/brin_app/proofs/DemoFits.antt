@@ -187,17 +187,33 @@ module _ (bound : WordsBoundRequests) (schema : Schema) (rows : ℕ) where
 
   begin_few : All IsFew (each_session (codes "begin"))
   begin_few = All-from_recursion IsFew (each_session (codes "begin")) (
-    word_few (codes "d0 begin") (codes "begin") refl refl refl, (
-    word_few (codes "d1 begin") (codes "begin") refl refl refl, (
-    word_few (codes "d2 begin") (codes "begin") refl refl refl, (
-    word_few (codes "d3 begin") (codes "begin") refl refl refl, tt))))
+    word_few (codes "d0 begin") (codes "begin") refl refl refl,
+    (
+      word_few (codes "d1 begin") (codes "begin") refl refl refl,
+      (
+        word_few (codes "d2 begin") (codes "begin") refl refl refl,
+        (
+          word_few (codes "d3 begin") (codes "begin") refl refl refl,
+          tt,
+        ),
+      ),
+    ),
+  )
 
   commit_few : All IsFew (each_session (codes "commit"))
   commit_few = All-from_recursion IsFew (each_session (codes "commit")) (
-    word_few (codes "d0 commit") (codes "commit") refl refl refl, (
-    word_few (codes "d1 commit") (codes "commit") refl refl refl, (
-    word_few (codes "d2 commit") (codes "commit") refl refl refl, (
-    word_few (codes "d3 commit") (codes "commit") refl refl refl, tt))))
+    word_few (codes "d0 commit") (codes "commit") refl refl refl,
+    (
+      word_few (codes "d1 commit") (codes "commit") refl refl refl,
+      (
+        word_few (codes "d2 commit") (codes "commit") refl refl refl,
+        (
+          word_few (codes "d3 commit") (codes "commit") refl refl refl,
+          tt,
+        ),
+      ),
+    ),
+  )
 
   round_few : (seed all round : ℕ) (said : List Said) → IsRound seed all round said → most said ≤ 820
   round_few seed all round said is =
@@ -237,15 +253,33 @@ module _ (bound : WordsBoundRequests) (schema : Schema) (rows : ℕ) where
 
   last_few : (all : ℕ) → All IsFew (last_lines all)
   last_few all = All-from_recursion IsFew (last_lines all) (
-    words_few (codes "m summarize di") (codes "summarize") (codes "di") refl refl refl refl, (
-    words_few (codes "m vacuum d") (codes "vacuum") (codes "d") refl refl refl refl, (
-    word_few (codes "d0 begin") (codes "begin") refl refl refl, (
-    select_few (middle_conditions all), (
-    select_few (codes "v = 7"), (
-    select_few (codes "r @> [500,501)"), (
-    select_few (codes "a = 10.0.0.7"), (
-    words_few (codes "d0 explain d where " ++ middle_conditions all) (codes "explain") (codes "d") refl refl refl refl, (
-    word_few (codes "d0 commit") (codes "commit") refl refl refl, tt)))))))))
+    words_few (codes "m summarize di") (codes "summarize") (codes "di") refl refl refl refl,
+    (
+      words_few (codes "m vacuum d") (codes "vacuum") (codes "d") refl refl refl refl,
+      (
+        word_few (codes "d0 begin") (codes "begin") refl refl refl,
+        (
+          select_few (middle_conditions all),
+          (
+            select_few (codes "v = 7"),
+            (
+              select_few (codes "r @> [500,501)"),
+              (
+                select_few (codes "a = 10.0.0.7"),
+                (
+                  words_few (codes "d0 explain d where " ++ middle_conditions all) (codes "explain") (codes "d") refl refl refl refl,
+                  (
+                    word_few (codes "d0 commit") (codes "commit") refl refl refl,
+                    tt,
+                  ),
+                ),
+              ),
+            ),
+          ),
+        ),
+      ),
+    ),
+  )
 
   -- ---- the whole, and a front of it
 

@@ -56,5 +56,5 @@ scripts_fit_journal begin fit room = record {
   new = λ layout script has. fits fit room layout 0 (IsStart layout) (begin.new layout) script has;
   stored = λ layout pages next table script has.
       fits fit room layout (length (rows_in table)) (StartsOver layout pages next table)
-          (λ (p : Place) (starts : StartsOver layout pages next table p). begin.opened layout (database_with next table) p starts.opening (λ n. get-empty nat_cmp n)) script has;
+      (λ (p : Place) (starts : StartsOver layout pages next table p). begin.opened layout (database_with next table) p starts.opening (λ n. get-empty nat_cmp n)) script has;
 }

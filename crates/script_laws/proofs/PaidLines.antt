@@ -228,8 +228,7 @@ module _ (o : DatabaseState) (none : NoneOpen o) (first : ℕ) (few : length (ro
   behind_lines schema (line ∷ script) (text ∷ texts) said paid p q room is e =
       let own = most_of_line rows (line_of schema line) in
       let one = behind_line said paid (let low : first + suc said ≤ rows = omega (arith, room) in low) p is (line_of schema line) text e.0 e.1 in
-      let rest = behind_lines schema script texts (suc said) (paid + own) e.0 q (let low : first + (suc said + length script) ≤ rows = omega (arith, room) in low) one e.2 in
-      (
+      let rest = behind_lines schema script texts (suc said) (paid + own) e.0 q (let low : first + (suc said + length script) ≤ rows = omega (arith, room) in low) one e.2 in (
         subst (λ (m : ℕ). IsPaid o rows m q)
             (grouped paid own (most_of_lines schema rows script) (most_of_lines schema rows (line ∷ script)) (sum_by-cons (λ (l : List ℕ). most_of_line rows (line_of schema l)) line script)) rest.0,
         counted (puts q.journal) (length script) rest.1,

@@ -213,4 +213,3 @@ answered_lines_reach layout p q [] [] reached e = subst (IsReached layout) (sym 
 answered_lines_reach layout p q [] (text ∷ texts) reached e = absurd e
 answered_lines_reach layout p q (line ∷ more) [] reached e = absurd e
 answered_lines_reach layout p q (line ∷ more) (text ∷ texts) reached e = answered_lines_reach layout e.0 q more texts (BehindLine p e.0 line text reached e.1) e.2
-

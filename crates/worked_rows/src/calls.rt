@@ -143,7 +143,11 @@ impl Case<'_, '_> {
             return true;
         }
         let commits = text.matches(" committed\n").count();
-        let tables = if self.has_commit_in_hand(answer) { 2 } else { 1 };
+        let tables = if self.has_commit_in_hand(answer) {
+            2
+        } else {
+            1
+        };
         let found = self.run.found.iter().skip(commits).take(tables);
         for rows in found {
             if has_rows(seen.as_bytes(), rows.as_slice()) {
