@@ -86,6 +86,52 @@ fn publish_on<R: Wait>(rt: &R, alloc: Global, directory: &mut Directory, stop: &
     count
 }
 
+/// Times a reader of that directory, alone and beside its writer.
+fn measure<R: Wait + Threads>(
+    rt: &R,
+    clock: &HostRuntime,
+    alloc: Global,
+    layout: &Layout,
+    directory: &mut Directory,
+    blocks: u32,
+) -> io::Result<()> {
+    let filled = fill(rt, alloc, directory, blocks).is_some();
+    let told = directory.tell(alloc, layout, 0);
+    let (Ok(mut told), Some(query)) = (told, query(alloc)) else {
+        return Ok(());
+    };
+    'alone: for _ in 0..ROUNDS {
+        let start = Instant::now(clock)?;
+        let given = told.given(alloc, &query);
+        let took = start.elapsed(clock)?.as_nanos();
+        let count = given.map(|blocks| blocks.len()).unwrap_or(0);
+        println!(clock; "took {} alone {} {}", blocks, took, count)?;
+    }
+    let stop = AtomicU64::new(0);
+    let (times, published) = join(
+        rt,
+        || {
+            let mut times = [0u128; 50];
+            'beside: for round in 0..50 {
+                let start = Instant::now(clock);
+                let given = told.given(alloc, &query);
+                if let (Ok(start), Ok(_)) = (start, given) {
+                    if let Ok(took) = start.elapsed(clock) {
+                        times[round] = took.as_nanos();
+                    }
+                }
+            }
+            stop.store(1, Ordering::SeqCst);
+            times
+        },
+        || publish_on(rt, alloc, directory, &stop),
+    );
+    'beside: for round in 0..50 {
+        println!(clock; "took {} beside {} 1", blocks, times[round])?;
+    }
+    println!(clock; "published {} {} {}", blocks, published, filled)
+}
+
 fn main(rt: HostRuntime) -> io::Result<()> {
     let alloc = rt.alloc();
     'sizes: for blocks in [1000u32, 131072] {
@@ -97,43 +143,9 @@ fn main(rt: HostRuntime) -> io::Result<()> {
         let Ok(mut directory) = Directory::new(alloc, 2) else {
             return Ok(());
         };
-        let filled = fill(&rt, alloc, &mut directory, blocks).is_some();
-        let told = directory.tell(alloc, &layout, 0);
-        let (Ok(mut told), Some(query)) = (told, query(alloc)) else {
-            directory.close(&rt);
-            return Ok(());
-        };
-        'alone: for _ in 0..ROUNDS {
-            let start = Instant::now(&rt)?;
-            let given = told.given(alloc, &query);
-            let took = start.elapsed(&rt)?.as_nanos();
-            let count = given.map(|blocks| blocks.len()).unwrap_or(0);
-            println!(rt; "took {} alone {} {}", blocks, took, count)?;
-        }
-        let stop = AtomicU64::new(0);
-        let (times, published) = join(
-            &rt,
-            || {
-                let mut times = [0u128; 50];
-                'beside: for round in 0..50 {
-                    let start = Instant::now(&rt);
-                    let given = told.given(alloc, &query);
-                    if let (Ok(start), Ok(_)) = (start, given) {
-                        if let Ok(took) = start.elapsed(&rt) {
-                            times[round] = took.as_nanos();
-                        }
-                    }
-                }
-                stop.store(1, Ordering::SeqCst);
-                times
-            },
-            || publish_on(&rt, alloc, &mut directory, &stop),
-        );
-        'beside: for round in 0..50 {
-            println!(rt; "took {} beside {} 1", blocks, times[round])?;
-        }
-        println!(rt; "published {} {} {}", blocks, published, filled)?;
+        let measured = measure(&rt, &rt, alloc, &layout, &mut directory, blocks);
         directory.close(&rt);
+        measured?;
     }
     Ok(())
 }

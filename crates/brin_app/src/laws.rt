@@ -39,7 +39,7 @@ pub(crate) fn a_stored_table_is_not_damaged()
     maps_with_the_same_pages_are_equal();
 }
 
-/// No demo fills the journal: the insert of each of its 200000 rows makes two requests at most, and its other lines are few. Does nothing.
+/// No demo fills the journal: the line of each of its 200000 rows counts for two requests at most, and its other lines are few. Does nothing.
 pub(crate) fn a_demo_fits_the_journal()
     ensures { NoDemoFillsJournal }
 {

@@ -113,7 +113,7 @@ begins_of_line said = 0
 abbrev pub begins_of : Schema → List (List ℕ) → ℕ
 begins_of schema script = sum_by (λ line. begins_of_line (line_of schema line)) script
 
--- Lines without deletes have room where they and their begins are as many as the journal has places, however large the tables are. Any lines have it
+-- Lines without deletes have room where they and their begins are no more than the journal has places, however large the tables are. Any lines have it
 -- where each of them may mark all rows, those that were there and one for each line. First lines of those that have it do.
 pub record ScriptsHaveRoom : Type 0 where
   pub without : (schema : Schema) (rows : ℕ) (script : List (List ℕ)) → All (IsNoDelete schema) script → length script + begins_of schema script ≤ MAX_ENTRIES → HasRoom schema rows script

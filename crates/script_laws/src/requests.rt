@@ -18,7 +18,7 @@ pub fn the_requests_of_lines_are_bounded()
     ensures fit { ScriptsWithRoomFit }
 {}
 
-/// A script that doesn't delete has that room where its lines and its begins are as many as the journal has places. One that may delete has it where
+/// A script that doesn't delete has that room where its lines and its begins are no more than the journal has places. One that may delete has it where
 /// each of its lines may mark all rows. Does nothing.
 pub fn short_scripts_have_room()
     ensures { ScriptsHaveRoom }

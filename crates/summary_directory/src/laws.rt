@@ -27,8 +27,7 @@ pub fn pages_show_the_blocks_of_a_table()
         → (shown_by_pages layout pages).extent table ≡ length blocks }
 {}
 
-/// An explain that judged each range by the tuple which is shown tells the given blocks. So it is where the indexes show the same from its
-/// first step to its last.
+/// An explain that judged each range by the tuple which is shown tells the given blocks.
 pub fn an_explain_tells_the_given_blocks()
     ensures { (layout : DiskLayout) (shown : Shown) (query : Query) (w : TableState) (scan : TableScan) → JudgesExactly w scan → JudgesAsShown layout shown query w scan
         → filter scan.candidate (range_with_len 0 scan.extent) ≡ given_blocks layout shown query }
