@@ -24,6 +24,7 @@ ghost use Rattle.coverage.specs.Counts.{HasGone, AreRowsGone, AreTuplesGone, Nam
 ghost use Rattle.coverage.specs.IndexPart.{part_of, InsertMakes, SummariseMakes, DesummariseMakes, SweepMakes};
 ghost use Rattle.coverage.specs.ExactResults.{IsExact, IsExactAfter, NamesExactFinal};
 ghost use Rattle.coverage.specs.Knowing.{LocksNone, Knows, Spares};
+ghost use Rattle.coverage.specs.Rooms.{bytes_of, room_on_page};
 ghost use Rattle.coverage.specs.Verdicts.{Verdict, Waits, Differs, Puts, Full, IsLocked, HasFreeSlots, PutVerdict, SwapVerdict, ClearVerdict};
 ghost use Rattle.coverage.specs.Waiting.{IsPhaseWaiting, IsPhaseFull};
 ghost use Rattle.coverage.specs.Stuck.{IsSummariseStuck, IsPhaseFree, HasBlocksOfRows, InsertsAlone, AreNamed, IsInsertStuck, IsSwapFree, IsDesummariseStuck, IsClearFree};
@@ -141,7 +142,7 @@ pub fn verdicts_are_exact()
     ensures one_phase_wait { (w : IndexView) (s range p q : ℕ) (phase : Phase) → IsPhaseWaiting w s range phase p → IsPhaseWaiting w s range phase q → p ≡ q }
     ensures same_bytes { (contents : Contents) (t u : IndexTuple) → IsFormed contents t → IsFormed contents u → t.bytes ≡ u.bytes → t ≡ u }
     ensures put_place { (w : IndexView) (s range need : ℕ) (y : Spot) → PutVerdict w s range need (Puts y) → (w.tuple y ≡ None)
-        × (((w.pages.map_pages < y.block) × (w.pages.kind y.block ≡ Regular) × (need ≤ w.pages.room y.block))
+        × (((w.pages.map_pages < y.block) × (w.pages.kind y.block ≡ Regular) × (need ≤ room_on_page (bytes_of w.tuple) y.block))
         ⊎ ((w.pages.kind y.block ≡ Unstarted) × (y.block < w.pages.limit))) }
     ensures put_past_map { (w : IndexView) (s range need : ℕ) (y : Spot) → AreOrdered w → PutVerdict w s range need (Puts y)
         → (w.pages.map_pages < y.block) × (y.block < w.pages.limit) }
