@@ -19,7 +19,7 @@ use Rattle.index_layout.specs.IndexPages.{Slot, taken}
 use Rattle.index_layout.specs.IndexReading.{free_slot_of}
 use Rattle.index_layout.specs.IndexWrites.{before, room_for_further, trimmed}
 use Rattle.coverage.specs.IsCovered.{IsIndexKept}
-use Rattle.coverage.specs.Rooms.{bytes_of, first_slots, room_on_page}
+use Rattle.coverage.specs.Rooms.{bytes_of, first_slots, page_room}
 use Rattle.coverage.proofs.PageRooms.{no_slots}
 use Rattle.coverage.proofs.Runs.{run_kept}
 use Rattle.coverage.proofs.RangeSummarised.{no_rows, summarised, summarised_kept, range_done}
@@ -163,8 +163,8 @@ one_slot : (tuple : List ℕ) (n : ℕ) → room_for_further (trimmed (first_slo
 unfolding trimmed first_slots taken free_slot_of
 one_slot tuple n = ap (λ l. room_for_further (before (Some final_tuple.bytes) l)) (no_slots (λ k. None) n (λ k. refl))
 
-takes_one : 8 ≤ room_on_page (bytes_of page_counted.tuple) 3
-takes_one = let room : room_on_page (bytes_of page_counted.tuple) 3 ≡ 8144 = one_slot final_tuple.bytes 2039 in omega (arith, room)
+takes_one : 8 ≤ page_room (bytes_of page_counted.tuple) 3
+takes_one = let room : page_room (bytes_of page_counted.tuple) 3 ≡ 8144 = one_slot final_tuple.bytes 2039 in omega (arith, room)
 
 next_slot : (k : ℕ) → page_counted.tuple (record { block = 3; slot = k }) ≡ None → 1 ≤ k
 next_slot zero is = absurd (none-some _ (sym is))

@@ -1,11 +1,13 @@
 -- What the slots of a page come to: none where no tuple stands there, those of a list where they are its; and what a put makes of the room.
-use Rattle.std.proofs.Common.{◌≡◌, ◌≢◌, ◌⊎◌, inl, inr, ℕ, zero, suc, ◌+◌, ◌-◌, ◌≤◌, ◌<◌, Bool, true, false, if◌then◌else◌, List, [], ◌∷◌, length, Option, Some, None, refl, sym, ◌∙◌, ap, arith}
+use Rattle.std.proofs.Common.{◌≡◌, ◌≢◌, ◌⊎◌, inl, inr, ℕ, zero, suc, ◌+◌, ◌-◌, ◌*◌, ◌≤◌, ◌<◌, Bool, true, false, if◌then◌else◌, List, [], ◌∷◌, length, Option, Some, None, refl, sym, ◌∙◌, ap, arith}
 use Rattle.std.specs.Prelude.{nat_lt, slice_index_or}
+use Rattle.std.proofs.Math.Nat.{add-mul, suc-mul}
 use Rattle.std.proofs.lemmas.Bool.{cases_lt, le-ltb, lt-ltb}
 use Rattle.index_layout.specs.IndexPages.{IsLastUsed, Slot, taken}
 use Rattle.index_layout.specs.IndexReading.{free_of, free_slot_of}
 use Rattle.index_layout.specs.IndexWrites.{before, room_for_further, trimmed}
-use Rattle.coverage.specs.Rooms.{first_slots}
+use Rattle.block_model.specs.declared.place.Spot.{Spot}
+use Rattle.coverage.specs.Rooms.{HasTuplesWithin, first_slots, page_room, slots_on}
 
 pub first_same : (f g : ℕ → Slot) (n : ℕ) → ((k : ℕ) → g k ≡ f k) → first_slots g n ≡ first_slots f n
 first_same f g n same = ap (λ h. first_slots h n) (λ i k. same k i)
@@ -98,3 +100,29 @@ pub put_room : (f g : ℕ → Slot) (n k : ℕ) (bytes : List ℕ) → k < n →
 put_room f g n k bytes below free lower now others fits =
     let old = trimmed (first_slots f n) in
     as_much (taken old) (taken (trimmed (first_slots g n))) (length bytes) (nat_lt (free_slot_of old) (length old)) (put_taken f g n k bytes below free lower now others) fits
+
+-- a slot with no more than so many bytes takes no more than that and its entry
+front_taken : (slot : Slot) (slots : List Slot) (most : ℕ) → ((tuple : List ℕ) → slot ≡ Some tuple → length tuple ≤ most) → taken (before slot slots) ≤ (most + 4) + taken slots
+unfolding taken
+front_taken None [] most few = omega arith
+front_taken None (next ∷ slots) most few = omega arith
+front_taken (Some tuple) slots most few = omega (arith, few tuple refl)
+
+taken_most : (f : ℕ → Slot) (slots n most : ℕ) → ((k : ℕ) → slots ≤ k → f k ≡ None) → ((k : ℕ) (tuple : List ℕ) → f k ≡ Some tuple → length tuple ≤ most)
+    → taken (trimmed (first_slots f n)) ≤ slots * (most + 4)
+unfolding taken trimmed first_slots
+taken_most f zero n most none few = let is : taken (trimmed (first_slots f n)) ≡ 0 = ap taken (no_slots f n (λ k. none k (omega arith))) in omega (arith, is)
+taken_most f (suc slots) zero most none few = omega arith
+taken_most f (suc slots) (suc n) most none few =
+    let rest = taken_most (λ k. f (suc k)) slots n most (λ k above. none (suc k) (omega (arith, above))) (λ k. few (suc k)) in
+    let one = front_taken (f 0) (trimmed (first_slots (λ k. f (suc k)) n)) most (few 0) in
+    omega (arith, rest, one, suc-mul slots (most + 4))
+
+room_left : (used slots most : ℕ) (gap : Bool) → used ≤ slots * (most + 4) → (slots + 1) * (most + 4) ≤ 8160 → most ≤ (if gap then 8160 - used else 8160 - used - 4)
+room_left used slots most true few fits = omega (arith, few, fits, add-mul slots 1 (most + 4))
+room_left used slots most false few fits = omega (arith, few, fits, add-mul slots 1 (most + 4))
+
+pub room_within : (bytes : Spot → Slot) (page slots most : ℕ) → HasTuplesWithin bytes page slots most → (slots + 1) * (most + 4) ≤ 8160 → most ≤ page_room bytes page
+room_within bytes page slots most within fits =
+    let list = slots_on bytes page in
+    room_left (taken list) slots most (nat_lt (free_slot_of list) (length list)) (taken_most (λ k. bytes (record { block = page; slot = k })) slots 2040 most within.none within.few) fits

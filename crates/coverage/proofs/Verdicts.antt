@@ -10,7 +10,7 @@ use Rattle.coverage.specs.Verdicts.{IsLocked, IsFirstLocked, First, Later, IsLow
 use Rattle.coverage.specs.Verdicts.{HasFreeSlots, IsTargetPlace, Verdict, Waits, Differs, Fits, Puts, Full, PutVerdict, NoTarget, PutWaits, PutGoes, MustMove}
 use Rattle.coverage.specs.Verdicts.{SwapVerdict, SwapWaits, SwapDiffers, SwapFits, SwapMoves, ClearVerdict, ClearWaits, ClearDiffers, ClearFits}
 use Rattle.coverage.specs.PageOrder.{AreOrdered}
-use Rattle.coverage.specs.Rooms.{bytes_of, room_in_place, room_on_page}
+use Rattle.coverage.specs.Rooms.{bytes_of, place_room, page_room}
 use Rattle.coverage.proofs.Numbers.{lt_or_ge, lowest_below}
 
 pub free_not_locked : (w : IndexView) (s p : ℕ) → IsFree w.lock s p → IsLocked w.lock s p → ⊥
@@ -80,11 +80,11 @@ IsNotStarted kind = ⊥
 
 -- a tuple is put at a free place of a page past the map that has room and isn't being emptied, or of one that isn't started
 pub put_place : (w : IndexView) (s range need : ℕ) (y : Spot) → PutVerdict w s range need (Puts y) → (w.tuple y ≡ None)
-    × (((w.pages.map_pages < y.block) × (w.pages.kind y.block ≡ Regular) × (need ≤ room_on_page (bytes_of w.tuple) y.block))
+    × (((w.pages.map_pages < y.block) × (w.pages.kind y.block ≡ Regular) × (need ≤ page_room (bytes_of w.tuple) y.block))
     ⊎ ((w.pages.kind y.block ≡ Unstarted) × (y.block < w.pages.limit)))
 put_place w s range need y (PutGoes _ place free map) = (place.1.0, by place.0)
   where
-    by : IsTarget w.pages (bytes_of w.tuple) need y.block → ((w.pages.map_pages < y.block) × (w.pages.kind y.block ≡ Regular) × (need ≤ room_on_page (bytes_of w.tuple) y.block))
+    by : IsTarget w.pages (bytes_of w.tuple) need y.block → ((w.pages.map_pages < y.block) × (w.pages.kind y.block ≡ Regular) × (need ≤ page_room (bytes_of w.tuple) y.block))
         ⊎ ((w.pages.kind y.block ≡ Unstarted) × (y.block < w.pages.limit))
     by (OnStarted lowest) = inl lowest.0
     by (OnNew none lowest below) = inr (lowest.0, below)
@@ -93,7 +93,7 @@ put_place w s range need y (PutGoes _ place free map) = (place.1.0, by place.0)
 pub put_past_map : (w : IndexView) (s range need : ℕ) (y : Spot) → AreOrdered w → PutVerdict w s range need (Puts y)
     → (w.pages.map_pages < y.block) × (y.block < w.pages.limit)
 put_past_map w s range need y ordered verdict = ⊎_elim
-    (λ (started : (w.pages.map_pages < y.block) × (w.pages.kind y.block ≡ Regular) × (need ≤ room_on_page (bytes_of w.tuple) y.block)).
+    (λ (started : (w.pages.map_pages < y.block) × (w.pages.kind y.block ≡ Regular) × (need ≤ page_room (bytes_of w.tuple) y.block)).
     (started.0, ordered.below y.block (λ is. subst IsNotStarted (sym is ∙ started.1) tt)))
     (λ (next : (w.pages.kind y.block ≡ Unstarted) × (y.block < w.pages.limit)). (
       ⊎_elim
@@ -105,12 +105,12 @@ put_past_map w s range need y ordered verdict = ⊎_elim
     (put_place w s range need y verdict).1
 
 -- what fits in its place needn't move
-fits_or_moves : (w : IndexView) (x : Spot) (new : IndexTuple) → w.pages.kind x.block ≡ Regular → length new.bytes ≤ room_in_place (bytes_of w.tuple) x
+fits_or_moves : (w : IndexView) (x : Spot) (new : IndexTuple) → w.pages.kind x.block ≡ Regular → length new.bytes ≤ place_room (bytes_of w.tuple) x
     → MustMove w.pages (bytes_of w.tuple) x (length new.bytes)
     → ⊥
 fits_or_moves w x new regular room must = ⊎_elim
     (λ (other : w.pages.kind x.block ≢ Regular). other regular)
-    (λ (tight : room_in_place (bytes_of w.tuple) x < length new.bytes). apart (length new.bytes) (room_in_place (bytes_of w.tuple) x) room tight)
+    (λ (tight : place_room (bytes_of w.tuple) x < length new.bytes). apart (length new.bytes) (place_room (bytes_of w.tuple) x) room tight)
     must
   where
     apart : (n m : ℕ) → n ≤ m → m < n → ⊥
@@ -209,9 +209,9 @@ module _ (w : IndexView) (slots : HasFreeSlots w.tuple) where
       (λ (free : IsFree w.lock s x.block). none Differs (SwapDiffers free (λ here.
       let moves : MustMove w.pages (bytes_of w.tuple) x (length new.bytes) → ⊥ = λ must. some_put s range (length new.bytes) (λ p puts. none p (SwapMoves p free here must puts)) in
       ⊎_elim
-      (λ (tight : room_in_place (bytes_of w.tuple) x < length new.bytes). moves (inr tight))
-      (λ (room : length new.bytes ≤ room_in_place (bytes_of w.tuple) x). moves (inl (λ regular. none Fits (SwapFits free here regular room))))
-      (lt_or_ge (room_in_place (bytes_of w.tuple) x) (length new.bytes)))))
+      (λ (tight : place_room (bytes_of w.tuple) x < length new.bytes). moves (inr tight))
+      (λ (room : length new.bytes ≤ place_room (bytes_of w.tuple) x). moves (inl (λ regular. none Fits (SwapFits free here regular room))))
+      (lt_or_ge (place_room (bytes_of w.tuple) x) (length new.bytes)))))
       (locked_or_free w s x.block)
 
 pub some_clear : (w : IndexView) (s range : ℕ) (x : Spot) → ((p : Verdict) → ClearVerdict w s range x p → ⊥) → ⊥

@@ -1,5 +1,5 @@
 -- What room a page has for tuples: a function of those that stand on it.
-use Rattle.std.specs.Prelude.{ℕ, zero, suc, ◌+◌, List, [], ◌∷◌, length, Option}
+use Rattle.std.specs.Prelude.{◌≡◌, ℕ, zero, suc, ◌+◌, ◌≤◌, List, [], ◌∷◌, length, Option, None, Some}
 use Rattle.std.specs.Option.{option_map}
 use Rattle.block_model.specs.declared.place.Spot.{Spot}
 use Rattle.index_layout.specs.IndexPages.{Slot, tuple_bytes}
@@ -25,9 +25,14 @@ abbrev pub slots_on : (Spot → Slot) → ℕ → List Slot
 slots_on bytes page = trimmed (first_slots (λ k. bytes (record { block = page; slot = k })) most_slots)
 
 -- how long a further tuple the page takes
-abbrev pub room_on_page : (Spot → Slot) → ℕ → ℕ
-room_on_page bytes page = room_for_further (slots_on bytes page)
+abbrev pub page_room : (Spot → Slot) → ℕ → ℕ
+page_room bytes page = room_for_further (slots_on bytes page)
 
 -- how long a tuple may stand in place of the one there
-abbrev pub room_in_place : (Spot → Slot) → Spot → ℕ
-room_in_place bytes x = free_of (slots_on bytes x.block) + length (tuple_bytes (bytes x))
+abbrev pub place_room : (Spot → Slot) → Spot → ℕ
+place_room bytes x = free_of (slots_on bytes x.block) + length (tuple_bytes (bytes x))
+
+-- the tuples of a page stand in its first slots, and none has more bytes than so many
+pub record HasTuplesWithin (bytes : Spot → Slot) (page slots most : ℕ) : Type 0 where
+  pub none : (k : ℕ) → slots ≤ k → bytes (record { block = page; slot = k }) ≡ None
+  pub few : (k : ℕ) (tuple : List ℕ) → bytes (record { block = page; slot = k }) ≡ Some tuple → length tuple ≤ most

@@ -4,7 +4,7 @@ use Rattle.block_model.specs.declared.place.Spot.{Spot}
 use Rattle.coverage.specs.IndexView.{IndexTuple, Unstarted, Regular, Pages, IndexView, map_page_of}
 use Rattle.index_layout.specs.IndexPages.{Slot}
 use Rattle.coverage.specs.Changes.{IsFree}
-use Rattle.coverage.specs.Rooms.{bytes_of, room_in_place, room_on_page}
+use Rattle.coverage.specs.Rooms.{bytes_of, place_room, page_room}
 
 -- another session locks this page
 abbrev pub IsLocked : (ℕ → Option ℕ) → ℕ → ℕ → Type 0
@@ -21,7 +21,7 @@ IsLowestNumber Is p = Is p × ((q : ℕ) → Is q → p ≤ q)
 
 -- a page past the map takes a further tuple of this length
 abbrev pub PageHasRoom : Pages → (Spot → Slot) → ℕ → ℕ → Type 0
-PageHasRoom pages bytes need p = (pages.map_pages < p) × (pages.kind p ≡ Regular) × (need ≤ room_on_page bytes p)
+PageHasRoom pages bytes need p = (pages.map_pages < p) × (pages.kind p ≡ Regular) × (need ≤ page_room bytes p)
 
 abbrev pub IsPageUnstarted : Pages → ℕ → Type 0
 IsPageUnstarted pages p = pages.kind p ≡ Unstarted
@@ -61,13 +61,13 @@ pub data PutVerdict (w : IndexView) (s range need : ℕ) : Verdict → Type 0 wh
 
 -- a tuple has to leave a page that isn't regular, or on which one of this length doesn't fit in its place
 abbrev pub MustMove : Pages → (Spot → Slot) → Spot → ℕ → Type 0
-MustMove pages bytes x need = (pages.kind x.block ≢ Regular) ⊎ (room_in_place bytes x < need)
+MustMove pages bytes x need = (pages.kind x.block ≢ Regular) ⊎ (place_room bytes x < need)
 
 -- A new tuple is to take the place of the one that was copied at this place: its page's lock comes first, then the comparison.
 pub data SwapVerdict (w : IndexView) (s range : ℕ) (x : Spot) (old new : IndexTuple) : Verdict → Type 0 where
   SwapWaits : IsLocked w.lock s x.block → SwapVerdict w s range x old new (Waits x.block)
   SwapDiffers : IsFree w.lock s x.block → w.tuple x ≢ Some old → SwapVerdict w s range x old new Differs
-  SwapFits : IsFree w.lock s x.block → w.tuple x ≡ Some old → w.pages.kind x.block ≡ Regular → length new.bytes ≤ room_in_place (bytes_of w.tuple) x
+  SwapFits : IsFree w.lock s x.block → w.tuple x ≡ Some old → w.pages.kind x.block ≡ Regular → length new.bytes ≤ place_room (bytes_of w.tuple) x
       → SwapVerdict w s range x old new Fits
   SwapMoves : (verdict : Verdict) → IsFree w.lock s x.block → w.tuple x ≡ Some old → MustMove w.pages (bytes_of w.tuple) x (length new.bytes)
       → PutVerdict w s range (length new.bytes) verdict
