@@ -165,15 +165,17 @@ module _ (n index t at ranges extent its : ℕ) (are : (m : ℕ) → (m * its < 
   at_last _ _ last (GoesOn point q answers under) = absurd (last point refl)
   at_last _ _ last (IsTold q counts) = record { told = refl; counts = counts }
 
+  goes_on : (point : Point) (q : Place) → Comes (Moved point) q → (answers : List Answer) × IsUnderWay q answers
+  goes_on _ _ (GoesOn point q answers under) = (answers, under)
+
   comes_so : (p : Place) (answers : List Answer) (outcome : Outcome) (q : Place) → IsUnderWay p answers → Steps p n outcome q → Comes outcome q
   comes_so p answers outcome q under step = comes p answers outcome q under (subst (λ h. StepsTo p n h outcome q) (same_Some _ _ (sym step.in_hand ∙ under.in_hand)) step.steps)
 
   ends_so : (p : Place) (answers : List Answer) (outcome : Outcome) (q : Place) → IsUnderWay p answers → Finishes n p outcome q → IsToldRanges outcome q
   ends_so _ answers _ _ under (LastStep p q outcome last step) = at_last outcome q last (comes_so p answers outcome q under step)
-  ends_so _ answers _ _ under (texts.Further p q r point outcome step more) = on_from (comes_so p answers (Moved point) q under step)
-    where
-      on_from : Comes (Moved point) q → IsToldRanges outcome r
-      on_from (GoesOn _ _ next_answers next) = ends_so q next_answers outcome r next more
+  ends_so _ answers _ _ under (texts.Further p q r point outcome step more) =
+      let next = goes_on point q (comes_so p answers (Moved point) q under step) in
+      ends_so q next.0 outcome r next.1 more
 
 -- ---- the line
 
