@@ -26,9 +26,9 @@ module _ (s : ℕ) (w v : TableState) where
           → b.of s ≡ record (a.of s) { ranges = (a.of s).ranges + job_count job s range (index_view_at at w) (index_view_at at v) phase Holding step }
           → AtRange job at range phase (Some point) None
       LacksPage : (number : ℕ) (why : Refusal) → IsPhaseFull (index_view_at at w) s range phase number → AtRange job at range phase None (Some why)
-      IsWaiting : IsBlocked w s (Maintains job at range phase) → AtRange job at range phase None None
+      FindsLocked : IsBlocked w s (Maintains job at range phase) → AtRange job at range phase None None
 
-    abbrev pub DoesSo : (old new : Task) → Option Point → Option Refusal → Type 0
+    abbrev DoesSo : (old new : Task) → Option Point → Option Refusal → Type 0
     DoesSo Resting (Considers job at range) point refused = SameIndexes w v × (b.of s ≡ no_account) × (refused ≡ None)
     DoesSo (Maintains job at range phase) new point refused = AtRange job at range phase point refused
     DoesSo old new point refused = Unit
@@ -54,10 +54,10 @@ module _ (s : ℕ) (w v : TableState) where
     vacuum_refused task is = absurd is
 
     blocked_so : (task : Task) → IsBlocked w s task → DoesSo task task None None
-    blocked_so (Maintains job at range phase) blocked = IsWaiting blocked
+    blocked_so (Maintains job at range phase) blocked = FindsLocked blocked
     blocked_so task blocked = tt
 
-    pub does_so : (does : Does s w v) → Adds s w v does a b → DoesSo (w.task s) (v.task s) (does_point s w v does) (does_refusal s w v does)
+    does_so : (does : Does s w v) → Adds s w v does a b → DoesSo (w.task s) (v.task s) (does_point s w v does) (does_refusal s w v does)
     does_so (PutsRow c k r place turns takes) adds = turned _ _ _ _ turns tt
     does_so (RefusesRow t refused turns fails) adds = turned _ _ _ _ turns tt
     does_so (AsksSummary c k r at turns only) adds = turned _ _ _ _ turns tt
@@ -81,6 +81,15 @@ module _ (s : ℕ) (w v : TableState) where
     does_so (Blocked task blocked turns only) adds = turned _ _ _ _ turns (blocked_so task blocked)
     does_so (Transacts counts resting few same) adds =
         subst (λ t. DoesSo t (v.task s) None None) (sym resting) (subst (λ t. DoesSo Resting t None None) (sym (ap (λ (x : TableState). x.task s) same ∙ resting)) tt)
+
+    pub at_range : (job : Job) (at range : ℕ) (phase : Phase) (does : Does s w v) → Adds s w v does a b → w.task s ≡ Maintains job at range phase
+        → AtRange job at range phase (does_point s w v does) (does_refusal s w v does)
+    at_range job at range phase does adds is = subst (λ t. DoesSo t (v.task s) (does_point s w v does) (does_refusal s w v does)) is (does_so does adds)
+
+    pub at_first : (job : Job) (at range : ℕ) (does : Does s w v) → Adds s w v does a b → w.task s ≡ Resting → v.task s ≡ Considers job at range
+        → SameIndexes w v × (b.of s ≡ no_account) × (does_refusal s w v does ≡ None)
+    at_first job at range does adds rests begun = subst (λ t. DoesSo Resting t (does_point s w v does) (does_refusal s w v does)) begun
+        (subst (λ t. DoesSo t (v.task s) (does_point s w v does) (does_refusal s w v does)) rests (does_so does adds))
 
   -- between two ranges: the next one begins, or it is done
   abbrev pub Ranged : Job → (at range : ℕ) → Type 0

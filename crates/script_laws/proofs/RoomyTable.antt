@@ -15,7 +15,7 @@ use Rattle.coverage.specs.TablePoints.{does_point}
 use Rattle.coverage.specs.TableSteps.{Does, IsBlocked, SameIndexes, Settles, SummariseWaits, TableStep}
 use Rattle.script_laws.proofs.IndexMakes.{AreOwn}
 use Rattle.script_laws.proofs.Maintained.{counted}
-use Rattle.script_laws.proofs.MaintainDoes.{AtRange, Completes, DoesSo, Goes, IsWaiting, LacksPage, SettlesSo, does_so, settles_so}
+use Rattle.script_laws.proofs.MaintainDoes.{AtRange, Completes, FindsLocked, Goes, LacksPage, SettlesSo, at_first, at_range, settles_so}
 use Rattle.script_laws.proofs.RoomySteps.{AreAhead, HasRoom, Leaves, Says, never_full, never_waits, step_leaves}
 
 -- the index where its statement is at this phase of the range
@@ -91,25 +91,21 @@ module _ (s at ranges extent its : ℕ) (are : (m : ℕ) → (m * its < extent) 
         (Between (suc r) now inside (account ∙ ap (λ (x : Account). record x { ranges = x.ranges + summarise_count step }) counts ∙ ap (λ k. counted 0 0 k) (one_more r (summarise_count step) left.says.0))
             (record { room = left.says.1; empty = λ m le. left.ahead m (onto r m le); own = left.own; per = left.per ∙ stands.per }), refl)
     does_at a b counts _ _ (LacksPage number why full) = absurd (never_full s ranges r inside (index_view_at at w) (index_view_at at w) phase number stands.says full)
-    does_at a b counts _ _ (IsWaiting blocked) = absurd (not_blocked blocked)
+    does_at a b counts _ _ (FindsLocked blocked) = absurd (not_blocked blocked)
 
   -- a step at a range is not refused
   pub works_on : (w v : TableState) (a b : Accounts) (step : TableStep s w v) → AccountsStep s w step.between step.does a b → (w.task s ≢ Resting) → IsAtWork w (a.of s)
       → IsAtWork v (b.of s) × (does_refusal s w step.between step.does ≡ None)
   works_on w v a b step accounts busy (IsDone rests counts) = absurd (busy rests)
   works_on w v a b step accounts busy (StillAt r phase is inside counts stands) =
-      let did = does_at w step.between r phase inside stands a b counts _ _
-      (subst (λ t. DoesSo s w step.between a b t (step.between.task s) (does_point s w step.between step.does) (does_refusal s w step.between step.does)) is
-      (does_so s w step.between a b step.does accounts.adds)) in
+      let did = does_at w step.between r phase inside stands a b counts _ _ (at_range s w step.between a b (EachRange extent) at r phase step.does accounts.adds is) in
       (settled step.between v (b.of s) did.0 step.settles, did.1)
 
   -- nor is its first one
   pub works_first : (w v : TableState) (a b : Accounts) (step : TableStep s w v) → AccountsStep s w step.between step.does a b → w.task s ≡ Resting
       → step.between.task s ≡ Considers (EachRange extent) at 0 → IsRoomyBefore s ranges its 0 (w.index at) → IsAtWork v (b.of s) × (does_refusal s w step.between step.does ≡ None)
   works_first w v a b step accounts rests begun stands =
-      let did = subst (λ t. DoesSo s w step.between a b Resting t (does_point s w step.between step.does) (does_refusal s w step.between step.does)) begun
-      (subst (λ t. DoesSo s w step.between a b t (step.between.task s) (does_point s w step.between step.does) (does_refusal s w step.between step.does)) rests
-      (does_so s w step.between a b step.does accounts.adds)) in
+      let did = at_first s w step.between a b (EachRange extent) at 0 step.does accounts.adds rests begun in
       (settled step.between v (b.of s) (Between 0 begun (omega arith) did.1 (subst (λ (x : Index). IsRoomyBefore s ranges its 0 x) (sym (did.0.index at)) stands)) step.settles, did.2)
 
   -- no page is waited for
