@@ -105,7 +105,22 @@ module _ {D : Type 0} (told : D → Told) (shown_law : ShownIsImage) (commit_law
           further = still p;
           left = (
             subst (λ (r : Place). ShowsPlace s' r) far.2.2 far.1,
-            unmade_between told s s' p shown_law shown (passes_in_hand told s.transactions n entries s.pages s'.pages (hand_at s n) hand survives),
+            unmade_between told s s' p shown_law shown (passes_in_hand told s.transactions n (stops.Spent entries) refl s.pages s'.pages (hand_at s n) hand survives),
+          );
+        };
+  }
+  step_unmade stops.Memory leads cause hand survives whole = record {
+    leaves = leaves;
+    cause = tt;
+    places = λ tells was p shown.
+        let far = leads tells was cause.1 p shown in
+        record {
+          place = p;
+          so = (far.2.0, refl);
+          further = still p;
+          left = (
+            subst (λ (r : Place). ShowsPlace s' r) far.2.1 far.1,
+            unmade_between told s s' p shown_law shown (passes_in_hand told s.transactions n stops.Memory refl s.pages s'.pages (hand_at s n) hand survives),
           );
         };
   }
@@ -131,6 +146,7 @@ kept failed faults is = subst (λ (o : Option ℕ). IsSome o) (sym is) refl
 
 pub step_leaves : {D : Type 0} (told : D → Told) (s s' : StoreState D) (fault : StoreFault) → HasFaultCause told s.pages s'.pages fault → StaysStill told s s' (Err fault) → LeavesUnmade told s s' (fault_of_step fault)
 step_leaves told s s' (stops.Spent entries) cause unchanged = unchanged
+step_leaves told s s' stops.Memory cause unchanged = unchanged
 step_leaves told s s' stops.Disk cause unchanged = kept s'.pages.failed _ cause.2
 step_leaves told s s' (stops.Reopen faults) cause unchanged = kept s'.pages.failed faults cause.1
 step_leaves told s s' (stops.Damaged at) cause unchanged = (cause.1, cause.3)
@@ -158,10 +174,7 @@ halted_at : (n : ℕ) (p q r : Place) → MovedTo n p q → r ≡ q → MovedTo 
 halted_at n p q r before same = subst (λ (x : Place). MovedTo n p x) (sym same) before
 
 pub halted : (n : ℕ) (fault : AnswerFault) (p q r : Place) → MovedTo n p q → IsNotMade n fault q r → IsHalted n fault p r
-halted n Memory p q r before stops = absurd stops
-halted n Full p q r before stops = (stops.0, halted_at n p q r before stops.1)
-halted n Disk p q r before stops = (tt, halted_at n p q r before stops.1)
-halted n Damaged p q r before stops = (tt, halted_at n p q r before stops.1)
+halted n fault p q r before stops = (stops.0, halted_at n p q r before stops.1)
 
 -- ---- orders
 
@@ -218,10 +231,7 @@ came_to_step : (n : ℕ) (p q : Place) → q ≡ p → ComesTo p n orders.Step q
 came_to_step n p q same = subst (λ (r : Place). ComesTo p n orders.Step r) (sym same) OfStep
 
 pub step_cut : (n : ℕ) (fault : AnswerFault) (p q : Place) → IsNotMade n fault p q → IsCutShort n orders.Step fault p q
-step_cut n Memory p q stops = absurd stops
-step_cut n Full p q stops = (stops.0, came_to_step n p q stops.1)
-step_cut n Disk p q stops = (tt, came_to_step n p q stops.1)
-step_cut n Damaged p q stops = (tt, came_to_step n p q stops.1)
+step_cut n fault p q stops = (stops.0, came_to_step n p q stops.1)
 
 pub finish_cut : (n : ℕ) (fault : AnswerFault) (p q : Place) → IsHalted n fault p q → IsCutShort n orders.Finish fault p q
 finish_cut n fault p q stops = (stops.0, OfFinish q stops.1)
