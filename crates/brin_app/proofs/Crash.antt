@@ -1,5 +1,5 @@
 -- the crash rule, from place to place
-use Rattle.std.proofs.Common.{◌≡◌, ℕ, ◌≤◌, Bool, true, false, List, [], ◌++◌, length, take, Option, None, Some, IfSome, Ok, Err, refl, sym, ap, ◌∙◌, subst, arith, inl, inr, length-append, append_assoc, append-nil}
+use Rattle.std.proofs.Common.{◌≡◌, ℕ, ◌≤◌, List, [], ◌++◌, length, take, Option, None, Some, IfSome, Ok, Err, refl, sym, ap, ◌∙◌, subst, arith, inl, inr, length-append, append_assoc, append-nil}
 use Rattle.std.specs.Prelude.{IsSome, IsTrue}
 use Rattle.std.proofs.lemmas.Bool.{false≢true}
 use Rattle.std.proofs.lemmas.List.{take_all, take-append-le}
@@ -30,7 +30,7 @@ use Rattle.transactions.specs.Passes.{PassesNothing}
 use Rattle.session_core.specs.ImageLaws.{ShownIsImage, StepCommits}
 use Rattle.session_core.specs.StopRule.{AllHaveTable, HasTableOr, IsImageWith, StopsWhole}
 use Rattle.session_core.specs.StoreImage.{IsStoreImage}
-use Rattle.session_core.specs.Stops.{IsSureBehind, StopsSo}
+use Rattle.session_core.specs.Stops.{StopsSo}
 use Rattle.brin_app.specs.CrashRule.{HasTableOf, IsFurther, IsOfRun, IsOfStop, StopsAmid, StopsBetween, table_behind}
 
 -- ---- journals
@@ -117,12 +117,6 @@ stop_earlier p q r image further (inl of) = inl (run_earlier p q r image further
 stop_earlier p q r image further (inr has) = inr has
 
 -- ---- stores
-
--- the journal has no room
-abbrev pub is_spent : StoreFault → Bool
-is_spent (stops.Spent entries) = true
-is_spent stops.Memory = true
-is_spent fault = false
 
 module _ {D : Type 0} (told : D → Told) where
   each_less : (old new : View D) (P Q : List ℕ → Type 0) → EachStop told old new P → ((image : List ℕ) → P image → Q image) → EachStop told old new Q
@@ -234,33 +228,25 @@ module _ {D : Type 0} (told : D → Told) where
         each.images,
       )
 
-  sure_spent : (old new : View D) (fault : StoreFault) → is_spent fault ≡ true → IsSureBehind told old new (Err fault) → PassesNothing told old new
-  sure_spent old new (stops.Spent entries) is sure = sure
-  sure_spent old new stops.Memory is sure = sure
-  sure_spent old new stops.Disk is sure = absurd (false≢true is)
-  sure_spent old new (stops.Reopen faults) is sure = absurd (false≢true is)
-  sure_spent old new (stops.Damaged at) is sure = absurd (false≢true is)
+  nothing_passed : (t : TransactionsState) (n entries : ℕ) (old new : View D) (hand : Hand) → StopsSo told t n old new hand (Err (stops.Spent entries)) → PassesNothing told old new
+  nothing_passed t n entries old new (hands.Begins numbers) so = so
+  nothing_passed t n entries old new hands.Commits so = so.1
+  nothing_passed t n entries old new hands.RollsBack so = so
+  nothing_passed t n entries old new (hands.Puts table values) so = so
+  nothing_passed t n entries old new (hands.Inserts insert) so = so
+  nothing_passed t n entries old new (hands.Selecting query) so = so
+  nothing_passed t n entries old new (hands.Selects scan) so = so
+  nothing_passed t n entries old new (hands.Deleting query) so = so
+  nothing_passed t n entries old new (hands.Deletes scan) so = so
+  nothing_passed t n entries old new (hands.Marks marking) so = so
+  nothing_passed t n entries old new (hands.Explains explain) so = so
+  nothing_passed t n entries old new (hands.Summarises summarise) so = so
+  nothing_passed t n entries old new (hands.Desummarises desummarise) so = so
+  nothing_passed t n entries old new (hands.Cleans cleaning) so = so
+  nothing_passed t n entries old new (hands.Completes completing) so = so
+  nothing_passed t n entries old new hands.Working so = so
+  nothing_passed t n entries old new (hands.Works requested) so = so
 
-  nothing_passed : (t : TransactionsState) (n : ℕ) (fault : StoreFault) → is_spent fault ≡ true → (old new : View D) (hand : Hand) → StopsSo told t n old new hand (Err fault) → PassesNothing told old new
-  nothing_passed t n fault is old new (hands.Begins numbers) so = so
-  nothing_passed t n fault is old new hands.Commits so = sure_spent old new fault is so.1
-  nothing_passed t n fault is old new hands.RollsBack so = so
-  nothing_passed t n fault is old new (hands.Puts table values) so = so
-  nothing_passed t n fault is old new (hands.Inserts insert) so = so
-  nothing_passed t n fault is old new (hands.Selecting query) so = so
-  nothing_passed t n fault is old new (hands.Selects scan) so = so
-  nothing_passed t n fault is old new (hands.Deleting query) so = so
-  nothing_passed t n fault is old new (hands.Deletes scan) so = so
-  nothing_passed t n fault is old new (hands.Marks marking) so = so
-  nothing_passed t n fault is old new (hands.Explains explain) so = so
-  nothing_passed t n fault is old new (hands.Summarises summarise) so = so
-  nothing_passed t n fault is old new (hands.Desummarises desummarise) so = so
-  nothing_passed t n fault is old new (hands.Cleans cleaning) so = so
-  nothing_passed t n fault is old new (hands.Completes completing) so = so
-  nothing_passed t n fault is old new hands.Working so = so
-  nothing_passed t n fault is old new (hands.Works requested) so = so
-
-  pub passes_in_hand : (t : TransactionsState) (n : ℕ) (fault : StoreFault) → is_spent fault ≡ true → (old new : View D) (hand : Option Hand) → IsSome hand → IfSome hand (λ h. StopsSo told t n old new h (Err fault))
-      → PassesNothing told old new
-  passes_in_hand t n fault is old new None some so = absurd (false≢true some)
-  passes_in_hand t n fault is old new (Some hand) some so = nothing_passed t n fault is old new hand so
+  pub passes_in_hand : (t : TransactionsState) (n entries : ℕ) (old new : View D) (hand : Option Hand) → IsSome hand → IfSome hand (λ h. StopsSo told t n old new h (Err (stops.Spent entries))) → PassesNothing told old new
+  passes_in_hand t n entries old new None some so = absurd (false≢true some)
+  passes_in_hand t n entries old new (Some hand) some so = nothing_passed t n entries old new hand so

@@ -105,22 +105,7 @@ module _ {D : Type 0} (told : D → Told) (shown_law : ShownIsImage) (commit_law
           further = still p;
           left = (
             subst (λ (r : Place). ShowsPlace s' r) far.2.2 far.1,
-            unmade_between told s s' p shown_law shown (passes_in_hand told s.transactions n (stops.Spent entries) refl s.pages s'.pages (hand_at s n) hand survives),
-          );
-        };
-  }
-  step_unmade stops.Memory leads cause hand survives whole = record {
-    leaves = leaves;
-    cause = tt;
-    places = λ tells was p shown.
-        let far = leads tells was cause.1 p shown in
-        record {
-          place = p;
-          so = (far.2.0, refl);
-          further = still p;
-          left = (
-            subst (λ (r : Place). ShowsPlace s' r) far.2.1 far.1,
-            unmade_between told s s' p shown_law shown (passes_in_hand told s.transactions n stops.Memory refl s.pages s'.pages (hand_at s n) hand survives),
+            unmade_between told s s' p shown_law shown (passes_in_hand told s.transactions n entries s.pages s'.pages (hand_at s n) hand survives),
           );
         };
   }
@@ -146,7 +131,6 @@ kept failed faults is = subst (λ (o : Option ℕ). IsSome o) (sym is) refl
 
 pub step_leaves : {D : Type 0} (told : D → Told) (s s' : StoreState D) (fault : StoreFault) → HasFaultCause told s.pages s'.pages fault → StaysStill told s s' (Err fault) → LeavesUnmade told s s' (fault_of_step fault)
 step_leaves told s s' (stops.Spent entries) cause unchanged = unchanged
-step_leaves told s s' stops.Memory cause unchanged = unchanged
 step_leaves told s s' stops.Disk cause unchanged = kept s'.pages.failed _ cause.2
 step_leaves told s s' (stops.Reopen faults) cause unchanged = kept s'.pages.failed faults cause.1
 step_leaves told s s' (stops.Damaged at) cause unchanged = (cause.1, cause.3)

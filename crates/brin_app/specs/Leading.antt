@@ -40,10 +40,10 @@ HasStopCause told s s' Disk = s.pages.failed ≡ None → Rose (told s.pages.dis
 HasStopCause told s s' Damaged = Tells told s.pages → s.pages.failed ≡ None → ⊥
 HasStopCause told s s' fault = Unit {0}
 
--- What a step that isn't made leaves on any disk, by what is told of it. At a full journal nothing is changed, also where memory is short then, and behind a
--- fault of the disk one is kept. What leaves anything else is told as damage, where none is kept and the disk doesn't tell its contents.
+-- What a step that isn't made leaves on any disk, by what is told of it. At a full journal nothing is changed, behind a fault of the disk one is kept, and
+-- no step is told as want of memory. What leaves anything else is told as damage, where none is kept and the disk doesn't tell its contents.
 abbrev pub LeavesUnmade : {D : Type 0} → (D → Told) → (s s' : StoreState D) → AnswerFault → Type 0
-LeavesUnmade told s s' Memory = StaysAsItWas told s s'
+LeavesUnmade told s s' Memory = ⊥
 LeavesUnmade told s s' Full = StaysAsItWas told s s'
 LeavesUnmade told s s' Disk = IsSome s'.pages.failed
 LeavesUnmade told s s' Damaged = (s'.pages.failed ≡ None) × (Tells told s.pages → ⊥)

@@ -13,7 +13,7 @@ use Rattle.script_run.specs.declared.engine.AnswerFault.{AnswerFault}
 use Rattle.script_run.specs.declared.engine.AnswerFault.TheVariants.{Memory, Full, Disk, Damaged}
 use Rattle.script_semantics.specs.LineTexts.{Does, Finishes, dropped_at, refused_text}
 use Rattle.script_semantics.specs.Place.{Place}
-use Rattle.script_semantics.specs.StatementSteps.{Moved, Ended, Waits, LacksBoth, LacksRoom, Steps}
+use Rattle.script_semantics.specs.StatementSteps.{Moved, Ended, Waits, IsPastRoom, Steps}
 use Rattle.script_semantics.specs.Stops.{ComesTo, IsLineStopped, MovedTo}
 use Rattle.session_parts.specs.declared.faults.Step.{Step}
 use Rattle.session_parts.specs.declared.faults.Step.TheVariants as steps
@@ -60,15 +60,14 @@ DoesSo n order answer p q = (name : List ℕ) → Does p n name order (answer_te
 -- why a line isn't answered that has such a step
 abbrev pub fault_of_step : StoreFault → AnswerFault
 fault_of_step (stops.Spent entries) = Full
-fault_of_step stops.Memory = Memory
 fault_of_step stops.Disk = Disk
 fault_of_step (stops.Reopen faults) = Disk
 fault_of_step (stops.Damaged at) = Damaged
 
--- where an order stops for want of room, it is for the next step of session n; and where for want of memory, that step lacks it, and room to tell it
+-- where an order stops for want of room, it is for the next step of session n; and none stops for want of memory
 abbrev pub WantsRoom : ℕ → AnswerFault → Place → Type 0
-WantsRoom n Full q = LacksRoom q n
-WantsRoom n Memory q = LacksBoth q n
+WantsRoom n Full q = IsPastRoom q n
+WantsRoom n Memory q = ⊥
 WantsRoom n fault q = Unit {0}
 
 -- the next step of session n isn't made, for want of room or by a fault of the disk, and nothing is changed

@@ -143,7 +143,6 @@ fn fault_of_step(fault: StoreFault) -> AnswerFault
 {
     match fault {
         StoreFault::Spent { .. } => AnswerFault::Full,
-        StoreFault::Memory => AnswerFault::Memory,
         StoreFault::Disk | StoreFault::Reopen { .. } => AnswerFault::Disk,
         StoreFault::Damaged { .. } => AnswerFault::Damaged,
     }

@@ -175,10 +175,14 @@ pub record LacksRoom (p : Place) (n : ℕ) : Type 0 where
   pub past : MAX_ENTRIES < length further.journal
   pub sure : ScansOn p n hand.statement → outcome ≢ Ended (replies.Refused refusals.Memory)
 
--- memory is short for the step, and the journal has no room for the request that would be refused for it; nothing is changed
+-- or memory is short for the step, and the journal has no room for the request that would be refused for it
 pub record LacksBoth (p : Place) (n : ℕ) : Type 0 where
   pub hand : Hand
   pub in_hand : p.hands n ≡ Some hand
   pub further : Place
   pub steps : StepsTo p n hand (Ended (replies.Refused refusals.Memory)) further
   pub past : MAX_ENTRIES < length further.journal
+
+-- the journal has no room for the step
+abbrev pub IsPastRoom : Place → ℕ → Type 0
+IsPastRoom p n = LacksRoom p n ⊎ LacksBoth p n

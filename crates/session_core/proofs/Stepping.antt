@@ -60,7 +60,6 @@ module _ {D : Type 0} (told : D → Told) (old new : StoreState D) (n : ℕ) (ha
   enters_nothing (stepped.Done reply) stays = tt
   enters_nothing (stepped.Blocked what holder now) stays = tt
   enters_nothing (stepped.Undone (stops.Spent entries) now) stays = stays.0.journal
-  enters_nothing (stepped.Undone stops.Memory now) stays = stays.0.journal
   enters_nothing (stepped.Undone stops.Disk now) stays = stays.0
   enters_nothing (stepped.Undone (stops.Reopen faults) now) stays = stays.0
   enters_nothing (stepped.Undone (stops.Damaged at) now) stays = stays.0
@@ -70,7 +69,6 @@ module _ {D : Type 0} (told : D → Told) (old new : StoreState D) (n : ℕ) (ha
   stays_still (stepped.Done reply) stays = tt
   stays_still (stepped.Blocked what holder now) stays = stays.0
   stays_still (stepped.Undone (stops.Spent entries) now) stays = stays.0
-  stays_still (stepped.Undone stops.Memory now) stays = stays.0
   stays_still (stepped.Undone stops.Disk now) stays = tt
   stays_still (stepped.Undone (stops.Reopen faults) now) stays = tt
   stays_still (stepped.Undone (stops.Damaged at) now) stays = tt
@@ -80,7 +78,6 @@ module _ {D : Type 0} (told : D → Told) (old new : StoreState D) (n : ℕ) (ha
   stays_the_same (stepped.Done reply) stays = tt
   stays_the_same (stepped.Blocked what holder now) stays = stays.1
   stays_the_same (stepped.Undone (stops.Spent entries) now) stays = stays.1
-  stays_the_same (stepped.Undone stops.Memory now) stays = stays.1
   stays_the_same (stepped.Undone stops.Disk now) stays = stays.1
   stays_the_same (stepped.Undone (stops.Reopen faults) now) stays = stays.1
   stays_the_same (stepped.Undone (stops.Damaged at) now) stays = stays.1
@@ -103,7 +100,6 @@ module _ {D : Type 0} (told : D → Told) (old new : StoreState D) (n : ℕ) (ha
   was_ready (stepped.Done reply) cause ready = cause.0
   was_ready (stepped.Blocked what holder now) cause ready = cause.0
   was_ready (stepped.Undone (stops.Spent entries) now) cause ready = cause.0
-  was_ready (stepped.Undone stops.Memory now) cause ready = cause.0
   was_ready (stepped.Undone stops.Disk now) cause ready = cause.0
   was_ready (stepped.Undone (stops.Reopen faults) now) cause ready = absurd (none-some _ (sym ready ∙ cause.1))
   was_ready (stepped.Undone (stops.Damaged at) now) cause ready = cause.0
@@ -125,7 +121,6 @@ module _ {D : Type 0} (told : D → Told) (old new : StoreState D) (n : ℕ) (ha
   journal_is (stepped.Done reply) stays = tt
   journal_is (stepped.Blocked what holder now) stays = tt
   journal_is (stepped.Undone (stops.Spent entries) now) stays = (stays.2, stays.3)
-  journal_is (stepped.Undone stops.Memory now) stays = stays.2
   journal_is (stepped.Undone stops.Disk now) stays = tt
   journal_is (stepped.Undone (stops.Reopen faults) now) stays = tt
   journal_is (stepped.Undone (stops.Damaged at) now) stays = tt

@@ -18,7 +18,6 @@ pub sure_behind : {D : Type 0} (told : D → Told) (old new : View D) (answer : 
 sure_behind told old new (stepped.Moved point hand) sure = tt
 sure_behind told old new (stepped.Blocked what holder hand) sure = tt
 sure_behind told old new (stepped.Undone (stops.Spent entries) hand) sure = sure
-sure_behind told old new (stepped.Undone stops.Memory hand) sure = sure
 sure_behind told old new (stepped.Undone stops.Disk hand) sure = tt
 sure_behind told old new (stepped.Undone (stops.Reopen faults) hand) sure = tt
 sure_behind told old new (stepped.Undone (stops.Damaged at) hand) sure = tt

@@ -55,7 +55,6 @@ WaitsForAnother s n step = Unit {0}
 -- what is told of the journal is so on any disk: how many entries it has, and that it has no room for what a step of the statement in hand may enter
 abbrev pub TellsJournal : {D : Type 0} → StoreState D → Option Hand → StoreFault → Type 0
 TellsJournal s (Some hand) (stops.Spent entries) = (entries ≡ length s.journal.entries) × IsSpentFor s (statement_of hand)
-TellsJournal s (Some hand) stops.Memory = IsSpentFor s (statement_of hand)
 TellsJournal s hand fault = Unit {0}
 
 -- of the other sessions each has in hand what it had, and keeps its transaction, its locks, and what it asked for in vain
@@ -68,11 +67,10 @@ abbrev pub IsSameStatement : (old new : Option Hand) → Type 0
 IsSameStatement (Some was) (Some hand) = statement_of hand ≡ statement_of was
 IsSameStatement old new = Unit {0}
 
--- where a step waits, and where the journal lacks room for it, also for want of memory, nothing is changed
+-- where a step waits, and where the journal lacks room for it, nothing is changed
 abbrev pub StaysStill : {D : Type 0} → (D → Told) → (old new : StoreState D) → Result Step StoreFault → Type 0
 StaysStill told old new (Ok (steps.Blocked what holder)) = StaysAsItWas told old new
 StaysStill told old new (Err (stops.Spent entries)) = StaysAsItWas told old new
-StaysStill told old new (Err stops.Memory) = StaysAsItWas told old new
 StaysStill told old new answer = Unit {0}
 
 -- any statement in hand but an insert before its row

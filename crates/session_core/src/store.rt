@@ -166,7 +166,7 @@ impl<D: Disk + Drop> Store<D> {
     }
 
     /// Makes one step of the statement that the session has in hand. `Spent` comes exactly where the requests that it would enter don't
-    /// all fit into the journal, and `Memory` only where they wouldn't for want of memory; nothing is changed then, nor where it is blocked. Where a page is refused the statement stays in hand too. `Disk` comes where
+    /// all fit into the journal, that of a refusal for want of memory among them; nothing is changed then, nor where it is blocked. Where a page is refused the statement stays in hand too. `Disk` comes where
     /// the disk failed in this step; each step behind it is `Reopen`, changes nothing and makes no device call.
     pub fn step(&mut self, session: u32) -> Result<Step, StoreFault>
         requires { IsSome (hand_at self.old session) }

@@ -341,8 +341,8 @@ module _ {D : Type 0} (told : D → Told) (changes : HandChanges) (of_parts : Fi
           p,
           stays_shown (before_it names hand_list has) (after_it names hand_list has (Some (hands.Inserts after))) n before after work.hand work.x (stays_here same_queue kept same_dropped names hand_list has tells (place ∙ work.placed) task same_locks (keeps.pages tells)) p shown laws.stays laws.leads laws.alike,
           (
-            index_lacks_room refusals_laws.insert (before_it names hand_list has) n before work.hand work.x at p shown number (says.1 tells shows.blocks shows.has) refusals_laws.refused
-                (subst (λ (l : List Entry). MAX_ENTRIES ≤ length l) (sym shown.journal) full),
+            inl (index_lacks_room refusals_laws.insert (before_it names hand_list has) n before work.hand work.x at p shown number (says.1 tells shows.blocks shows.has) refusals_laws.refused
+                (subst (λ (l : List Entry). MAX_ENTRIES ≤ length l) (sym shown.journal) full)),
             entries_is ∙ ap (λ (l : List Entry). length l) (sym shown.journal),
             refl,
           ),

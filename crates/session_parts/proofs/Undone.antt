@@ -37,7 +37,7 @@ use Rattle.session_parts.specs.StepIs.{hand_after}
 use Rattle.session_parts.specs.Stepping.{IsFit, LeavesTheOthers}
 use Rattle.session_parts.specs.StoreFaults.{fault_of}
 use Rattle.session_parts.specs.StoreStates.{ShownStore, StoreState, dropped_in, hand_in, shown_of, store_of, with_hand}
-use Rattle.session_parts.specs.UndoneLaws.{FitOfParts, FitOfStores, FitsParts, RefusedIsUndone, SameBesidePages, ShortIsUndone, SpentIsUndone, StepsBehind}
+use Rattle.session_parts.specs.UndoneLaws.{FitOfParts, FitOfStores, FitsParts, RefusedIsUndone, SameBesidePages, SpentIsUndone, StepsBehind}
 
 -- ---- what is fit
 
@@ -172,15 +172,6 @@ module _ {D : Type 0} (told : D → Told) where
     cause = (ready, ready);
   }
 
-  pub short_is_undone : ShortIsUndone told
-  short_is_undone parts n hand fits ready full lacks = record {
-    steps = λ names hands is tells before after p shown. (p, kept_shown parts n hand fits names hands p is shown, (lacks names hands p is tells shown, refl));
-    fit = kept_fit parts n hand fits;
-    others = kept_others parts n hand fits stops.Memory;
-    stays = λ names hands is. (as_it_is parts n hand fits names hands (with_hand hands n (Some hand)), refl, full);
-    cause = (ready, ready);
-  }
-
   -- ---- behind a call that changes no page
 
   module _ (old mid : Parts D) (n : ℕ) (keeps : Keeps told old.pages mid.pages) (ready : old.pages.failed ≡ None) (still_ready : mid.pages.failed ≡ None) (same : SameBesidePages old mid) where
@@ -204,7 +195,6 @@ module _ {D : Type 0} (told : D → Told) where
     cause_behind new (stepped.Done reply) cause = (ready, cause.1)
     cause_behind new (stepped.Blocked what holder hand) cause = (ready, cause.1)
     cause_behind new (stepped.Undone (stops.Spent entries) hand) cause = (ready, cause.1)
-    cause_behind new (stepped.Undone stops.Memory hand) cause = (ready, cause.1)
     cause_behind new (stepped.Undone stops.Disk hand) cause = (ready, rose_earlier (told old.pages.disk).faults (told mid.pages.disk).faults (told new.disk).faults keeps.leaves.faults cause.1, cause.2)
     cause_behind new (stepped.Undone (stops.Reopen faults) hand) cause = absurd (none-some _ (sym still_ready ∙ cause.0))
     cause_behind new (stepped.Undone (stops.Damaged at) hand) cause = (ready, cause.1, omega (arith, keeps.leaves.faults, cause.2), λ tells. cause.3 (keeps.leaves.tells ∙ tells))
@@ -237,7 +227,6 @@ module _ {D : Type 0} (told : D → Told) where
         )
     stays_behind names hands new hand (stepped.Undone (stops.Spent entries) next) stays =
         (as_it_was names hands new stays.0, stays.1, stays.2 ∙ ap (λ (j : JournalState). length j.entries) same.journal, spent_too (statement_of hand) stays.3)
-    stays_behind names hands new hand (stepped.Undone stops.Memory next) stays = (as_it_was names hands new stays.0, stays.1, spent_too (statement_of hand) stays.2)
     stays_behind names hands new hand (stepped.Undone stops.Disk next) stays = (stays.0 ∙ ap (λ (j : JournalState). j.entries) same.journal, stays.1)
     stays_behind names hands new hand (stepped.Undone (stops.Reopen faults) next) stays = (stays.0 ∙ ap (λ (j : JournalState). j.entries) same.journal, stays.1)
     stays_behind names hands new hand (stepped.Undone (stops.Damaged at) next) stays = (stays.0 ∙ ap (λ (j : JournalState). j.entries) same.journal, stays.1)

@@ -45,7 +45,6 @@ IsPageOffset layout at = (place : Place) × IsPlace layout place × (at ≡ page
 -- on each step answers it. A page is damaged only where the disk doesn't tell its contents.
 abbrev pub HasFaultCause : {D : Type 0} → (D → Told) → View D → View D → StoreFault → Type 0
 HasFaultCause told old new (stops.Spent entries) = StaysReady old new
-HasFaultCause told old new stops.Memory = StaysReady old new
 HasFaultCause told old new stops.Disk = Refused told (Untold told old) old new errors.Disk
 HasFaultCause told old new (stops.Reopen faults) = Refused told (Untold told old) old new (errors.Reopen faults)
 HasFaultCause told old new (stops.Damaged at) = Refused told (Untold told old) old new (errors.Damaged at)
@@ -85,5 +84,4 @@ StaysWhereUndone told old new n was (stepped.Done reply) = Unit {0}
 StaysWhereUndone told old new n was (stepped.Blocked what holder hand) = StaysAsItWas told old new × (statement_of hand ≡ statement_of was) × IsHolderOf old n holder
 StaysWhereUndone told old new n was (stepped.Undone (stops.Spent entries) hand) =
     StaysAsItWas told old new × (statement_of hand ≡ statement_of was) × (entries ≡ length old.journal.entries) × IsSpentFor old (statement_of was)
-StaysWhereUndone told old new n was (stepped.Undone stops.Memory hand) = StaysAsItWas told old new × (statement_of hand ≡ statement_of was) × IsSpentFor old (statement_of was)
 StaysWhereUndone told old new n was (stepped.Undone fault hand) = (new.journal.entries ≡ old.journal.entries) × (statement_of hand ≡ statement_of was)

@@ -31,9 +31,6 @@ pub enum StoreFault {
     /// The requests that it would enter don't all fit into the journal, which has so many entries.
     #[error("the requests don't fit into the journal, which has {entries}")]
     Spent { entries: u64 },
-    /// Memory is short for it, and the journal has no room for the request of which that would be told.
-    #[error("memory is short, and the journal is full")]
-    Memory,
 }
 
 /// The fault of a step whose pages are refused so.

@@ -159,8 +159,8 @@ module _ {D : Type 0} (told : D → Told) (laws : LookLaws) (parts : Parts D) (n
       spent_there full still last is =
           let its_may = may_still told parts pages n looking scan keeps ready may in
           behind told parts pages n looking scan keeps ready still new answer
-          (last_spent told laws (parts_before scan.judging.stage mid) n looking scan its_may.fit its_may.find its_may.fresh still full new answer parts_are (next_then scan refl did.Finished last)
-          (undone_is (stops.Spent (length parts.journal.entries)) is))
+          (last_spent told laws (parts_before scan.judging.stage mid) n looking scan its_may.fit its_may.find its_may.fresh still full new answer (undone_is (stops.Spent (length parts.journal.entries)) is) parts_are
+          (next_then scan refl did.Finished last))
 
     -- ---- another call makes it
 

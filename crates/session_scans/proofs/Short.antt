@@ -48,13 +48,13 @@ module _ {D : Type 0} (told : D → Told) (laws : LookLaws) (old : Parts D) (n :
   as_told answer other new then answer_is new_is so =
       subst (λ (a : Stepped). StepsSo told old new n was a) (sym answer_is) (subst (λ (x : Parts D). StepsSo told old x n was other) (sym new_is) so)
 
-  module _ (full : MAX_ENTRIES < length old.journal.entries + 1) (new : Parts D) (answer : Stepped) (new_is : new ≡ old) where
-    pub last_spent : (Tells told old.pages → NextIs old.pages.layout old.pages.pages scan did.Finished) → answer ≡ stepped.Undone (stops.Spent (length old.journal.entries)) was → StepsSo told old new n was answer
-    last_spent last answer_is = as_told answer (stepped.Undone (stops.Spent (length old.journal.entries)) was) new old answer_is new_is
+  module _ (full : MAX_ENTRIES < length old.journal.entries + 1) (new : Parts D) (answer : Stepped) (answer_is : answer ≡ stepped.Undone (stops.Spent (length old.journal.entries)) was) (new_is : new ≡ old) where
+    pub last_spent : (Tells told old.pages → NextIs old.pages.layout old.pages.pages scan did.Finished) → StepsSo told old new n was answer
+    last_spent last = as_told answer (stepped.Undone (stops.Spent (length old.journal.entries)) was) new old answer_is new_is
         (spent_so told laws old old.pages n looking scan fit find fresh its_open.0 its_open.1 (keeps_same told old.pages) ready full last)
 
-    pub short_undone : answer ≡ stepped.Undone stops.Memory was → StepsSo told old new n was answer
-    short_undone answer_is = as_told answer (stepped.Undone stops.Memory was) new old answer_is new_is
+    pub short_spent : StepsSo told old new n was answer
+    short_spent = as_told answer (stepped.Undone (stops.Spent (length old.journal.entries)) was) new old answer_is new_is
         (short_so told laws old old.pages n looking scan fit find fresh its_open.0 its_open.1 (keeps_same told old.pages) ready full)
 
   module _ (new : Parts D) (answer : Stepped) (answer_is : answer ≡ stepped.Done (replies.Refused refusals.Memory)) (failed : OfOpen old.transactions n (λ o. new.transactions ≡ with_failed old.transactions n o))

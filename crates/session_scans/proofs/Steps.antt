@@ -1,5 +1,5 @@
 -- what a step of a scan promises, by what its calls ensure
-use Rattle.std.proofs.Common.{◌≡◌, ◌≢◌, ℕ, ◌+◌, ◌<◌, ◌≤◌, false, List, [], ◌∷◌, ◌++◌, length, length-append, Option, None, Some, All, refl, sym, ap, ◌∙◌, subst, arith}
+use Rattle.std.proofs.Common.{◌≡◌, ◌≢◌, inl, inr, ℕ, ◌+◌, ◌<◌, ◌≤◌, false, List, [], ◌∷◌, ◌++◌, length, length-append, Option, None, Some, All, refl, sym, ap, ◌∙◌, subst, arith}
 use Rattle.disk_trait.specs.Told.{Told}
 use Rattle.block_model.specs.declared.reply.Point.{Point}
 use Rattle.block_model.specs.declared.reply.Refusal.TheVariants as refusals
@@ -57,7 +57,7 @@ use Rattle.session_parts.specs.StoreFaults.{fault_of}
 use Rattle.session_parts.specs.StoreStates.{ShownStore, hand_in, shown_of, store_of, with_hand}
 use Rattle.session_parts.specs.UndoneLaws.{FitsParts, StepsSo}
 use Rattle.session_parts.proofs.Stores.{hand_changes}
-use Rattle.session_parts.proofs.Undone.{fit_of_parts, refused_is_undone, short_is_undone, spent_is_undone}
+use Rattle.session_parts.proofs.Undone.{fit_of_parts, refused_is_undone, spent_is_undone}
 use Rattle.session_scans.specs.declared.looking.Looking.{Looking}
 use Rattle.session_scans.specs.Finishes.{IsReplyOf}
 use Rattle.session_scans.specs.FoundLists.{ListsRows}
@@ -315,11 +315,12 @@ module _ {D : Type 0} (told : D → Told) (laws : LookLaws) (old : Parts D) (pag
   module _ (ready : old.pages.failed ≡ None) (full : MAX_ENTRIES < length old.journal.entries + 1) where
     pub spent_so : (Tells told old.pages → NextIs old.pages.layout old.pages.pages before did.Finished) → StepsSo told old old n was (stepped.Undone (stops.Spent (length old.journal.entries)) was)
     spent_so last = spent_is_undone told old n was (length old.journal.entries) fit ready refl (full_then full)
-        (λ names hands_ p is tells shown. lacks_room laws (store names hands_ is) n looking before o (there names hands_ is) p shown (last tells) full)
+        (λ names hands_ p is tells shown. inl (lacks_room laws (store names hands_ is) n looking before o (there names hands_ is) p shown (last tells) full))
 
     -- memory is short for it
-    pub short_so : StepsSo told old old n was (stepped.Undone stops.Memory was)
-    short_so = short_is_undone told old n was fit ready (full_then full) (λ names hands_ p is tells shown. lacks_both laws (store names hands_ is) n looking before o (there names hands_ is) p shown full)
+    pub short_so : StepsSo told old old n was (stepped.Undone (stops.Spent (length old.journal.entries)) was)
+    short_so = spent_is_undone told old n was (length old.journal.entries) fit ready refl (full_then full)
+        (λ names hands_ p is tells shown. inr (lacks_both laws (store names hands_ is) n looking before o (there names hands_ is) p shown full))
 
   -- ---- the pages refuse it
 

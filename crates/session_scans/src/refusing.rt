@@ -16,7 +16,7 @@ use crate::looking::{Looking, first_hand};
 use bitmap_scan::Scan;
 use block_model::{Query, Refusal, Reply, Request, Tag};
 use disk_trait::Disk;
-use session_parts::{Parts, Stepped, StoreFault};
+use session_parts::{Parts, Stepped, spent};
 
 /// The look is entered as one for which memory was short, and the session's transaction fails. Takes no memory.
 pub(crate) fn refuse_look<D: Disk + Drop>(
@@ -40,7 +40,7 @@ pub(crate) fn refuse_look<D: Disk + Drop>(
     Stepped::Done(Reply::Refused(Refusal::Memory))
 }
 
-/// Memory is short before there is a scan. The step isn't made; `Memory` comes where the journal has no room for the look.
+/// Memory is short before there is a scan. The step isn't made; `Spent` comes where the journal has no room for the look.
 pub(crate) fn lacks_memory_at_once<D: Disk + Drop>(
     parts: &mut Parts<D>,
     session: u32,
@@ -55,14 +55,14 @@ pub(crate) fn lacks_memory_at_once<D: Disk + Drop>(
     laws_of_looks();
     if !parts.journal.fits(1) {
         return Stepped::Undone {
-            fault: StoreFault::Memory,
+            fault: spent(&parts.journal),
             hand: first_hand(looking, query),
         };
     }
     refuse_look(parts, session, query)
 }
 
-/// Memory is short for the step of the scan, which isn't made; `Memory` comes where the journal has no room for the look.
+/// Memory is short for the step of the scan, which isn't made; `Spent` comes where the journal has no room for the look.
 pub(crate) fn lacks_memory<D: Disk + Drop>(
     parts: &mut Parts<D>,
     session: u32,
@@ -76,7 +76,8 @@ pub(crate) fn lacks_memory<D: Disk + Drop>(
 {
     laws_of_looks();
     if !parts.journal.fits(1) {
-        return undone(parts, scan, looking, StoreFault::Memory);
+        let fault = spent(&parts.journal);
+        return undone(parts, scan, looking, fault);
     }
     parts.journal.release(1);
     refuse_look(parts, session, scan.into_query())

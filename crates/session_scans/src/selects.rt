@@ -14,7 +14,7 @@ use session_parts::{Hand, Parts, Stepped};
 
 /// The first step of a select: it takes the memory of its scan, but for the rows that this finds, and one entry of the journal; then it reads how
 /// many blocks its table has. Where memory is short the look is entered so, and the session's transaction fails; `Spent` comes where the journal
-/// has no room for what the step enters, and `Memory` where it has none to tell want of memory.
+/// has no room for what the step enters.
 pub fn begin_select<D: Disk + Drop>(parts: &mut Parts<D>, session: u32, query: Query) -> Stepped
     requires fit { IsFit D.told parts.old session (Hand.Selecting query) }
     requires shown { IsShown D.told parts.old session (Hand.Selecting query) }

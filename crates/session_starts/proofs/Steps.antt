@@ -223,7 +223,6 @@ step_leaves_table only p q n (Ok (steps.Done reply)) s undone =
     steps_leave only p n s.hand _ q s.steps (λ is new ends. undone (record { hand = s.hand; in_hand = s.in_hand; is = is; new = new }) (ap (λ (r : Reply). Ok (steps.Done r)) (same_Some _ _ ends)))
 step_leaves_table only p q n (Ok (steps.Blocked what by)) s undone = steps_leave only p n s.hand _ q s.steps (λ is new ends. absurd (cc))
 step_leaves_table only p q n (Err (stops.Spent entries)) s undone = ap (λ (r : Place). (database_at r).table) s.2
-step_leaves_table only p q n (Err stops.Memory) s undone = ap (λ (r : Place). (database_at r).table) s.1
 step_leaves_table only p q n (Err stops.Disk) s undone = absurd s
 step_leaves_table only p q n (Err (stops.Reopen faults)) s undone = absurd s
 step_leaves_table only p q n (Err (stops.Damaged at)) s undone = absurd s

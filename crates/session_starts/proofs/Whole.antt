@@ -181,7 +181,6 @@ module _ {D : Type 0} (told : D → Told) where
       commit_then (Ok (steps.Done replies.Committed)) sure step = sure_then shown old new p shows leaves q then sure
       commit_then (Ok step) sure is = undone_then shown old new p shows leaves q then kept n (Ok step) (λ same. false≢true (ap is_done same)) is (step_led step q is) now
       commit_then (Err (stops.Spent entries)) passes is = subst (AllHaveTable told new.pages) (sym is.2) (nothing_passed shown old new p shows each passes).images
-      commit_then (Err stops.Memory) passes is = subst (AllHaveTable told new.pages) (sym is.1) (nothing_passed shown old new p shows each passes).images
       commit_then (Err stops.Disk) sure is = absurd is
       commit_then (Err (stops.Reopen faults)) sure is = absurd is
       commit_then (Err (stops.Damaged place)) sure is = absurd is

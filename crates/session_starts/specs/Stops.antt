@@ -13,11 +13,10 @@ use Rattle.session_parts.specs.declared.hand.Hand.{Hand}
 use Rattle.session_parts.specs.declared.hand.Hand.TheVariants as hands
 use Rattle.transactions.specs.Passes.{PassesCommit, PassesNothing}
 
--- a commit is told only when each image that a crash may leave opens to the pages with it, and none is begun where the journal lacks room for it, or memory is short
+-- a commit is told only when each image that a crash may leave opens to the pages with it, and none is begun where the journal lacks room for it
 abbrev pub IsSureBehind : {D : Type 0} → (D → Told) → (old new : View D) → Result Step StoreFault → Type 0
 IsSureBehind told old new (Ok (steps.Done replies.Committed)) = IsDurable told new
 IsSureBehind told old new (Err (stops.Spent entries)) = PassesNothing told old new
-IsSureBehind told old new (Err stops.Memory) = PassesNothing told old new
 IsSureBehind told old new answer = Unit {0}
 
 -- At every moment of a step, inside each call of the disk too, an image opens to the pages as they were before the step, or to what an image of

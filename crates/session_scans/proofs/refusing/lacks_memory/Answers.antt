@@ -1,9 +1,12 @@
-use Rattle.std.proofs.Common.{◌+◌, ◌<◌, ◌≤◌, length, sym, ◌∙◌, arith}
+use Rattle.std.proofs.Common.{◌+◌, ◌<◌, ◌≤◌, length, sym, ap, ◌∙◌, arith}
 use Rattle.std.proofs.lemmas.Bool.{false≢true}
 use Rattle.store_layout.specs.declared.limits.TheConstants.{MAX_ENTRIES}
+use Rattle.session_parts.specs.declared.faults.StoreFault.{StoreFault}
+use Rattle.session_parts.specs.declared.hand.Stepped.TheVariants as stepped
+use Rattle.session_scans.specs.Looks.{hand_before}
 use Rattle.session_scans.specs.ScanSteps.{parts_before}
 use Rattle.session_scans.proofs.Behind.{refused_entered}
-use Rattle.session_scans.proofs.Short.{short_refused, short_undone}
+use Rattle.session_scans.proofs.Short.{short_refused, short_spent}
 use Rattle.session_scans.proofs.Words.{promised_is, scan_share, share_is}
 use Rattle.session_scans.proofs.refusing.lacks_memory.Goals as goal
 
@@ -14,8 +17,8 @@ returns-then-not-fits-clause-so g c =
     let may = c.requires.may in
     let within-not = λ (within : length parts.journal.entries + 1 ≤ MAX_ENTRIES). false≢true (sym c.if-not-fits.true ∙ c.fits.ensures.1 within) in
     let full : MAX_ENTRIES < length parts.journal.entries + 1 = omega (arith, within-not) in
-    short_undone g.D.Disk.told c.laws_of_looks.ensures (parts_before scan.judging.stage parts) c.args.session c.args.looking scan may.fit may.find may.fresh c.requires.ready full c.undone.new.parts c.undone.result c.undone.ensures.parts
-    c.undone.ensures.answer
+    short_spent g.D.Disk.told c.laws_of_looks.ensures (parts_before scan.judging.stage parts) c.args.session c.args.looking scan may.fit may.find may.fresh c.requires.ready full c.undone.new.parts c.undone.result
+    (c.undone.ensures.answer ∙ ap (λ (f : StoreFault). stepped.Undone f (hand_before c.args.looking scan scan.judging.stage)) c.spent-fault.ensures) c.undone.ensures.parts
 
 pub returns-clause-so : goal.returns-clause-so
 returns-clause-so g c =
