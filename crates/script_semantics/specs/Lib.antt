@@ -13,7 +13,8 @@ pub mod RequestSteps
 pub mod Openings
 pub mod Numbers
 pub mod GoneRows
-pub mod FrontBeginnings
+pub mod Views
+pub mod ViewsTaken
 pub mod Copies
 pub mod OldestFront
 pub mod Commits
