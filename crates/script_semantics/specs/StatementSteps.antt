@@ -101,11 +101,28 @@ MayLackMemory p n (statements.Delete q) = Unit {0}
 MayLackMemory p n statements.Work = (asked : Asked) × IsAskedFirst p asked × ((m : ℕ) → (p.tables asked.table).summarise_lock ≡ Some m → m ≡ n)
 MayLackMemory p n statement = ⊥
 
--- why a step refuses its statement, with the tag of its request then, and what is told
+abbrev pub IsInsert : Statement → Type 0
+IsInsert (statements.Insert table values) = Unit {0}
+IsInsert statement = ⊥
+
+-- a statement that may put tuples into an index
+abbrev pub PutsTuples : Statement → Type 0
+PutsTuples (statements.Insert table values) = Unit {0}
+PutsTuples (statements.Summarize index block) = Unit {0}
+PutsTuples (statements.Vacuum table) = Unit {0}
+PutsTuples statements.Work = Unit {0}
+PutsTuples statement = ⊥
+
+-- a full index is told by its name, with the number of the pages that it may have
+abbrev pub full_index : DiskLayout → (table at : ℕ) → Refusal
+full_index layout table at = refusals.Full (index_name layout table at) layout.sizes.index_blocks
+
+-- Why a step refuses its statement, with the tag of its request then, and what is told: memory is short; no slot is left for an insert's row; or no page
+-- for a tuple that is put. What is full is told with the room that the layout gives it.
 pub data RefusesSo (p : Place) (table : ℕ) (statement : Statement) : causes.Refusal → Tag → Refusal → Type 0 where
   ForMemory : TakesMemory statement → RefusesSo p table statement LacksMemory tags.NoMemory refusals.Memory
-  HeapIsFull : (number : ℕ) → RefusesSo p table statement (IsFull Heap number) tags.Full (refusals.Full (table_name p.layout table) number)
-  IndexIsFull : (at number : ℕ) → RefusesSo p table statement (IsFull (IndexNumber at) number) tags.Full (refusals.Full (index_name p.layout table at) number)
+  HeapIsFull : (number : ℕ) → IsInsert statement → RefusesSo p table statement (IsFull Heap number) tags.Full (full_table p.layout table)
+  IndexIsFull : (at number : ℕ) → PutsTuples statement → RefusesSo p table statement (IsFull (IndexNumber at) number) tags.Full (full_index p.layout table at)
 
 -- what is waited for, by its names
 abbrev pub what_of : DiskLayout → (table : ℕ) → WaitedFor → What
