@@ -17,7 +17,7 @@ mod status;
 mod top;
 mod wanted;
 
-pub use laws::{every_script_has_a_start, short_scripts_fit};
+pub use laws::{every_script_has_a_start, short_scripts_fit, the_lines_of_a_run_hold_throughout};
 pub use status::{
     DAMAGED, DISK_FAULT, DONE, LIMIT, MEMORY, NO_STORE, READ_FAULT, SCRIPT_LIMIT, USAGE,
     WRITE_FAULT,
