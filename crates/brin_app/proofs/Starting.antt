@@ -51,7 +51,7 @@ new_index layout number = record {
   autosummarize = (index_at layout number).auto;
   entry = λ _. None;
   tuple = λ _. None;
-  pages = record { kind = first_pages; room = λ _. 0; room_at = λ _. 0; map_pages = 1; limit = layout.sizes.index_blocks };
+  pages = record { kind = first_pages; map_pages = 1; limit = layout.sizes.index_blocks };
   lock = λ _. None;
   unnamed = λ _. false;
 }

@@ -28,7 +28,7 @@ index = record {
   autosummarize = true;
   entry = λ m. None;
   tuple = λ x. None;
-  pages = record { kind = first_kind; room = λ p. 0; room_at = λ x. 0; map_pages = 1; limit = 16 };
+  pages = record { kind = first_kind; map_pages = 1; limit = 16 };
   lock = λ p. None;
   unnamed = λ x. false;
 }

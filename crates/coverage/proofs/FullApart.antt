@@ -1,10 +1,12 @@
 -- Where a statement lacks a page for what it has to put, it has no step.
-use Rattle.std.proofs.Common.{◌≡◌, ℕ, ◌≤◌, ◌<◌, Some, None, length, sym, ◌∙◌, subst, arith}
+use Rattle.std.proofs.Common.{◌≡◌, ⊎_elim, ℕ, ◌≤◌, ◌<◌, Some, None, length, sym, ◌∙◌, subst, arith, zero, suc}
 use Rattle.block_model.specs.declared.row.Row.{Row}
 use Rattle.block_model.specs.declared.place.Spot.{Spot}
 use Rattle.coverage.specs.IndexView.{IndexTuple, Emptying, IndexView, range_of_block, next_map_page, placeholder_length}
 use Rattle.std.specs.Prelude.{refl}
-use Rattle.coverage.specs.Verdicts.{Verdict, Differs, Fits, Puts, Full, PutVerdict, NoTarget, SwapVerdict, SwapMoves}
+use Rattle.coverage.specs.Verdicts.{Verdict, Differs, Fits, Puts, Full, OnStarted, PageHasRoom, PutVerdict, NoTarget, SwapVerdict, SwapMoves}
+use Rattle.coverage.specs.Rooms.{bytes_of}
+use Rattle.coverage.proofs.Numbers.{lt_or_ge}
 use Rattle.coverage.specs.Statements.{OnIndex, Copied, Phase, Statement, loose_in, loose_at}
 use Rattle.coverage.specs.Steps.{InsertStep, SummariseStep}
 use Rattle.coverage.specs.Waiting.{IsNextTuple}
@@ -69,6 +71,17 @@ full_put w s range need _ (NoTarget none) = refl
 pub full_swap : (w : IndexView) (s range number : ℕ) (x : Spot) (old new : IndexTuple) → SwapVerdict w s range x old new (Full number)
     → number ≡ w.pages.limit
 full_swap w s range number x old new (SwapMoves _ free here must puts) = full_put w s range (length new.bytes) number puts
+
+-- where a page has room for the tuple, no put of it is full
+pub room_not_full : (w : IndexView) (s range need number p : ℕ) → PageHasRoom w.pages (bytes_of w.tuple) need p → PutVerdict w s range need (Full number) → ⊥
+room_not_full w s range need _ p has (NoTarget none) = below (suc p) p (omega arith) has
+  where
+    below : (n i : ℕ) → i < n → PageHasRoom w.pages (bytes_of w.tuple) need i → ⊥
+    below zero i less has = absurd (omega (arith, less))
+    below (suc n) i less has = none i (OnStarted (has, λ q its. ⊎_elim (λ (lower : q < i). absurd (below n q (omega (arith, less, lower)) its)) (λ (above : i ≤ q). above) (lt_or_ge q i)))
+
+pub room_not_full_swap : (w : IndexView) (s range number p : ℕ) (x : Spot) (old new : IndexTuple) → PageHasRoom w.pages (bytes_of w.tuple) (length new.bytes) p → SwapVerdict w s range x old new (Full number) → ⊥
+room_not_full_swap w s range number p x old new has (SwapMoves _ free here must puts) = room_not_full w s range (length new.bytes) number p has puts
 
 pub full_phase : (w : IndexView) (s range number : ℕ) (phase : Phase) → IsPhaseFull w s range phase number → number ≡ w.pages.limit
 full_phase w s range number _ (FinalFull _ p x old new full) = full_swap w s range number x old new full

@@ -12,6 +12,7 @@ pub mod OnIndexSteps
 pub mod InsertSteps
 pub mod MaintainSteps
 pub mod PagesOrdered
+pub mod PageRooms
 pub mod PagesGoOn
 pub mod PagesKept
 pub mod Runs
@@ -19,8 +20,8 @@ pub mod Opening
 pub mod ExampleTuples
 pub mod SmallIndex
 pub mod RangeSummarised
-pub mod TupleMoved
 pub mod MapGrown
+pub mod TupleMoved
 pub mod Verdicts
 pub mod NextSteps
 pub mod OneOutcome

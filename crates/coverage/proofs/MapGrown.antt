@@ -1,24 +1,34 @@
 -- A run in which the map grows by a page on which a tuple stands: it is flagged, the tuple moves, the page is turned and counted; then
 -- the placeholder is put and named for which the map was too short.
 use Rattle.std.proofs.Common.{◌≡◌, ⊎_elim, ℕ, ◌≤◌, Some, None, true, false, [], ◌∷◌, sym, ◌∙◌, ap, arith, zero, suc}
-use Rattle.std.specs.Prelude.{refl}
+use Rattle.std.specs.Prelude.{refl, List}
+use Rattle.std.specs.Option.{option_map}
 use Rattle.std.proofs.lemmas.Option.{none-some}
 use Rattle.block_model.specs.declared.place.Spot.{Spot}
-use Rattle.coverage.specs.IndexView.{IndexTuple, ExtentUnread, Unstarted, Mapping, Emptying, IsPastMap, NamesPlaceholder}
+use Rattle.coverage.specs.IndexView.{IndexTuple, ExtentUnread, Unstarted, Mapping, Regular, Emptying, IsPastMap, NamesPlaceholder}
 use Rattle.coverage.specs.Statements.{Empty, Moving, Dropping, Phase, NotBuilding, Vacant, Growing, Evacuating, Placing, IsAt, Idle, Maintaining, Holding}
-use Rattle.coverage.specs.Verdicts.{OnNew, PutGoes}
+use Rattle.coverage.specs.Verdicts.{OnNew, OnStarted, PutGoes}
 use Rattle.coverage.specs.IsCovered.{IndexState}
 use Rattle.coverage.specs.Waiting.{Grows}
 use Rattle.coverage.specs.Steps.{Step, TakeSummariseLock, BeginRange, GrowthStep, ReadNoEntry, GrowMap, Put, Set, Count, Flag, EvacuatePut, EvacuateSet, EvacuateDrop}
 use Rattle.coverage.specs.Steps.{Turn, Run, Done, Next}
 use Rattle.coverage.proofs.ExampleTuples.{tuple_of, final_tuple}
-use Rattle.coverage.proofs.SmallIndex.{at_here, placed_others, no_tuples, place, kind_number, differ, Small, index_of, view, at_statement, put_at, set_at, drop_at, kind_at}
+use Rattle.coverage.proofs.SmallIndex.{at_here, at_number, placed_others, no_tuples, place, kind_number, differ, Small, index_of, view, at_statement, put_at, set_at, drop_at, kind_at}
 use Rattle.coverage.proofs.SmallIndex.{count_at, held_by, turned, summarises, free, locks_these, nobody, reads, puts, sets, drops, turns_kind, counts_page, passes}
-use Rattle.coverage.proofs.RangeSummarised.{no_rows, summarised, range_done, no_room}
-use Rattle.coverage.proofs.TupleMoved.{moved_place}
+use Rattle.index_layout.specs.IndexPages.{Slot, taken}
+use Rattle.index_layout.specs.IndexReading.{free_slot_of}
+use Rattle.index_layout.specs.IndexWrites.{before, room_for_further, trimmed}
+use Rattle.coverage.specs.IsCovered.{IsIndexKept}
+use Rattle.coverage.specs.Rooms.{bytes_of, first_slots, page_room}
+use Rattle.coverage.proofs.PageRooms.{no_slots}
+use Rattle.coverage.proofs.Runs.{run_kept}
+use Rattle.coverage.proofs.RangeSummarised.{no_rows, summarised, summarised_kept, range_done}
+
+abbrev pub moved_place : Spot
+moved_place = record { block = 3; slot = 0 }
 
 abbrev pub new_place : Spot
-new_place = record { block = 4; slot = 0 }
+new_place = record { block = 3; slot = 1 }
 
 abbrev pub new_tuple : IndexTuple
 new_tuple = tuple_of 1020 true false
@@ -36,7 +46,7 @@ range_begun = at_last (NotBuilding Empty) lock_taken
 abbrev entry_missing : Small
 entry_missing = at_last Vacant range_begun
 
-abbrev page_flagged : Small
+abbrev pub page_flagged : Small
 page_flagged = at_last Vacant (kind_at Emptying [] entry_missing)
 
 abbrev copy_put : Small
@@ -55,7 +65,7 @@ abbrev page_counted : Small
 page_counted = at_last Vacant (count_at page_turned)
 
 abbrev placeholder_put : Small
-placeholder_put = at_last (Placing new_place) (put_at new_place new_tuple (4 ∷ 2 ∷ []) page_counted)
+placeholder_put = at_last (Placing new_place) (put_at new_place new_tuple (3 ∷ 2 ∷ []) page_counted)
 
 abbrev placeholder_named : Small
 placeholder_named = at_last (IsAt ExtentUnread Empty) (set_at 1020 new_place [] placeholder_put)
@@ -84,7 +94,18 @@ flags = grows entry_missing page_flagged Vacant Vacant refl refl
     (Flag (record { short = omega arith; below = omega arith; is = refl }) (free no_rows entry_missing 2)
     (turns_kind no_rows entry_missing Emptying [] (Maintaining 1020 Vacant)))
 
-lowest : (q : ℕ) → page_flagged.pages.kind q ≡ Unstarted → 3 ≤ q
+-- no page takes tuples while that one is flagged
+pub none_regular : (q : ℕ) → page_flagged.pages.kind q ≡ Regular → ⊥
+none_regular zero is = differ 1 2 (ap kind_number is) (omega arith)
+none_regular (suc zero) is = differ 1 2 (ap kind_number is) (omega arith)
+none_regular (suc (suc zero)) is = differ 2 3 (sym (ap kind_number is)) (omega arith)
+none_regular (suc (suc (suc q))) is = differ 0 2 (ap kind_number is) (omega arith)
+
+pub flagged_kept : IsIndexKept (index_of no_rows page_flagged)
+flagged_kept = run_kept (0 ∷ 0 ∷ 0 ∷ 0 ∷ []) range_done (index_of no_rows page_flagged) summarised_kept
+    (Next 0 _ _ _ _ takes (Next 0 _ _ _ _ begins (Next 0 _ _ _ _ looks (Next 0 _ _ _ _ flags (Done _)))))
+
+pub lowest : (q : ℕ) → page_flagged.pages.kind q ≡ Unstarted → 3 ≤ q
 lowest zero is = absurd (differ 0 1 (sym (ap kind_number is)) (omega arith))
 lowest (suc zero) is = absurd (differ 0 1 (sym (ap kind_number is)) (omega arith))
 lowest (suc (suc zero)) is = absurd (differ 0 3 (sym (ap kind_number is)) (omega arith))
@@ -99,7 +120,7 @@ copies =
     grows page_flagged copy_put Vacant moving refl refl
     (EvacuatePut place moved_place final_tuple emptying (record { on = refl; stands = refl; first = λ y u on here. omega arith }) refl
     (free no_rows page_flagged 2)
-    (PutGoes moved_place ((OnNew (λ q has. no_room 8 has.2 (omega arith)) (refl, lowest) (omega arith)), (refl, λ q none. omega arith))
+    (PutGoes moved_place ((OnNew (λ q has. none_regular q has.1) (refl, lowest) (omega arith)), (refl, λ q none. omega arith))
     (free no_rows page_flagged 3) (free no_rows page_flagged 1))
     (puts no_rows page_flagged moved_place final_tuple (2 ∷ 3 ∷ 1 ∷ []) (Maintaining 1020 moving) refl)
     (locks_these no_rows copy_put))
@@ -137,19 +158,24 @@ turns_page = grows old_dropped page_turned Vacant Growing refl refl
 counts : Step 0 (index_of no_rows page_turned) (index_of no_rows page_counted)
 counts = grows page_turned page_counted Growing Vacant refl refl (Count (counts_page no_rows page_turned (Maintaining 1020 Vacant)))
 
-next_lowest : (q : ℕ) → page_counted.pages.kind q ≡ Unstarted → 4 ≤ q
-next_lowest zero is = absurd (differ 0 1 (sym (ap kind_number is)) (omega arith))
-next_lowest (suc zero) is = absurd (differ 0 1 (sym (ap kind_number is)) (omega arith))
-next_lowest (suc (suc zero)) is = absurd (differ 0 1 (sym (ap kind_number is)) (omega arith))
-next_lowest (suc (suc (suc zero))) is = absurd (differ 0 2 (sym (ap kind_number is)) (omega arith))
-next_lowest (suc (suc (suc (suc q)))) is = omega arith
+-- the page to which the tuple was moved has it alone, and takes a further one
+one_slot : (tuple : List ℕ) (n : ℕ) → room_for_further (trimmed (first_slots (λ k. option_map (λ (t : IndexTuple). t.bytes) (at_number k 0 (Some final_tuple) None)) (suc n))) ≡ 8144
+unfolding trimmed first_slots taken free_slot_of
+one_slot tuple n = ap (λ l. room_for_further (before (Some final_tuple.bytes) l)) (no_slots (λ k. None) n (λ k. refl))
+
+takes_one : 8 ≤ page_room (bytes_of page_counted.tuple) 3
+takes_one = let room : page_room (bytes_of page_counted.tuple) 3 ≡ 8144 = one_slot final_tuple.bytes 2039 in omega (arith, room)
+
+next_slot : (k : ℕ) → page_counted.tuple (record { block = 3; slot = k }) ≡ None → 1 ≤ k
+next_slot zero is = absurd (none-some _ (sym is))
+next_slot (suc k) is = omega arith
 
 new_put : Step 0 (index_of no_rows page_counted) (index_of no_rows placeholder_put)
 new_put = summarises no_rows page_counted placeholder_put 1020 Vacant (Maintaining 1020 (Placing new_place)) refl refl
     (Put new_place new_tuple refl (λ past. absurd (omega arith))
-    (PutGoes new_place ((OnNew (λ q has. no_room 8 has.2 (omega arith)) (refl, next_lowest) (omega arith)), (refl, λ q none. omega arith))
-    (free no_rows page_counted 4) (free no_rows page_counted 2))
-    (puts no_rows page_counted new_place new_tuple (4 ∷ 2 ∷ []) (Maintaining 1020 (Placing new_place)) refl)
+    (PutGoes new_place (OnStarted ((omega arith, refl, takes_one), λ q has. has.0), (refl, next_slot))
+    (free no_rows page_counted 3) (free no_rows page_counted 2))
+    (puts no_rows page_counted new_place new_tuple (3 ∷ 2 ∷ []) (Maintaining 1020 (Placing new_place)) refl)
     (locks_these no_rows placeholder_put))
 
 new_set : Step 0 (index_of no_rows placeholder_put) map_grown

@@ -9,6 +9,7 @@ use Rattle.coverage.specs.IndexView.{IndexTuple, Progress, ExtentUnread, Passing
 use Rattle.coverage.specs.IndexView.{map_page_of, next_map_page, IsPastMap, range_of_block, NamesPlaceholder}
 use Rattle.coverage.specs.IsSound.{IsSound}
 use Rattle.coverage.specs.Changes.{SameHeap, OwnLocks, IsUntouched}
+use Rattle.coverage.specs.Rooms.{bytes_of}
 use Rattle.coverage.specs.Verdicts.{Puts, Fits, IsTarget, PutVerdict, PutGoes, SwapVerdict, SwapFits, SwapMoves}
 use Rattle.coverage.specs.Statements.{OnIndex, Empty, Held, Copied, Dropping, Phase, NotBuilding, Vacant, Growing, IsAt, Statement}
 use Rattle.coverage.specs.Statements.{Idle, Inserting, Maintaining, Holding, IsAdded}
@@ -30,11 +31,11 @@ use Rattle.coverage.proofs.PagesOrdered.{order_counted}
 use Rattle.coverage.proofs.PagesGoOn.{Quiet, PagesGoOn, PagesAfter, same_blocks, quiet_same, kinds_turned, still_after, quiet_put, quiet_swap, quiet_set, quiet_drop}
 
 -- the page of a put is the target that was chosen
-pub put_target : (w : IndexView) (s range need : ℕ) (y : Spot) → PutVerdict w s range need (Puts y) → IsTarget w.pages need y.block
+pub put_target : (w : IndexView) (s range need : ℕ) (y : Spot) → PutVerdict w s range need (Puts y) → IsTarget w.pages (bytes_of w.tuple) need y.block
 put_target w s range need y (PutGoes _ target free map) = target.0
 
 pub move_target : (w : IndexView) (s range : ℕ) (x y : Spot) (old new : IndexTuple) → SwapVerdict w s range x old new (Puts y)
-    → IsTarget w.pages (length new.bytes) y.block
+    → IsTarget w.pages (bytes_of w.tuple) (length new.bytes) y.block
 move_target w s range x y old new (SwapMoves _ free here must puts) = put_target w s range (length new.bytes) y puts
 
 swap_regular : (w : IndexView) (s range : ℕ) (x : Spot) (old new : IndexTuple) → SwapVerdict w s range x old new Fits → w.pages.kind x.block ≡ Regular

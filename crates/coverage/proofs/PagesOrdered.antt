@@ -6,6 +6,7 @@ use Rattle.std.proofs.lemmas.Bool.{cases_eq}
 use Rattle.block_model.specs.declared.place.Spot.{Spot}
 use Rattle.coverage.specs.IndexView.{IndexTuple, PageKind, Unstarted, Mapping, Regular, Emptying, Pages, IndexView, map_page_of, next_map_page}
 use Rattle.coverage.specs.Changes.{SameMap, SameTuples}
+use Rattle.coverage.specs.Rooms.{bytes_of}
 use Rattle.coverage.specs.Verdicts.{IsLowestNumber, IsPageUnstarted, IsTarget, OnStarted, OnNew}
 use Rattle.coverage.specs.PageOrder.{IsForTuples, AreOrdered, AreNewPages}
 use Rattle.coverage.specs.Steps.{TurnsPage, PutsTuple}
@@ -137,7 +138,7 @@ module _ (w v : IndexView) (ordered : AreOrdered w) where
         (tuples x t here)) entries
 
   -- a tuple is put on the page that is its target
-  pub order_puts : (s need : ℕ) (y : Spot) (t : IndexTuple) → PutsTuple s w v y t → IsTarget w.pages need y.block → AreOrdered v
+  pub order_puts : (s need : ℕ) (y : Spot) (t : IndexTuple) → PutsTuple s w v y t → IsTarget w.pages (bytes_of w.tuple) need y.block → AreOrdered v
   order_puts s need y t puts (OnStarted lowest) =
       order_same (turned_same w v y.block Regular puts.page lowest.0.1) puts.page.map_pages puts.page.limit
       (λ x u here. ⊎_elim

@@ -1,18 +1,20 @@
 -- A run that takes a range of a new index to its final tuple: the steps, one after the other.
-use Rattle.std.proofs.Common.{◌≡◌, ℕ, ◌<◌, ◌≤◌, Option, Some, None, false, [], ◌∷◌, sym, ap, subst, arith, zero, suc}
+use Rattle.std.proofs.Common.{◌≡◌, ℕ, ◌+◌, ◌<◌, ◌≤◌, Option, Some, None, false, [], ◌∷◌, sym, ap, subst, arith, zero, suc}
 use Rattle.std.specs.Prelude.{refl}
 use Rattle.block_model.specs.declared.row.Row.{Row}
-use Rattle.coverage.specs.IndexView.{ExtentUnread, Passing, Unstarted, Mapping}
+use Rattle.coverage.specs.IndexView.{ExtentUnread, Passing, Unstarted, Mapping, Regular}
 use Rattle.coverage.specs.Statements.{Empty, Held, Copied, NotBuilding, Vacant, Placing, IsAt, Idle, Maintaining, Holding}
 use Rattle.coverage.specs.Verdicts.{OnNew, PutGoes, SwapFits}
+use Rattle.index_layout.specs.IndexReading.{free_of}
 use Rattle.coverage.specs.PageOrder.{AreNewPages}
+use Rattle.coverage.specs.Rooms.{bytes_of, slots_on}
 use Rattle.coverage.specs.IsCovered.{IndexState, new_index, IsIndexKept}
 use Rattle.coverage.specs.Steps.{Step, TakeSummariseLock, BeginRange, GiveSummariseLock, ReadNoEntry, Put, Set, Extent}
 use Rattle.coverage.specs.Steps.{Pass, Unite, UniteCopies, SwapFinal, Maps, Run, Done, Next}
 use Rattle.coverage.proofs.Opening.{new_kept}
 use Rattle.coverage.proofs.Runs.{run_kept}
 use Rattle.coverage.proofs.ExampleTuples.{contents, lawful, empty_tuple, final_tuple}
-use Rattle.coverage.proofs.SmallIndex.{no_tuples, place, one_tuple, new_kind, pages, kind_number, differ, Small, statement_at, index_of, at_statement, put_at, set_at, held_by}
+use Rattle.coverage.proofs.SmallIndex.{no_tuples, place, one_tuple, new_kind, pages, kind_number, differ, Small, statement_at, index_of, view, at_statement, put_at, set_at, held_by}
 use Rattle.coverage.proofs.SmallIndex.{placed_again, turned, summarises, free, locks_these, nobody, reads, puts, sets, replaces, passes}
 
 abbrev pub no_rows : ℕ → ℕ → Option Row
@@ -72,8 +74,11 @@ three : Step 0 (index_of no_rows range_begun) (index_of no_rows entry_missing)
 three = summarises no_rows range_begun entry_missing 0 (NotBuilding Empty) (Maintaining 0 Vacant) refl refl
     (ReadNoEntry refl (omega arith, omega arith) (reads no_rows range_begun (Maintaining 0 Vacant) refl))
 
-pub no_room : (n : ℕ) → n ≤ 0 → 0 < n → ⊥
-no_room n low some = omega arith
+-- no page is one of tuples yet
+none_regular : (q : ℕ) → new_kind q ≡ Regular → ⊥
+none_regular zero is = differ 1 2 (ap kind_number is) (omega arith)
+none_regular (suc zero) is = differ 1 2 (ap kind_number is) (omega arith)
+none_regular (suc (suc q)) is = differ 0 2 (ap kind_number is) (omega arith)
 
 lowest : (q : ℕ) → new_kind q ≡ Unstarted → 2 ≤ q
 lowest zero is = absurd (differ 0 1 (sym (ap kind_number is)) (omega arith))
@@ -83,7 +88,7 @@ lowest (suc (suc q)) is = omega arith
 four : Step 0 (index_of no_rows entry_missing) (index_of no_rows placeholder_put)
 four = summarises no_rows entry_missing placeholder_put 0 Vacant (Maintaining 0 (Placing place)) refl refl
     (Put place empty_tuple refl (λ past. absurd (omega arith))
-    (PutGoes place ((OnNew (λ q has. no_room 8 has.2 (omega arith)) (refl, lowest) (omega arith)), (refl, λ q none. omega arith))
+    (PutGoes place ((OnNew (λ q has. none_regular q has.1) (refl, lowest) (omega arith)), (refl, λ q none. omega arith))
     (free no_rows entry_missing 2) (free no_rows entry_missing 1))
     (puts no_rows entry_missing place empty_tuple (2 ∷ 1 ∷ []) (Maintaining 0 (Placing place)) refl)
     (locks_these no_rows placeholder_put))
@@ -113,9 +118,12 @@ nine = summarises no_rows placeholder_read result_copied 0 (IsAt (Passing 1 1 em
     (UniteCopies 1 1 empty_tuple place empty_tuple final_tuple (omega arith) (refl, refl) refl
     (reads no_rows placeholder_read (Maintaining 0 (IsAt (Passing 1 1 empty_tuple) (Copied place empty_tuple final_tuple))) refl))
 
+in_place : (size free : ℕ) → size ≤ free + size
+in_place size free = omega arith
+
 ten : Step 0 (index_of no_rows result_copied) (index_of no_rows final_swapped)
 ten = summarises no_rows result_copied final_swapped 0 (IsAt (Passing 1 1 empty_tuple) (Copied place empty_tuple final_tuple)) Holding refl refl
-    (SwapFinal (Passing 1 1 empty_tuple) place empty_tuple final_tuple (SwapFits (free no_rows result_copied 2) refl refl (omega arith))
+    (SwapFinal (Passing 1 1 empty_tuple) place empty_tuple final_tuple (SwapFits (free no_rows result_copied 2) refl refl (in_place 8 (free_of (slots_on (bytes_of (view no_rows result_copied).tuple) 2))))
     (replaces no_rows result_copied place empty_tuple final_tuple (one_tuple (Some final_tuple)) Holding
     (record { was = refl; now = refl; others = placed_again place (Some final_tuple) (Some empty_tuple) no_tuples }) refl refl))
 
@@ -148,7 +156,7 @@ new_pages = record { one = refl; map = map; rest = rest; below = omega arith }
 abbrev empty_index : IndexState
 empty_index = new_index contents 1 1021 (pages new_kind) (λ t. false)
 
-idle : (n : ℕ) → Idle ≡ statement_at Idle n
+pub idle : (n : ℕ) → Idle ≡ statement_at Idle n
 idle zero = refl
 idle (suc n) = refl
 

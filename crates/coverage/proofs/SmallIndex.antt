@@ -82,7 +82,7 @@ abbrev pub grown_kind : ℕ → PageKind
 grown_kind p = at_number p 2 Regular (new_kind p)
 
 abbrev pub pages : (ℕ → PageKind) → Pages
-pages kind = record { kind = kind; room = λ p. 0; room_at = λ x. 8; map_pages = 1; limit = 16 }
+pages kind = record { kind = kind; map_pages = 1; limit = 16 }
 
 abbrev pub kind_number : PageKind → ℕ
 kind_number Unstarted = 0
@@ -262,8 +262,6 @@ module _ (row : ℕ → ℕ → Option Row) (w : Small) where
     page = record {
       now = at_here y.block Regular (w.pages.kind y.block);
       kinds = λ p. at_other p y.block Regular (w.pages.kind p);
-      rooms = λ p. inr refl;
-      places = λ x. inr refl;
       map_pages = refl;
       limit = refl;
     };
@@ -281,7 +279,7 @@ module _ (row : ℕ → ℕ → Option Row) (w : Small) where
   pub drops : (x : Spot) (e : Statement) → DropsTuple 0 (view row w) (view row (at_statement e (drop_at x w))) x
   drops x e = record {
     tuple = record { now = placed_here x None w.tuple; others = placed_others x None w.tuple };
-    page = record { now = refl; kinds = λ p. inr refl; rooms = λ p. inr refl; places = λ y. inr refl; map_pages = refl; limit = refl };
+    page = record { now = refl; kinds = λ p. inr refl; map_pages = refl; limit = refl };
     frame = tuples_frame row w (at_statement e (drop_at x w)) (λ m. refl) refl;
     none = nobody [] refl;
   }
@@ -292,7 +290,7 @@ module _ (row : ℕ → ℕ → Option Row) (w : Small) where
   replaces x old new tuple e changes regular none = record {
     tuple = changes;
     free = free x.block;
-    page = record { now = regular; kinds = λ p. inr refl; rooms = λ p. inr refl; places = λ y. inr refl; map_pages = refl; limit = refl };
+    page = record { now = regular; kinds = λ p. inr refl; map_pages = refl; limit = refl };
     frame = tuples_frame row w (at_statement e (record w { tuple = tuple })) (λ m. refl) refl;
     none = nobody w.locks none;
   }
@@ -304,8 +302,6 @@ module _ (row : ℕ → ℕ → Option Row) (w : Small) where
     page = record {
       now = at_here (w.pages.map_pages + 1) kind (w.pages.kind (w.pages.map_pages + 1));
       kinds = λ p. at_other p (w.pages.map_pages + 1) kind (w.pages.kind p);
-      rooms = λ p. inr refl;
-      places = λ x. inr refl;
       map_pages = refl;
       limit = refl;
     };

@@ -10,6 +10,7 @@ use Rattle.coverage.specs.Statements.{OnIndex, Empty, Held, Copied, Moving, Drop
 use Rattle.coverage.specs.Steps.{ReadsIndex, PutsTuple, ReplacesTuple, DropsTuple, TurnsKind, CountsPage, IsGone, OnIndexStep, Maps, Gone, Again, MovePut}
 use Rattle.coverage.specs.Steps.{SummariseStep, LookMap, LookGone, IsFinal, Found, ReadNoEntry, GrowMap, Put, Set, Extent, Pass, Unite, UniteCopies}
 use Rattle.coverage.specs.Steps.{SwapFinal, SetFinal, DropOld, GrowthStep, Grow, CountLeftOver, Count, Flag, EvacuatePut, EvacuateSet, EvacuateDrop, EvacuateSweep, Turn}
+use Rattle.coverage.specs.Rooms.{bytes_of, page_room}
 use Rattle.coverage.specs.Stuck.{AreNamed}
 use Rattle.coverage.proofs.OnIndexSteps.{move_compares}
 use Rattle.coverage.proofs.Verdicts.{swap_differs, put_place}
@@ -383,7 +384,7 @@ module _ (s range per most later tail n : ℕ) (w v : IndexView) where
 
       emptying_target : (page on : ℕ) → EmptyingPage w range page most on (λ z. Unit) → y.block ≢ page
       emptying_target page on emptying here = ⊎_elim
-          (λ (started : (w.pages.map_pages < y.block) × (w.pages.kind y.block ≡ Regular) × (length t.bytes ≤ w.pages.room y.block)).
+          (λ (started : (w.pages.map_pages < y.block) × (w.pages.kind y.block ≡ Regular) × (length t.bytes ≤ page_room (bytes_of w.tuple) y.block)).
           not_both page IsOfEmptying Emptying Regular emptying.kind (ap w.pages.kind (sym here) ∙ started.1) tt (λ is. is))
           (λ (new : (w.pages.kind y.block ≡ Unstarted) × (y.block < w.pages.limit)).
           not_both page IsOfEmptying Emptying Unstarted emptying.kind (ap w.pages.kind (sym here) ∙ new.0) tt (λ is. is))

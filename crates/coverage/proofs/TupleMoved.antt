@@ -1,22 +1,51 @@
--- A run in which an insert moves a tuple: the row is put, and the tuple with the row is a byte too long for the old place.
-use Rattle.std.proofs.Common.{◌≡◌, ◌⊎◌, inl, inr, ℕ, ◌≤◌, Option, Some, None, [], ◌∷◌, sym, ap, arith, zero, suc}
+-- A run in which an insert moves a tuple: its page is being emptied for the map, which a stop cut off; so the tuple with the row leaves it.
+use Rattle.std.proofs.Common.{◌≡◌, ◌⊎◌, inl, inr, ⊎_elim, ◌∙◌, ℕ, ◌≤◌, Option, Some, None, [], ◌∷◌, sym, ap, arith, zero, suc}
 use Rattle.std.specs.Prelude.{refl, length}
-use Rattle.std.proofs.lemmas.Option.{none-some}
+use Rattle.std.proofs.lemmas.Bool.{false≢true}
+use Rattle.std.proofs.lemmas.Option.{none-some, same_Some}
 use Rattle.block_model.specs.declared.row.Row.{Row}
 use Rattle.block_model.specs.declared.place.Spot.{Spot}
-use Rattle.coverage.specs.IndexView.{IndexTuple, Unstarted}
+use Rattle.coverage.specs.IndexView.{IndexTuple}
 use Rattle.coverage.specs.Statements.{OnIndex, Empty, Held, Copied, Moving, Dropping, Statement, Idle, Inserting}
 use Rattle.coverage.specs.Verdicts.{OnNew, PutGoes, SwapMoves}
 use Rattle.coverage.specs.IsCovered.{IndexState, IsIndexKept}
 use Rattle.coverage.specs.Steps.{Step, PutRow, InsertOnIndex, InsertCopies, InsertSet, InsertDrop, Maps, MovePut, Run, Done, Next}
 use Rattle.coverage.proofs.Runs.{step_kept}
 use Rattle.coverage.proofs.ExampleTuples.{final_tuple, wide_tuple}
-use Rattle.coverage.proofs.SmallIndex.{at_number, place, grown_kind, kind_number, differ, Small, index_of, at_statement, put_at, set_at, drop_at, turned, inserts}
+use Rattle.coverage.proofs.SmallIndex.{at_number, place, no_tuples, placed_others, differ, Small, index_of, at_statement, put_at, set_at, drop_at, turned, inserts}
 use Rattle.coverage.proofs.SmallIndex.{free, locks_these, nobody, reads, puts, sets, drops}
-use Rattle.coverage.proofs.RangeSummarised.{summarised, range_done, summarised_kept, no_room}
+use Rattle.coverage.specs.Steps.{Stops}
+use Rattle.coverage.proofs.Opening.{stopped_kept}
+use Rattle.coverage.proofs.RangeSummarised.{no_rows, idle}
+use Rattle.coverage.proofs.MapGrown.{moved_place, page_flagged, flagged_kept, none_regular, lowest}
 
-abbrev pub moved_place : Spot
-moved_place = record { block = 3; slot = 0 }
+-- the state after the stop: nobody is at work, and the page is still flagged
+abbrev cut_off : Small
+cut_off = record page_flagged { statement = Idle; held = None }
+
+named_there : (x : Spot) (t : IndexTuple) → cut_off.tuple x ≡ Some t → cut_off.entry t.range ≡ Some x
+named_there x t there = ⊎_elim
+    (λ (is : x ≡ place). ap (λ (u : IndexTuple). cut_off.entry u.range) (same_Some _ _ (sym there ∙ ap cut_off.tuple is)) ∙ ap Some (sym is))
+    (λ (e : cut_off.tuple x ≡ None). absurd (none-some _ (sym e ∙ there)))
+    (placed_others place (Some final_tuple) no_tuples x)
+
+cuts_off : Stops (index_of no_rows page_flagged) (index_of no_rows cut_off)
+cuts_off = record {
+  rest = record { idle = λ n. sym (idle n); unlocked = λ p. refl; free = refl; unnamed_tuples = λ x is. absurd (false≢true is) };
+  contents = refl;
+  pages_per_range = refl;
+  blocks = omega arith;
+  row = λ b k. refl;
+  map = record { entry = λ m. refl };
+  tuples = λ x. inl refl;
+  pages = inl refl;
+  unnamed = λ x t there. inl (named_there x t there);
+  counts = λ t is. is;
+  running = λ s b k r on_index is. refl;
+}
+
+cut_kept : IsIndexKept (index_of no_rows cut_off)
+cut_kept = stopped_kept (index_of no_rows page_flagged) (index_of no_rows cut_off) flagged_kept cuts_off
 
 abbrev one_row : Row → ℕ → ℕ → Option Row
 one_row r b k = at_number b 0 (at_number k 0 (Some r) None) None
@@ -27,7 +56,7 @@ insert r on_index = Inserting 0 0 r on_index
 
 -- the states of the run, each named for the step that led to it
 abbrev row_comes : Row → Small
-row_comes r = at_statement (insert r Empty) summarised
+row_comes r = at_statement (insert r Empty) cut_off
 
 abbrev entry_read : Row → Small
 entry_read r = at_statement (insert r (Held place)) (row_comes r)
@@ -55,8 +84,8 @@ row_others r zero zero = inl (refl, refl)
 row_others r zero (suc j) = inr refl
 row_others r (suc c) j = inr refl
 
-put_row : (r : Row) → Step 0 range_done (row_put r)
-put_row r = PutRow 0 0 r (record { was = refl; now = refl; others = (turned (one_row r) summarised (row_comes r) Idle (insert r Empty) refl refl).others })
+put_row : (r : Row) → Step 0 (index_of no_rows cut_off) (row_put r)
+put_row r = PutRow 0 0 r (record { was = refl; now = refl; others = (turned (one_row r) cut_off (row_comes r) Idle (insert r Empty) refl refl).others })
     (record {
       row = record { was = refl; now = refl; others = row_others r; pages_per_range = refl; grown = omega arith; below = omega arith };
       pages = refl;
@@ -74,7 +103,7 @@ put_row r = PutRow 0 0 r (record { was = refl; now = refl; others = (turned (one
     (record { counts = λ t. refl })
 
 pub put_kept : (r : Row) → IsIndexKept (row_put r)
-put_kept r = step_kept 0 range_done (row_put r) summarised_kept (put_row r)
+put_kept r = step_kept 0 (index_of no_rows cut_off) (row_put r) cut_kept (put_row r)
 
 maps : (r : Row) → Step 0 (row_put r) (index_of (one_row r) (entry_read r))
 maps r = inserts (one_row r) (row_comes r) (entry_read r) 0 0 r Empty (insert r (Held place)) refl refl
@@ -88,20 +117,14 @@ copies r = inserts (one_row r) (entry_read r) (tuple_copied r) 0 0 r (Held place
     (InsertCopies place final_tuple wide_tuple (refl, refl) refl (inl (λ is. lengths_differ (sym is)))
     (reads (one_row r) (entry_read r) (insert r (Copied place final_tuple wide_tuple)) refl))
 
-lowest : (q : ℕ) → grown_kind q ≡ Unstarted → 3 ≤ q
-lowest zero is = absurd (differ 0 1 (sym (ap kind_number is)) (omega arith))
-lowest (suc zero) is = absurd (differ 0 1 (sym (ap kind_number is)) (omega arith))
-lowest (suc (suc zero)) is = absurd (differ 0 2 (sym (ap kind_number is)) (omega arith))
-lowest (suc (suc (suc q))) is = omega arith
-
 move_put : (r : Row) → Step 0 (index_of (one_row r) (tuple_copied r)) (index_of (one_row r) (copy_put r))
 move_put r =
     let moving = Moving place moved_place final_tuple wide_tuple in
     inserts (one_row r) (tuple_copied r) (copy_put r) 0 0 r (Copied place final_tuple wide_tuple) (insert r moving) refl refl
     (InsertOnIndex (Copied place final_tuple wide_tuple) moving
     (MovePut place moved_place final_tuple wide_tuple
-    (SwapMoves _ (free (one_row r) (tuple_copied r) 2) refl (inr (omega arith))
-    (PutGoes moved_place ((OnNew (λ q has. no_room 9 has.2 (omega arith)) (refl, lowest) (omega arith)), (refl, λ q none. omega arith))
+    (SwapMoves _ (free (one_row r) (tuple_copied r) 2) refl (inl (none_regular 2))
+    (PutGoes moved_place ((OnNew (λ q has. none_regular q has.1) (refl, lowest) (omega arith)), (refl, λ q none. omega arith))
     (free (one_row r) (tuple_copied r) 3) (free (one_row r) (tuple_copied r) 1)))
     (puts (one_row r) (tuple_copied r) moved_place wide_tuple (2 ∷ 3 ∷ 1 ∷ []) (insert r moving) refl)
     (locks_these (one_row r) (copy_put r))))

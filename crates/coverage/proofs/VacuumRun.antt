@@ -319,8 +319,6 @@ page_swept at = record {
   page = record {
     now = refl;
     kinds = λ p. inr refl;
-    rooms = λ p. inr refl;
-    places = λ x. inr refl;
     map_pages = refl;
     limit = refl;
   };

@@ -10,6 +10,7 @@ use Rattle.coverage.specs.Verdicts.{IsLocked, IsFirstLocked, First, Later, IsLow
 use Rattle.coverage.specs.Verdicts.{HasFreeSlots, IsTargetPlace, Verdict, Waits, Differs, Fits, Puts, Full, PutVerdict, NoTarget, PutWaits, PutGoes, MustMove}
 use Rattle.coverage.specs.Verdicts.{SwapVerdict, SwapWaits, SwapDiffers, SwapFits, SwapMoves, ClearVerdict, ClearWaits, ClearDiffers, ClearFits}
 use Rattle.coverage.specs.PageOrder.{AreOrdered}
+use Rattle.coverage.specs.Rooms.{bytes_of, place_room, page_room}
 use Rattle.coverage.proofs.Numbers.{lt_or_ge, lowest_below}
 
 pub free_not_locked : (w : IndexView) (s p : ℕ) → IsFree w.lock s p → IsLocked w.lock s p → ⊥
@@ -31,8 +32,8 @@ lowest_once Is p q one two = both p q (one.1 q two.0) (two.1 p one.0)
     both : (p q : ℕ) → p ≤ q → q ≤ p → p ≡ q
     both p q le ge = omega arith
 
-target_once : (w : IndexView) (need p q : ℕ) → IsTarget w.pages need p → IsTarget w.pages need q → p ≡ q
-target_once w need p q (OnStarted one) (OnStarted two) = lowest_once (PageHasRoom w.pages need) p q one two
+target_once : (w : IndexView) (need p q : ℕ) → IsTarget w.pages (bytes_of w.tuple) need p → IsTarget w.pages (bytes_of w.tuple) need q → p ≡ q
+target_once w need p q (OnStarted one) (OnStarted two) = lowest_once (PageHasRoom w.pages (bytes_of w.tuple) need) p q one two
 target_once w need p q (OnStarted one) (OnNew none two below) = absurd (none p one.0)
 target_once w need p q (OnNew none one below) (OnStarted two) = absurd (none q two.0)
 target_once w need p q (OnNew none one below) (OnNew none' two below') = lowest_once (IsPageUnstarted w.pages) p q one two
@@ -79,11 +80,11 @@ IsNotStarted kind = ⊥
 
 -- a tuple is put at a free place of a page past the map that has room and isn't being emptied, or of one that isn't started
 pub put_place : (w : IndexView) (s range need : ℕ) (y : Spot) → PutVerdict w s range need (Puts y) → (w.tuple y ≡ None)
-    × (((w.pages.map_pages < y.block) × (w.pages.kind y.block ≡ Regular) × (need ≤ w.pages.room y.block))
+    × (((w.pages.map_pages < y.block) × (w.pages.kind y.block ≡ Regular) × (need ≤ page_room (bytes_of w.tuple) y.block))
     ⊎ ((w.pages.kind y.block ≡ Unstarted) × (y.block < w.pages.limit)))
 put_place w s range need y (PutGoes _ place free map) = (place.1.0, by place.0)
   where
-    by : IsTarget w.pages need y.block → ((w.pages.map_pages < y.block) × (w.pages.kind y.block ≡ Regular) × (need ≤ w.pages.room y.block))
+    by : IsTarget w.pages (bytes_of w.tuple) need y.block → ((w.pages.map_pages < y.block) × (w.pages.kind y.block ≡ Regular) × (need ≤ page_room (bytes_of w.tuple) y.block))
         ⊎ ((w.pages.kind y.block ≡ Unstarted) × (y.block < w.pages.limit))
     by (OnStarted lowest) = inl lowest.0
     by (OnNew none lowest below) = inr (lowest.0, below)
@@ -92,7 +93,7 @@ put_place w s range need y (PutGoes _ place free map) = (place.1.0, by place.0)
 pub put_past_map : (w : IndexView) (s range need : ℕ) (y : Spot) → AreOrdered w → PutVerdict w s range need (Puts y)
     → (w.pages.map_pages < y.block) × (y.block < w.pages.limit)
 put_past_map w s range need y ordered verdict = ⊎_elim
-    (λ (started : (w.pages.map_pages < y.block) × (w.pages.kind y.block ≡ Regular) × (need ≤ w.pages.room y.block)).
+    (λ (started : (w.pages.map_pages < y.block) × (w.pages.kind y.block ≡ Regular) × (need ≤ page_room (bytes_of w.tuple) y.block)).
     (started.0, ordered.below y.block (λ is. subst IsNotStarted (sym is ∙ started.1) tt)))
     (λ (next : (w.pages.kind y.block ≡ Unstarted) × (y.block < w.pages.limit)). (
       ⊎_elim
@@ -104,12 +105,12 @@ put_past_map w s range need y ordered verdict = ⊎_elim
     (put_place w s range need y verdict).1
 
 -- what fits in its place needn't move
-fits_or_moves : (w : IndexView) (x : Spot) (new : IndexTuple) → w.pages.kind x.block ≡ Regular → length new.bytes ≤ w.pages.room_at x
-    → MustMove w.pages x (length new.bytes)
+fits_or_moves : (w : IndexView) (x : Spot) (new : IndexTuple) → w.pages.kind x.block ≡ Regular → length new.bytes ≤ place_room (bytes_of w.tuple) x
+    → MustMove w.pages (bytes_of w.tuple) x (length new.bytes)
     → ⊥
 fits_or_moves w x new regular room must = ⊎_elim
     (λ (other : w.pages.kind x.block ≢ Regular). other regular)
-    (λ (tight : w.pages.room_at x < length new.bytes). apart (length new.bytes) (w.pages.room_at x) room tight)
+    (λ (tight : place_room (bytes_of w.tuple) x < length new.bytes). apart (length new.bytes) (place_room (bytes_of w.tuple) x) room tight)
     must
   where
     apart : (n m : ℕ) → n ≤ m → m < n → ⊥
@@ -206,11 +207,11 @@ module _ (w : IndexView) (slots : HasFreeSlots w.tuple) where
   some_swap s range x old new none = ⊎_elim
       (λ (locked : IsLocked w.lock s x.block). none (Waits x.block) (SwapWaits locked))
       (λ (free : IsFree w.lock s x.block). none Differs (SwapDiffers free (λ here.
-      let moves : MustMove w.pages x (length new.bytes) → ⊥ = λ must. some_put s range (length new.bytes) (λ p puts. none p (SwapMoves p free here must puts)) in
+      let moves : MustMove w.pages (bytes_of w.tuple) x (length new.bytes) → ⊥ = λ must. some_put s range (length new.bytes) (λ p puts. none p (SwapMoves p free here must puts)) in
       ⊎_elim
-      (λ (tight : w.pages.room_at x < length new.bytes). moves (inr tight))
-      (λ (room : length new.bytes ≤ w.pages.room_at x). moves (inl (λ regular. none Fits (SwapFits free here regular room))))
-      (lt_or_ge (w.pages.room_at x) (length new.bytes)))))
+      (λ (tight : place_room (bytes_of w.tuple) x < length new.bytes). moves (inr tight))
+      (λ (room : length new.bytes ≤ place_room (bytes_of w.tuple) x). moves (inl (λ regular. none Fits (SwapFits free here regular room))))
+      (lt_or_ge (place_room (bytes_of w.tuple) x) (length new.bytes)))))
       (locked_or_free w s x.block)
 
 pub some_clear : (w : IndexView) (s range : ℕ) (x : Spot) → ((p : Verdict) → ClearVerdict w s range x p → ⊥) → ⊥

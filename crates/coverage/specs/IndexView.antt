@@ -52,12 +52,10 @@ pub data PageKind : Type 0 where
   Regular : PageKind
   Emptying : PageKind
 
--- The pages of an index: the kind of each; how long a further tuple each takes, and how long a tuple may stand at a place in
--- place of the one there; the number of map pages, and that of all pages at most.
+-- The pages of an index: the kind of each, the number of map pages, and that of all pages at most. What room they have follows from
+-- their tuples (Rooms).
 pub record Pages : Type 0 where
   pub kind : ℕ → PageKind
-  pub room : ℕ → ℕ
-  pub room_at : Spot → ℕ
   pub map_pages : ℕ
   pub limit : ℕ
 

@@ -1,4 +1,5 @@
 pub mod IndexView
+pub mod Rooms
 pub mod IsSettled
 pub mod IsSound
 pub mod GoesOn

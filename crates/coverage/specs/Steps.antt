@@ -19,12 +19,10 @@ pub record ReadsIndex (s : ℕ) (w v : IndexView) : Type 0 where
   pub pages : v.pages ≡ w.pages
   pub none : LocksNone v.lock s
 
--- one page is of this kind afterwards; kinds and room of the others stay
+-- one page is of this kind afterwards; the kinds of the others stay
 pub record TurnsPage (old new : Pages) (page : ℕ) (kind : PageKind) : Type 0 where
   pub now : new.kind page ≡ kind
   pub kinds : (p : ℕ) → (p ≡ page) ⊎ (new.kind p ≡ old.kind p)
-  pub rooms : (p : ℕ) → (p ≡ page) ⊎ (new.room p ≡ old.room p)
-  pub places : (x : Spot) → (x.block ≡ page) ⊎ (new.room_at x ≡ old.room_at x)
   pub map_pages : new.map_pages ≡ old.map_pages
   pub limit : new.limit ≡ old.limit
 

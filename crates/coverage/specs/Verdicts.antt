@@ -2,7 +2,9 @@
 use Rattle.std.specs.Prelude.{◌≡◌, ◌≢◌, ◌⊎◌, ℕ, ◌≤◌, ◌<◌, Option, None, Some, List, [], ◌∷◌, length}
 use Rattle.block_model.specs.declared.place.Spot.{Spot}
 use Rattle.coverage.specs.IndexView.{IndexTuple, Unstarted, Regular, Pages, IndexView, map_page_of}
+use Rattle.index_layout.specs.IndexPages.{Slot}
 use Rattle.coverage.specs.Changes.{IsFree}
+use Rattle.coverage.specs.Rooms.{bytes_of, place_room, page_room}
 
 -- another session locks this page
 abbrev pub IsLocked : (ℕ → Option ℕ) → ℕ → ℕ → Type 0
@@ -18,16 +20,16 @@ abbrev pub IsLowestNumber : (ℕ → Type 0) → ℕ → Type 0
 IsLowestNumber Is p = Is p × ((q : ℕ) → Is q → p ≤ q)
 
 -- a page past the map takes a further tuple of this length
-abbrev pub PageHasRoom : Pages → ℕ → ℕ → Type 0
-PageHasRoom pages need p = (pages.map_pages < p) × (pages.kind p ≡ Regular) × (need ≤ pages.room p)
+abbrev pub PageHasRoom : Pages → (Spot → Slot) → ℕ → ℕ → Type 0
+PageHasRoom pages bytes need p = (pages.map_pages < p) × (pages.kind p ≡ Regular) × (need ≤ page_room bytes p)
 
 abbrev pub IsPageUnstarted : Pages → ℕ → Type 0
 IsPageUnstarted pages p = pages.kind p ≡ Unstarted
 
 -- The page for a tuple of this length: the lowest one with room, else the next one that isn't started, below the limit.
-pub data IsTarget (pages : Pages) (need p : ℕ) : Type 0 where
-  OnStarted : IsLowestNumber (PageHasRoom pages need) p → IsTarget pages need p
-  OnNew : ((q : ℕ) → PageHasRoom pages need q → ⊥) → IsLowestNumber (IsPageUnstarted pages) p → p < pages.limit → IsTarget pages need p
+pub data IsTarget (pages : Pages) (bytes : Spot → Slot) (need p : ℕ) : Type 0 where
+  OnStarted : IsLowestNumber (PageHasRoom pages bytes need) p → IsTarget pages bytes need p
+  OnNew : ((q : ℕ) → PageHasRoom pages bytes need q → ⊥) → IsLowestNumber (IsPageUnstarted pages) p → p < pages.limit → IsTarget pages bytes need p
 
 -- nothing stands in this slot of the page
 abbrev pub IsFreeSlot : {A : Type 0} → (Spot → Option A) → ℕ → ℕ → Type 0
@@ -38,8 +40,8 @@ abbrev pub HasFreeSlots : {A : Type 0} → (Spot → Option A) → Type 0
 HasFreeSlots stands = (p : ℕ) → (k : ℕ) × IsFreeSlot stands p k
 
 -- the place for it: the lowest free slot of that page
-abbrev pub IsTargetPlace : {A : Type 0} → Pages → (Spot → Option A) → ℕ → Spot → Type 0
-IsTargetPlace pages stands need y = IsTarget pages need y.block × IsLowestNumber (IsFreeSlot stands y.block) y.slot
+abbrev pub IsTargetPlace : Pages → (Spot → Option IndexTuple) → ℕ → Spot → Type 0
+IsTargetPlace pages tuple need y = IsTarget pages (bytes_of tuple) need y.block × IsLowestNumber (IsFreeSlot tuple y.block) y.slot
 
 -- it waits for this page; what it compares differs; it has room in place; a tuple is put at this place; no page has room, of so many
 -- that there may be
@@ -52,22 +54,22 @@ pub data Verdict : Type 0 where
 
 -- A tuple of this length is to be put for a range: the page is chosen, then its lock and that of the map page are needed.
 pub data PutVerdict (w : IndexView) (s range need : ℕ) : Verdict → Type 0 where
-  NoTarget : ((p : ℕ) → IsTarget w.pages need p → ⊥) → PutVerdict w s range need (Full w.pages.limit)
-  PutWaits : (p q : ℕ) → IsTarget w.pages need p → IsFirstLocked w.lock s (p ∷ map_page_of range ∷ []) q → PutVerdict w s range need (Waits q)
+  NoTarget : ((p : ℕ) → IsTarget w.pages (bytes_of w.tuple) need p → ⊥) → PutVerdict w s range need (Full w.pages.limit)
+  PutWaits : (p q : ℕ) → IsTarget w.pages (bytes_of w.tuple) need p → IsFirstLocked w.lock s (p ∷ map_page_of range ∷ []) q → PutVerdict w s range need (Waits q)
   PutGoes : (y : Spot) → IsTargetPlace w.pages w.tuple need y → IsFree w.lock s y.block → IsFree w.lock s (map_page_of range)
       → PutVerdict w s range need (Puts y)
 
 -- a tuple has to leave a page that isn't regular, or on which one of this length doesn't fit in its place
-abbrev pub MustMove : Pages → Spot → ℕ → Type 0
-MustMove pages x need = (pages.kind x.block ≢ Regular) ⊎ (pages.room_at x < need)
+abbrev pub MustMove : Pages → (Spot → Slot) → Spot → ℕ → Type 0
+MustMove pages bytes x need = (pages.kind x.block ≢ Regular) ⊎ (place_room bytes x < need)
 
 -- A new tuple is to take the place of the one that was copied at this place: its page's lock comes first, then the comparison.
 pub data SwapVerdict (w : IndexView) (s range : ℕ) (x : Spot) (old new : IndexTuple) : Verdict → Type 0 where
   SwapWaits : IsLocked w.lock s x.block → SwapVerdict w s range x old new (Waits x.block)
   SwapDiffers : IsFree w.lock s x.block → w.tuple x ≢ Some old → SwapVerdict w s range x old new Differs
-  SwapFits : IsFree w.lock s x.block → w.tuple x ≡ Some old → w.pages.kind x.block ≡ Regular → length new.bytes ≤ w.pages.room_at x
+  SwapFits : IsFree w.lock s x.block → w.tuple x ≡ Some old → w.pages.kind x.block ≡ Regular → length new.bytes ≤ place_room (bytes_of w.tuple) x
       → SwapVerdict w s range x old new Fits
-  SwapMoves : (verdict : Verdict) → IsFree w.lock s x.block → w.tuple x ≡ Some old → MustMove w.pages x (length new.bytes)
+  SwapMoves : (verdict : Verdict) → IsFree w.lock s x.block → w.tuple x ≡ Some old → MustMove w.pages (bytes_of w.tuple) x (length new.bytes)
       → PutVerdict w s range (length new.bytes) verdict
       → SwapVerdict w s range x old new verdict
 

@@ -1,11 +1,11 @@
 //! No scan loses a row to a summary, whatever the order in which inserts, summarisers, vacuums and scans take their steps:
 //! the definitions of a covered index (specs/) and the laws of its changes. Each kind of change keeps the view of rows,
 //! tuples, range map and locks sound, and leaves to all other sessions what they know (`GoesOn`); so every list of steps
-//! keeps the index covered. It stands on block_model's rows alone: on no page's bytes, no operator class and no machine.
+//! keeps the index covered. It stands on block_model's rows and on how much room slots take (index_layout), on no machine and no class.
 //! The crate coverage puts several indexes of one table together. A layer above shows of each of its steps which one of
 //! specs/Steps it is, and has the rest from here.
 
-ghost use Rattle.std.specs.Prelude.{◌≡◌, ◌≢◌, ◌⊎◌, ◌↔◌, ◌≤◌, ◌<◌, ℕ, suc, Bool, false, IsTrue, Option, None, Some, List};
+ghost use Rattle.std.specs.Prelude.{◌≡◌, ◌≢◌, ◌⊎◌, ◌↔◌, ◌≤◌, ◌<◌, ℕ, ◌+◌, ◌*◌, length, suc, Bool, false, IsTrue, Option, None, Some, List};
 ghost use Rattle.block_model.specs.declared.row.Row.{Row};
 ghost use Rattle.block_model.specs.declared.place.Spot.{Spot};
 ghost use Rattle.coverage.specs.IndexView.{IndexView, Contents, Pages, IndexTuple, Progress, ExtentUnread, Unstarted, Mapping, Regular};
@@ -24,7 +24,10 @@ ghost use Rattle.coverage.specs.Counts.{HasGone, AreRowsGone, AreTuplesGone, Nam
 ghost use Rattle.coverage.specs.IndexPart.{part_of, InsertMakes, SummariseMakes, DesummariseMakes, SweepMakes};
 ghost use Rattle.coverage.specs.ExactResults.{IsExact, IsExactAfter, NamesExactFinal};
 ghost use Rattle.coverage.specs.Knowing.{LocksNone, Knows, Spares};
-ghost use Rattle.coverage.specs.Verdicts.{Verdict, Waits, Differs, Puts, Full, IsLocked, HasFreeSlots, PutVerdict, SwapVerdict, ClearVerdict};
+ghost use Rattle.index_layout.specs.IndexPages.{Slot};
+ghost use Rattle.block_model.specs.declared.limits.TheConstants.{PAGE_ROOM};
+ghost use Rattle.coverage.specs.Rooms.{HasTuplesWithin, bytes_of, page_room};
+ghost use Rattle.coverage.specs.Verdicts.{Verdict, Waits, Differs, Puts, Full, IsLocked, HasFreeSlots, PageHasRoom, PutVerdict, SwapVerdict, ClearVerdict};
 ghost use Rattle.coverage.specs.Waiting.{IsPhaseWaiting, IsPhaseFull};
 ghost use Rattle.coverage.specs.Stuck.{IsSummariseStuck, IsPhaseFree, HasBlocksOfRows, InsertsAlone, AreNamed, IsInsertStuck, IsSwapFree, IsDesummariseStuck, IsClearFree};
 
@@ -141,7 +144,7 @@ pub fn verdicts_are_exact()
     ensures one_phase_wait { (w : IndexView) (s range p q : ℕ) (phase : Phase) → IsPhaseWaiting w s range phase p → IsPhaseWaiting w s range phase q → p ≡ q }
     ensures same_bytes { (contents : Contents) (t u : IndexTuple) → IsFormed contents t → IsFormed contents u → t.bytes ≡ u.bytes → t ≡ u }
     ensures put_place { (w : IndexView) (s range need : ℕ) (y : Spot) → PutVerdict w s range need (Puts y) → (w.tuple y ≡ None)
-        × (((w.pages.map_pages < y.block) × (w.pages.kind y.block ≡ Regular) × (need ≤ w.pages.room y.block))
+        × (((w.pages.map_pages < y.block) × (w.pages.kind y.block ≡ Regular) × (need ≤ page_room (bytes_of w.tuple) y.block))
         ⊎ ((w.pages.kind y.block ≡ Unstarted) × (y.block < w.pages.limit))) }
     ensures put_past_map { (w : IndexView) (s range need : ℕ) (y : Spot) → AreOrdered w → PutVerdict w s range need (Puts y)
         → (w.pages.map_pages < y.block) × (y.block < w.pages.limit) }
@@ -153,6 +156,16 @@ pub fn verdicts_are_exact()
     ensures some_swap { (w : IndexView) → HasFreeSlots w.tuple → (s range : ℕ) (x : Spot) (old new : IndexTuple)
         → ((p : Verdict) → SwapVerdict w s range x old new p → ⊥) → ⊥ }
     ensures some_clear { (w : IndexView) (s range : ℕ) (x : Spot) → ((p : Verdict) → ClearVerdict w s range x p → ⊥) → ⊥ }
+{}
+
+/// An index of which one page has room for a tuple isn't told full, by a put or a swap of it. A page has room for one more tuple of so
+/// many bytes where its tuples stand in its first slots and none is longer, and one slot more with such tuples fits on a page.
+pub fn a_page_with_room_is_not_full()
+    ensures put { (w : IndexView) (s range need number p : ℕ) → PageHasRoom w.pages (bytes_of w.tuple) need p → PutVerdict w s range need (Full number) → ⊥ }
+    ensures swap { (w : IndexView) (s range number p : ℕ) (x : Spot) (old new : IndexTuple) → PageHasRoom w.pages (bytes_of w.tuple) (length new.bytes) p
+        → SwapVerdict w s range x old new (Full number) → ⊥ }
+    ensures room { (bytes : Spot → Slot) (page slots most : ℕ) → HasTuplesWithin bytes page slots most → (slots + 1) * (most + 4) ≤ PAGE_ROOM
+        → most ≤ page_room bytes page }
 {}
 
 /// Of all steps that a statement could take on an index at a moment there is one point alone, and none where it is blocked or lacks a page; and what

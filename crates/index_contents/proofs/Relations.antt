@@ -1,11 +1,15 @@
--- The relation of an index, its form and its limit.
-use Rattle.std.proofs.Common.{◌≡◌, ℕ, zero, suc, ◌+◌, ◌<◌, List, [], ◌∷◌, ◌++◌, length, map, get_or, refl, ap, ◌∙◌, arith}
+-- The relation of an index, its form, its limit and its pages.
+use Rattle.std.proofs.Common.{◌≡◌, ℕ, zero, suc, ◌+◌, ◌<◌, inl, inr, List, [], ◌∷◌, ◌++◌, length, map, get_or, refl, ap, subst, ◌∙◌, arith}
+use Rattle.block_model.specs.declared.place.Place.{Place}
+use Rattle.index_layout.specs.IndexPages.{IsIndexPage, Unstarted}
 use Rattle.store_layout.specs.DiskLayout.{DiskLayout, relation_blocks}
 use Rattle.recovery.specs.HeapForms.{heap_form}
 use Rattle.recovery.specs.Form.TheVariants as forms
-use Rattle.recovery.specs.Forms.{form_of, forms_of}
-use Rattle.recovery.specs.PageMap.{block_limit}
-use Rattle.index_contents.specs.IndexContents.{relation_of}
+use Rattle.recovery.specs.Form.{Form}
+use Rattle.recovery.specs.Forms.{IsPageIn, form_of, forms_of}
+use Rattle.recovery.specs.PageContents.{IsPageOf}
+use Rattle.recovery.specs.PageMap.{PageMap, block_limit, page_at}
+use Rattle.index_contents.specs.IndexContents.{index_page, relation_of}
 
 -- an element behind others
 
@@ -31,3 +35,15 @@ unfolding forms_of
 form_is d index below =
     let next : length d.schema.tables + index + 1 ≡ suc (length d.schema.tables + index) = omega arith in
     ap (form_of d) next ∙ behind heap_form forms.Index forms.Index d.schema.tables d.schema.indexes index below
+
+-- a page that passes the check of an index's relation
+pub is_index : (layout : DiskLayout) (relation : ℕ) (page : List ℕ) → form_of layout relation ≡ forms.Index → IsPageIn layout relation page → IsIndexPage page
+is_index layout relation page form is = elim (subst (λ (f : Form). IsPageOf f page) form is) [
+  | inl zeros ↦ Unstarted zeros
+  | inr started ↦ started.0
+]
+
+pub pages_checked : (layout : DiskLayout) (pages : PageMap) (index : ℕ) → index < length layout.schema.indexes
+    → ((place : Place) → IsPageIn layout place.relation (page_at pages place)) → (block : ℕ) → IsIndexPage (index_page layout pages index block)
+pages_checked layout pages index below checked block =
+    is_index layout (relation_of layout index) (index_page layout pages index block) (form_is layout index below) (checked (record { relation = relation_of layout index; block = block }))

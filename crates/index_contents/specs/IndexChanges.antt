@@ -7,6 +7,7 @@ use Rattle.recovery.specs.Keeps.{Leaves, Tells}
 use Rattle.recovery.specs.PageMap.{View, page_at}
 use Rattle.coverage.specs.IndexView.{Regular}
 use Rattle.coverage.specs.Changes.{BecomesAt, ChangesAt}
+use Rattle.coverage.specs.Rooms.{place_room}
 use Rattle.coverage.specs.Steps.{TurnsPage}
 use Rattle.coverage.specs.Verdicts.{IsFreeSlot, IsLowestNumber}
 use Rattle.index_contents.specs.IndexContents.{IndexContents, contents, relation_of}
@@ -27,7 +28,7 @@ pub record PutsBytes (old new : IndexContents) (x : Spot) (tuple : List ℕ) : T
 -- the bytes at the spot give way to others, which have room in their place
 pub record ReplacesBytes (old new : IndexContents) (x : Spot) (before after : List ℕ) : Type 0 where
   pub regular : old.pages.kind x.block ≡ Regular
-  pub fits : length after ≤ old.pages.room_at x
+  pub fits : length after ≤ place_room old.bytes x
   pub bytes : ChangesAt old.bytes new.bytes x (Some before) (Some after)
   pub entries : (range : ℕ) → new.entry range ≡ old.entry range
   pub page : TurnsPage old.pages new.pages x.block Regular

@@ -6,10 +6,9 @@ use Rattle.recovery.specs.PageMap.{PageMap, block_at}
 use Rattle.index_layout.specs.declared.format.TheConstants.{UNSTARTED, META, MAP, REGULAR, MAP_ENTRIES}
 use Rattle.index_layout.specs.IndexPages.{Slot}
 use Rattle.index_layout.specs.IndexReading.{entries_of, free_of, map_pages_of, slots_of}
-use Rattle.index_layout.specs.IndexWrites.{room_on}
 use Rattle.coverage.specs.IndexView.{PageKind, Unstarted, Mapping, Regular, Emptying, Pages, map_page_of}
 
--- the spot that the map names for each range; the bytes of the tuple at each spot; the kind and the room of each page
+-- the spot that the map names for each range; the bytes of the tuple at each spot; the kind of each page
 pub record IndexContents : Type 0 where
   pub entry : ℕ → Option Spot
   pub bytes : Spot → Option (List ℕ)
@@ -48,12 +47,10 @@ kind_at block kind =
     else (if kind == map_kind block then Mapping
     else Emptying))
 
--- the kind of each page and its room, by the page of each block, and how many there may be
+-- the kind of each page, by the page of each block, and how many there may be
 abbrev pub pages_in : ℕ → (ℕ → List ℕ) → Pages
 pages_in limit page = record {
   kind = λ block. kind_at block (slice_index (page block) 0);
-  room = λ block. room_on (page block);
-  room_at = λ spot. room_in_place (page spot.block) spot.slot;
   map_pages = map_pages_of (page 0);
   limit = limit;
 }

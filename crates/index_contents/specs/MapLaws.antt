@@ -3,12 +3,11 @@ use Rattle.std.specs.Prelude.{◌≡◌, ◌≢◌, ℕ, ◌%◌, ◌==◌, nat_
 use Rattle.std.proofs.Common.{inl, inr, sym, ap, ◌∙◌, arith}
 use Rattle.std.proofs.lemmas.Bool.{cases_eq}
 use Rattle.block_model.specs.declared.place.Spot.{Spot}
-use Rattle.index_layout.specs.declared.format.TheConstants.{MAP, REGULAR, MAP_ENTRIES}
+use Rattle.index_layout.specs.declared.format.TheConstants.{MAP, MAP_ENTRIES}
 use Rattle.index_layout.specs.IndexPages.{IsMap, Slot, map_bytes}
-use Rattle.index_layout.specs.IndexReading.{entries_of, free_of, is_regular, map_pages_of, number_at, slots_in, slots_of}
-use Rattle.index_layout.specs.IndexWrites.{room_for_further, room_on}
+use Rattle.index_layout.specs.IndexReading.{entries_of, is_regular, map_pages_of, number_at, slots_in, slots_of}
 use Rattle.coverage.specs.IndexView.{map_page_of}
-use Rattle.index_contents.specs.IndexContents.{beside, contents_in, entry_in, entry_on, kind_at, pages_in, room_in_place, tuple_on}
+use Rattle.index_contents.specs.IndexContents.{contents_in, entry_in, entry_on, kind_at, pages_in, tuple_on}
 use Rattle.index_contents.specs.IndexChanges.{SetsEntry}
 use Rattle.index_contents.specs.PageLaws.{StayBeside}
 
@@ -25,12 +24,6 @@ no_slots page is = ap (λ (k : ℕ). if is_regular k then slots_in page (number_
 pub no_tuple : (page : List ℕ) (slot : ℕ) → slice_index page 0 ≡ MAP → tuple_on page slot ≡ None
 no_tuple page slot is = ap (λ (l : List Slot). slice_index_or l slot None) (no_slots page is)
 
-pub no_room : (page : List ℕ) → slice_index page 0 ≡ MAP → room_on page ≡ 0
-no_room page is = ap (λ (k : ℕ). if k == REGULAR then room_for_further (slots_of page) else 0) is
-
-pub no_place : (page : List ℕ) (slot : ℕ) → slice_index page 0 ≡ MAP → room_in_place page slot ≡ 0
-no_place page slot is = ap (λ (k : ℕ). if k == REGULAR then beside (free_of (slots_of page)) (tuple_on page slot) else 0) is
-
 -- a fact of each page, where it holds of the one of a block
 pub each_page : {A : Type 0} (of : List ℕ → A) (f g : ℕ → List ℕ) (block : ℕ) → StayBeside block f g → of (g block) ≡ of (f block) → (other : ℕ) → of (g other) ≡ of (f other)
 each_page of f g block stay here other = elim (cases_eq other block) [
@@ -42,12 +35,8 @@ each_page of f g block stay here other = elim (cases_eq other block) [
 pub map_page_stays : (limit : ℕ) (f g : ℕ → List ℕ) (block : ℕ) → StayBeside block f g → map_pages_of (g 0) ≡ map_pages_of (f 0) → slice_index (f block) 0 ≡ MAP → slice_index (g block) 0 ≡ MAP → pages_in limit g ≡ pages_in limit f
 map_page_stays limit f g block stay counts before after =
     let kinds : (p : ℕ) → slice_index (g p) 0 ≡ slice_index (f p) 0 = each_page (λ (page : List ℕ). slice_index page 0) f g block stay (after ∙ sym before) in
-    let rooms : (p : ℕ) → room_on (g p) ≡ room_on (f p) = each_page room_on f g block stay (no_room (g block) after ∙ sym (no_room (f block) before)) in
-    let places : (x : Spot) → room_in_place (g x.block) x.slot ≡ room_in_place (f x.block) x.slot = λ x. each_page (λ (page : List ℕ). room_in_place page x.slot) f g block stay (no_place (g block) x.slot after ∙ sym (no_place (f block) x.slot before)) x.block in
     λ i. record {
       kind = λ p. kind_at p (kinds p i);
-      room = λ p. rooms p i;
-      room_at = λ x. places x i;
       map_pages = counts i;
       limit = limit;
     }

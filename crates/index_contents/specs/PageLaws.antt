@@ -11,10 +11,10 @@ use Rattle.recovery.specs.PageMap.{View}
 use Rattle.index_layout.specs.declared.format.TheConstants.{META, MAP, MAP_ENTRIES}
 use Rattle.index_layout.specs.IndexPages.{Slot}
 use Rattle.index_layout.specs.IndexReading.{entries_in, entries_of, map_pages_of, number_at}
-use Rattle.index_layout.specs.IndexWrites.{room_on}
 use Rattle.coverage.specs.IndexView.{PageKind, Regular, map_page_of}
+use Rattle.coverage.specs.Rooms.{place_room}
 use Rattle.coverage.specs.Steps.{TurnsPage}
-use Rattle.index_contents.specs.IndexContents.{contents, contents_in, entry_in, entry_on, index_page, kind_at, pages_in, relation_of, room_in_place, tuple_on}
+use Rattle.index_contents.specs.IndexContents.{contents, contents_in, entry_in, entry_on, index_page, kind_at, pages_in, relation_of, tuple_on}
 use Rattle.index_contents.specs.IndexChanges.{DropsBytes, LeavesOtherPages, LeavesOthers, PutsBytes, ReplacesBytes}
 
 -- every page but the one of this block is as before
@@ -75,14 +75,6 @@ turns limit f g block kind stay counts is = record {
     | inl at ↦ inl at
     | inr apart ↦ inr (ap (λ (page : List ℕ). kind_at p (slice_index page 0)) (stay p apart))
   ];
-  rooms = λ p. elim (cases_eq p block) [
-    | inl at ↦ inl at
-    | inr apart ↦ inr (ap room_on (stay p apart))
-  ];
-  places = λ x. elim (cases_eq x.block block) [
-    | inl at ↦ inl at
-    | inr apart ↦ inr (ap (λ (page : List ℕ). room_in_place page x.slot) (stay x.block apart))
-  ];
   map_pages = counts;
   limit = refl;
 }
@@ -105,7 +97,7 @@ puts_bytes limit f g x bytes stay before after kind free lower changes = record 
 
 -- bytes give way to others
 pub replaces_bytes : (limit : ℕ) (f g : ℕ → List ℕ) (x : Spot) (old new : List ℕ) → StayBeside x.block f g → IsNoMap (f x.block) → IsNoMap (g x.block) → kind_at x.block (slice_index (f x.block) 0) ≡ Regular → kind_at x.block (slice_index (g x.block) 0) ≡ Regular
-    → length new ≤ room_in_place (f x.block) x.slot → tuple_on (f x.block) x.slot ≡ Some old → ChangesSlot (f x.block) (g x.block) x.slot (Some new) → ReplacesBytes (contents_in limit f) (contents_in limit g) x old new
+    → length new ≤ place_room (contents_in limit f).bytes x → tuple_on (f x.block) x.slot ≡ Some old → ChangesSlot (f x.block) (g x.block) x.slot (Some new) → ReplacesBytes (contents_in limit f) (contents_in limit g) x old new
 replaces_bytes limit f g x old new stay before after was kind fits stood changes = record {
   regular = was;
   fits = fits;

@@ -1,5 +1,5 @@
 //! What the pages of an index have, as one function of the pages of a store: the spot that the map names for each range, the bytes of the
-//! tuple at each spot, and the kind and the room of each page (specs/IndexContents). What calls change of it stands in specs/IndexChanges,
+//! tuple at each spot, and the kind of each page; a page's room follows from its tuples (specs/IndexContents). What calls change of it stands in specs/IndexChanges,
 //! by the words of coverage, and that they keep the order of the index's pages, which an opening judges, in specs/KeepsOrder. revmap and
 //! range_store above speak of an index by these alone. It stands on page_map, recovery, index_layout and coverage's definitions.
 #![tactic(auto)]

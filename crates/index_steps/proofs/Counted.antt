@@ -3,19 +3,18 @@ use Rattle.std.proofs.Common.{◌≡◌, inl, inr, ℕ, ◌+◌, Bool, List, [],
 use Rattle.std.specs.Prelude.{◌==◌, ◌%◌, drop, nat_le, slice_index, slice_index_or, Option, None, if◌then◌else◌}
 use Rattle.std.proofs.lemmas.Bool.{cases_eq, cases_lt, le-leb, lt-leb}
 use Rattle.block_model.specs.declared.place.Spot.{Spot}
-use Rattle.index_layout.specs.declared.format.TheConstants.{META, REGULAR, MAP_ENTRIES}
+use Rattle.index_layout.specs.declared.format.TheConstants.{META, MAP_ENTRIES}
 use Rattle.index_layout.specs.IndexPages.{Slot}
-use Rattle.index_layout.specs.IndexReading.{free_of, is_regular, map_pages_of, number_at, slots_in, slots_of}
-use Rattle.index_layout.specs.IndexWrites.{room_for_further, room_on}
+use Rattle.index_layout.specs.IndexReading.{is_regular, map_pages_of, number_at, slots_in, slots_of}
 use Rattle.coverage.specs.IndexView.{map_page_of, next_map_page}
-use Rattle.index_contents.specs.IndexContents.{beside, contents_in, entry_in, entry_on, kind_at, pages_in, room_in_place, tuple_on}
+use Rattle.index_contents.specs.IndexContents.{contents_in, entry_in, entry_on, kind_at, pages_in, tuple_on}
 use Rattle.index_contents.specs.MapLaws.{each_page}
 use Rattle.index_contents.specs.PageLaws.{StayBeside}
 use Rattle.index_steps.specs.MapChanges.{CountsBlock}
 use Rattle.index_steps.specs.NextPages.{IsEmptyMap}
 use Rattle.index_steps.proofs.EmptyMaps.{HasOneMap, no_entry_there}
 
--- a metapage has no tuples and no room
+-- a metapage has no tuples
 no_slots : (page : List ℕ) → slice_index page 0 ≡ META → slots_of page ≡ []
 unfolding slots_of
 no_slots page is = ap (λ (k : ℕ). if is_regular k then slots_in page (number_at page 2 2) (drop 32 page) else []) is
@@ -23,22 +22,12 @@ no_slots page is = ap (λ (k : ℕ). if is_regular k then slots_in page (number_
 no_tuple : (page : List ℕ) (slot : ℕ) → slice_index page 0 ≡ META → tuple_on page slot ≡ None
 no_tuple page slot is = ap (λ (l : List Slot). slice_index_or l slot None) (no_slots page is)
 
-no_room : (page : List ℕ) → slice_index page 0 ≡ META → room_on page ≡ 0
-no_room page is = ap (λ (k : ℕ). if k == REGULAR then room_for_further (slots_of page) else 0) is
-
-no_place : (page : List ℕ) (slot : ℕ) → slice_index page 0 ≡ META → room_in_place page slot ≡ 0
-no_place page slot is = ap (λ (k : ℕ). if k == REGULAR then beside (free_of (slots_of page)) (tuple_on page slot) else 0) is
-
 module _ (limit : ℕ) (f g : ℕ → List ℕ) (stay : StayBeside 0 f g) (was : slice_index (f 0) 0 ≡ META) (is : slice_index (g 0) 0 ≡ META) (counts : map_pages_of (g 0) ≡ map_pages_of (f 0) + 1) where
   pages_counted : pages_in limit g ≡ record (pages_in limit f) { map_pages = next_map_page (pages_in limit f) }
   pages_counted =
       let kinds : (p : ℕ) → slice_index (g p) 0 ≡ slice_index (f p) 0 = each_page (λ (page : List ℕ). slice_index page 0) f g 0 stay (is ∙ sym was) in
-      let rooms : (p : ℕ) → room_on (g p) ≡ room_on (f p) = each_page room_on f g 0 stay (no_room (g 0) is ∙ sym (no_room (f 0) was)) in
-      let places : (x : Spot) → room_in_place (g x.block) x.slot ≡ room_in_place (f x.block) x.slot = λ x. each_page (λ (page : List ℕ). room_in_place page x.slot) f g 0 stay (no_place (g 0) x.slot is ∙ sym (no_place (f 0) x.slot was)) x.block in
       λ i. record {
         kind = λ p. kind_at p (kinds p i);
-        room = λ p. rooms p i;
-        room_at = λ x. places x i;
         map_pages = counts i;
         limit = limit;
       }

@@ -11,7 +11,7 @@ use Rattle.coverage.specs.IndexPart.{with_part}
 use Rattle.coverage.specs.IndexView.{Building, IndexTuple, IndexView, IsPastMap, PageKind, Pages, Regular, next_map_page}
 use Rattle.coverage.specs.Knowing.{LocksNone, LocksThese}
 use Rattle.coverage.specs.Steps.{CountsPage, IsVacated, PutsTuple, SweepsTuples, TurnsKind, TurnsPage}
-use Rattle.coverage.specs.Verdicts.{IsLocked, IsTarget, IsTargetPlace}
+use Rattle.coverage.specs.Verdicts.{IsLocked}
 use Rattle.coverage.specs.Waiting.{Grows, IsNextTuple}
 use Rattle.index_contents.specs.IndexContents.{IndexContents}
 use Rattle.index_contents.specs.IndexChanges.{DropsBytes, PutsBytes}
@@ -184,36 +184,11 @@ fewer_unnamed x unnamed y is = on (is_apart x y) (unnamed y) is
 
 -- a tuple that is put
 module _ (shape : IndexShape) (c : IndexContents) (lock : ℕ → Option ℕ) (w : IndexView) (shows : Shows shape c lock w) where
-  pub target_there : (bytes : List ℕ) (p : ℕ) → IsTarget c.pages (length bytes) p → IsTarget w.pages (length (seen shape bytes).bytes) p
-  target_there bytes p target = subst (λ (pages : Pages). IsTarget pages (length (seen shape bytes).bytes) p) (sym shows.pages)
-      (subst (λ (b : List ℕ). IsTarget c.pages (length b) p) (sym (seen_bytes shape bytes)) target)
-
-  pub target_back : (bytes : List ℕ) (p : ℕ) → IsTarget w.pages (length (seen shape bytes).bytes) p → IsTarget c.pages (length bytes) p
-  target_back bytes p target = subst (λ (b : List ℕ). IsTarget c.pages (length b) p) (seen_bytes shape bytes)
-      (subst (λ (pages : Pages). IsTarget pages (length (seen shape bytes).bytes) p) shows.pages target)
-
-  no_tuple_in : (o : Option (List ℕ)) → option_map (seen shape) o ≡ None → o ≡ None
-  no_tuple_in None is = refl
-  no_tuple_in (Some bytes) is = absurd (none-some (seen shape bytes) (sym is))
-
-  nothing_there : (x : Spot) → c.bytes x ≡ None → w.tuple x ≡ None
-  nothing_there x none = shows.tuple x ∙ ap (option_map (seen shape)) none
-
-  module _ (d : IndexContents) (y : Spot) (bytes : List ℕ) where
-    pub place_there : IsTarget c.pages (length bytes) y.block → PutsBytes c d y bytes → IsTargetPlace w.pages w.tuple (length (seen shape bytes).bytes) y
-    place_there target puts = (
-      target_there bytes y.block target,
-      (
-        nothing_there y puts.lowest.0,
-        λ slot gone. puts.lowest.1 slot (no_tuple_in (c.bytes (record { block = y.block; slot = slot })) (sym (shows.tuple (record { block = y.block; slot = slot })) ∙ gone)),
-      ),
-    )
-
   pub puts_there : (s : ℕ) (d : IndexContents) (locked : ℕ → Option ℕ) (y : Spot) (bytes : List ℕ) → PutsBytes c d y bytes → IsFree lock s y.block → OwnLocks s w.lock locked → (building : ℕ → Option Building) (loose : ℕ → Option Spot)
       → PutsTuple s w (after shape d locked w.unnamed w building loose) y (seen shape bytes)
   puts_there s d locked y bytes puts free own building loose = record {
     tuple = record {
-      was = nothing_there y puts.bytes.was;
+      was = shows.tuple y ∙ ap (option_map (seen shape)) puts.bytes.was;
       now = ap (option_map (seen shape)) puts.bytes.now;
       others = λ z. ⊎_elim
           (λ (at : z ≡ y). inl at)

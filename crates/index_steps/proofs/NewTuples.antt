@@ -6,7 +6,7 @@ use Rattle.block_model.specs.declared.place.Spot.{Spot}
 use Rattle.page_locks.specs.LockChanges.{GivesAll, IsFirstHeld, page_of}
 use Rattle.coverage.specs.Changes.{IsFree, OwnLocks}
 use Rattle.coverage.specs.IndexView.{IndexView, PageKind, Mapping, Regular, Emptying, Pages, map_page_of}
-use Rattle.coverage.specs.Verdicts.{Full, IsFreeSlot, IsLowestNumber, IsTarget, NoTarget, PutGoes, PutVerdict, PutWaits, Puts, Waits}
+use Rattle.coverage.specs.Verdicts.{Full, IsTarget, NoTarget, PutGoes, PutVerdict, PutWaits, Puts, Waits}
 use Rattle.index_contents.specs.IndexContents.{IndexContents}
 use Rattle.index_contents.specs.IndexChanges.{PutsBytes, SetsEntry as SetsEntryIn}
 use Rattle.revmap.specs.MapEntries.{HoldsRange}
@@ -14,35 +14,24 @@ use Rattle.index_steps.specs.IndexTuples.{IndexShape, seen}
 use Rattle.index_steps.specs.PlaceAnswers.{IsPlacing, NamesIn}
 use Rattle.index_steps.specs.ShownIndex.{Shows}
 use Rattle.index_steps.specs.LockLaws.{first_locked}
-use Rattle.index_steps.proofs.Views.{free_there, no_bytes_there, none_there, seen_bytes}
+use Rattle.index_steps.proofs.Views.{free_there, place_there, target_back, target_there}
 
 module _ (shape : IndexShape) (c : IndexContents) (lock : ℕ → Option ℕ) (s range : ℕ) (bytes : List ℕ) (w : IndexView) (shows : Shows shape c lock w) where
-  new_target_there : (p : ℕ) → IsTarget c.pages (length bytes) p → IsTarget w.pages (length (seen shape bytes).bytes) p
-  new_target_there p target = subst (λ (pages : Pages). IsTarget pages (length (seen shape bytes).bytes) p) (sym shows.pages)
-      (subst (λ (b : List ℕ). IsTarget c.pages (length b) p) (sym (seen_bytes shape bytes)) target)
-
-  new_target_back : (p : ℕ) → IsTarget w.pages (length (seen shape bytes).bytes) p → IsTarget c.pages (length bytes) p
-  new_target_back p target = subst (λ (b : List ℕ). IsTarget c.pages (length b) p) (seen_bytes shape bytes)
-      (subst (λ (pages : Pages). IsTarget pages (length (seen shape bytes).bytes) p) shows.pages target)
-
   -- no page takes the tuple
-  pub new_full : (number : ℕ) → ((p : ℕ) → IsTarget c.pages (length bytes) p → ⊥) → number ≡ c.pages.limit → PutVerdict w s range (length (seen shape bytes).bytes) (Full number)
+  pub new_full : (number : ℕ) → ((p : ℕ) → IsTarget c.pages c.bytes (length bytes) p → ⊥) → number ≡ c.pages.limit → PutVerdict w s range (length (seen shape bytes).bytes) (Full number)
   new_full number none many =
       subst (λ (n : ℕ). PutVerdict w s range (length (seen shape bytes).bytes) (Full n)) (ap (λ (pages : Pages). pages.limit) shows.pages ∙ sym many)
-      (NoTarget (λ p target. none p (new_target_back p target)))
+      (NoTarget (λ p target. none p (target_back shape c lock w shows bytes p target)))
 
   -- another locks the target or the map's page
-  pub new_waits : (h : Place → Option ℕ) (relation p q : ℕ) → ((page : ℕ) → lock page ≡ h (page_of relation page)) → IsTarget c.pages (length bytes) p → IsFirstHeld h relation s (p ∷ map_page_of range ∷ []) q
+  pub new_waits : (h : Place → Option ℕ) (relation p q : ℕ) → ((page : ℕ) → lock page ≡ h (page_of relation page)) → IsTarget c.pages c.bytes (length bytes) p → IsFirstHeld h relation s (p ∷ map_page_of range ∷ []) q
       → PutVerdict w s range (length (seen shape bytes).bytes) (Waits q)
   new_waits h relation p q are target held =
-      PutWaits p q (new_target_there p target) (first_locked h relation s w.lock (p ∷ map_page_of range ∷ []) q (λ page. shows.lock page ∙ are page) held)
+      PutWaits p q (target_there shape c lock w shows bytes p target) (first_locked h relation s w.lock (p ∷ map_page_of range ∷ []) q (λ page. shows.lock page ∙ are page) held)
 
-  module _ (d : IndexContents) (y : Spot) (target : IsTarget c.pages (length bytes) y.block) (puts : PutsBytes c d y bytes) (free_y : IsFree lock s y.block) (free_map : IsFree lock s (map_page_of range)) where
-    new_lowest : IsLowestNumber (IsFreeSlot w.tuple y.block) y.slot
-    new_lowest = (none_there shape c lock w y shows puts.lowest.0, λ q gone. puts.lowest.1 q (no_bytes_there shape c lock w (record { block = y.block; slot = q }) shows gone))
-
+  module _ (d : IndexContents) (y : Spot) (target : IsTarget c.pages c.bytes (length bytes) y.block) (puts : PutsBytes c d y bytes) (free_y : IsFree lock s y.block) (free_map : IsFree lock s (map_page_of range)) where
     pub new_goes : PutVerdict w s range (length (seen shape bytes).bytes) (Puts y)
-    new_goes = PutGoes y (new_target_there y.block target, new_lowest) (free_there shape c lock w s y.block shows free_y) (free_there shape c lock w s (map_page_of range) shows free_map)
+    new_goes = PutGoes y (place_there shape c lock w shows d y bytes target puts) (free_there shape c lock w s y.block shows free_y) (free_there shape c lock w s (map_page_of range) shows free_map)
 
 -- the map's page for the range is counted, and the tuple's page is none of the map
 pub placing_holds : (shape : IndexShape) (c : IndexContents) (range : ℕ) (to : Spot) → IsPlacing shape c range to → HoldsRange c.pages range

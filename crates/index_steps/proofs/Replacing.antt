@@ -10,9 +10,11 @@ use Rattle.page_locks.specs.LockHolders.{LockState}
 use Rattle.coverage.specs.Changes.{IsFree}
 use Rattle.coverage.specs.IndexView.{Building, IndexView, Pages, Regular, map_page_of}
 use Rattle.coverage.specs.Knowing.{LocksNone}
+use Rattle.coverage.specs.Rooms.{bytes_of, place_room}
 use Rattle.coverage.specs.Steps.{PutsTuple, ReplacesTuple}
-use Rattle.coverage.specs.Verdicts.{Differs, Fits, Full, IsFreeSlot, IsLowestNumber, IsTarget, MustMove, NoTarget, PutGoes, PutWaits, Puts}
+use Rattle.coverage.specs.Verdicts.{Differs, Fits, Full, IsTarget, MustMove, NoTarget, PutGoes, PutWaits, Puts}
 use Rattle.coverage.specs.Verdicts.{SwapDiffers, SwapFits, SwapMoves, SwapVerdict, SwapWaits, Waits}
+use Rattle.index_contents.specs.IndexPages.{Slot}
 use Rattle.index_contents.specs.IndexContents.{IndexContents, contents}
 use Rattle.index_contents.specs.IndexChanges.{PutsBytes, ReplacesBytes}
 use Rattle.index_steps.specs.IndexTuples.{IndexShape, seen, shape_of}
@@ -20,7 +22,7 @@ use Rattle.index_steps.specs.ShownIndex.{Shows, lock_in}
 use Rattle.index_steps.specs.SwapAnswers.{MustLeave, SwapMakes, view_after}
 use Rattle.index_steps.specs.declared.swapping.Swapped.{Swapped}
 use Rattle.index_steps.specs.LockLaws.{first_locked, takes_own}
-use Rattle.index_steps.proofs.Views.{free_there, no_bytes_there, none_there, none_locked, other_there, same_locks, seen_bytes, seen_there, turned_there}
+use Rattle.index_steps.proofs.Views.{bytes_there, free_there, none_there, none_locked, other_there, place_there, same_locks, seen_bytes, seen_there, target_back, target_there, turned_there}
 
 module _ (shape : IndexShape) (c : IndexContents) (lock : ℕ → Option ℕ) (s range : ℕ) (x : Spot) (copied bytes : List ℕ) (w : IndexView) (shows : Shows shape c lock w) where
   -- another locks the old tuple's page
@@ -37,8 +39,8 @@ module _ (shape : IndexShape) (c : IndexContents) (lock : ℕ → Option ℕ) (s
     swap_fits d replaces = SwapFits (free_there shape c lock w s x.block shows free)
         (seen_there shape c lock w x copied shows replaces.bytes.was)
         (ap (λ (pages : Pages). pages.kind x.block) shows.pages ∙ replaces.regular)
-        (subst (λ (pages : Pages). length (seen shape bytes).bytes ≤ pages.room_at x) (sym shows.pages)
-        (subst (λ (b : List ℕ). length b ≤ c.pages.room_at x) (sym (seen_bytes shape bytes)) replaces.fits))
+        (subst (λ (at : Spot → Slot). length (seen shape bytes).bytes ≤ place_room at x) (sym (bytes_there shape c lock w shows))
+        (subst (λ (b : List ℕ). length b ≤ place_room c.bytes x) (sym (seen_bytes shape bytes)) replaces.fits))
 
     pub swap_replaces : (d : IndexContents) → ReplacesBytes c d x copied bytes → LocksNone w.lock s → (building : ℕ → Option Building) (loose : ℕ → Option Spot)
         → ReplacesTuple s w (view_after shape d lock w building loose) x (seen shape copied) (seen shape bytes)
@@ -66,39 +68,29 @@ module _ (shape : IndexShape) (c : IndexContents) (lock : ℕ → Option ℕ) (s
     }
 
     module _ (must : MustLeave c x copied (length bytes)) where
-      must_there : MustMove w.pages x (length (seen shape bytes).bytes)
-      must_there = subst (λ (pages : Pages). MustMove pages x (length (seen shape bytes).bytes)) (sym shows.pages)
-          (subst (λ (b : List ℕ). MustMove c.pages x (length b)) (sym (seen_bytes shape bytes)) must.1)
-
-      target_there : (p : ℕ) → IsTarget c.pages (length bytes) p → IsTarget w.pages (length (seen shape bytes).bytes) p
-      target_there p target = subst (λ (pages : Pages). IsTarget pages (length (seen shape bytes).bytes) p) (sym shows.pages)
-          (subst (λ (b : List ℕ). IsTarget c.pages (length b) p) (sym (seen_bytes shape bytes)) target)
-
-      target_back : (p : ℕ) → IsTarget w.pages (length (seen shape bytes).bytes) p → IsTarget c.pages (length bytes) p
-      target_back p target = subst (λ (b : List ℕ). IsTarget c.pages (length b) p) (seen_bytes shape bytes)
-          (subst (λ (pages : Pages). IsTarget pages (length (seen shape bytes).bytes) p) shows.pages target)
+      must_there : MustMove w.pages (bytes_of w.tuple) x (length (seen shape bytes).bytes)
+      must_there = subst (λ (pages : Pages). MustMove pages (bytes_of w.tuple) x (length (seen shape bytes).bytes)) (sym shows.pages)
+          (subst (λ (at : Spot → Slot). MustMove c.pages at x (length (seen shape bytes).bytes)) (sym (bytes_there shape c lock w shows))
+          (subst (λ (b : List ℕ). MustMove c.pages c.bytes x (length b)) (sym (seen_bytes shape bytes)) must.1))
 
       -- no page takes the tuple
-      pub move_full : (number : ℕ) → ((p : ℕ) → IsTarget c.pages (length bytes) p → ⊥) → number ≡ c.pages.limit → SwapVerdict w s range x (seen shape copied) (seen shape bytes) (Full number)
+      pub move_full : (number : ℕ) → ((p : ℕ) → IsTarget c.pages c.bytes (length bytes) p → ⊥) → number ≡ c.pages.limit → SwapVerdict w s range x (seen shape copied) (seen shape bytes) (Full number)
       move_full number none many =
           subst (λ (n : ℕ). SwapVerdict w s range x (seen shape copied) (seen shape bytes) (Full n)) (ap (λ (pages : Pages). pages.limit) shows.pages ∙ sym many)
           (SwapMoves (Full w.pages.limit) (free_there shape c lock w s x.block shows free) (seen_there shape c lock w x copied shows must.0) must_there
-          (NoTarget (λ p target. none p (target_back p target))))
+          (NoTarget (λ p target. none p (target_back shape c lock w shows bytes p target))))
 
       -- another locks the target or the map's page
-      pub move_waits : (h : Place → Option ℕ) (relation p q : ℕ) → ((page : ℕ) → lock page ≡ h (page_of relation page)) → IsTarget c.pages (length bytes) p → IsFirstHeld h relation s (p ∷ map_page_of range ∷ []) q
+      pub move_waits : (h : Place → Option ℕ) (relation p q : ℕ) → ((page : ℕ) → lock page ≡ h (page_of relation page)) → IsTarget c.pages c.bytes (length bytes) p → IsFirstHeld h relation s (p ∷ map_page_of range ∷ []) q
           → SwapVerdict w s range x (seen shape copied) (seen shape bytes) (Waits q)
       move_waits h relation p q are target held =
           SwapMoves (Waits q) (free_there shape c lock w s x.block shows free) (seen_there shape c lock w x copied shows must.0) must_there
-          (PutWaits p q (target_there p target) (first_locked h relation s w.lock (p ∷ map_page_of range ∷ []) q (λ page. shows.lock page ∙ are page) held))
+          (PutWaits p q (target_there shape c lock w shows bytes p target) (first_locked h relation s w.lock (p ∷ map_page_of range ∷ []) q (λ page. shows.lock page ∙ are page) held))
 
-      module _ (d : IndexContents) (y : Spot) (target : IsTarget c.pages (length bytes) y.block) (puts : PutsBytes c d y bytes) (free_y : IsFree lock s y.block) (free_map : IsFree lock s (map_page_of range)) where
-        lowest_there : IsLowestNumber (IsFreeSlot w.tuple y.block) y.slot
-        lowest_there = (none_there shape c lock w y shows puts.lowest.0, λ q gone. puts.lowest.1 q (no_bytes_there shape c lock w (record { block = y.block; slot = q }) shows gone))
-
+      module _ (d : IndexContents) (y : Spot) (target : IsTarget c.pages c.bytes (length bytes) y.block) (puts : PutsBytes c d y bytes) (free_y : IsFree lock s y.block) (free_map : IsFree lock s (map_page_of range)) where
         pub move_goes : SwapVerdict w s range x (seen shape copied) (seen shape bytes) (Puts y)
         move_goes = SwapMoves (Puts y) (free_there shape c lock w s x.block shows free) (seen_there shape c lock w x copied shows must.0) must_there
-            (PutGoes y (target_there y.block target, lowest_there) (free_there shape c lock w s y.block shows free_y) (free_there shape c lock w s (map_page_of range) shows free_map))
+            (PutGoes y (place_there shape c lock w shows d y bytes target puts) (free_there shape c lock w s y.block shows free_y) (free_there shape c lock w s (map_page_of range) shows free_map))
 
   -- the new tuple is put, and the locks of the move are taken
   pub move_puts : (d : IndexContents) (y : Spot) (h k : Place → Option ℕ) (relation : ℕ) (these : List ℕ) → PutsBytes c d y bytes → IsFree lock s y.block

@@ -163,17 +163,17 @@ module _ (layout : DiskLayout) (pages : PageMap) (index : ℕ) where
           first_next : IsNextTuple c.bytes (next_map_page c.pages) x bytes
           first_next = subst (λ (b : ℕ). IsNextTuple c.bytes b x bytes) next.next first
 
-          pub moves_at : (y : Spot) (locked : LockState) → IsTarget c.pages (length bytes) y.block → TakesAll (h locks) (h locked) relation (x.block ∷ y.block ∷ map_page_of m ∷ []) s → PutsBytes c d y bytes
+          pub moves_at : (y : Spot) (locked : LockState) → IsTarget c.pages c.bytes (length bytes) y.block → TakesAll (h locks) (h locked) relation (x.block ∷ y.block ∷ map_page_of m ∷ []) s → PutsBytes c d y bytes
               → StepsAt layout pages new locks locked s (hand_at index stages.Judge was) (hand_at index (stages.Set m x y) bytes) (did.Moved points.Put)
           moves_at y locked target takes puts = moves (shape_of layout index) c d (h locks) (h locked) (relation_of layout index) s index was moved (below_there block states.Emptying next)
               x y bytes m (kind_there block states.Emptying next) first_next of named target (subst (λ (r : ℕ). TakesAll (h locks) (h locked) r (x.block ∷ y.block ∷ map_page_of m ∷ []) s) at takes) puts
 
-          pub put_waits_at : (p q : ℕ) → IsFreeFor (h locks) s (page_of relation x.block) → IsTarget c.pages (length bytes) p → IsFirstHeld (h locks) relation s (x.block ∷ p ∷ map_page_of m ∷ []) q
+          pub put_waits_at : (p q : ℕ) → IsFreeFor (h locks) s (page_of relation x.block) → IsTarget c.pages c.bytes (length bytes) p → IsFirstHeld (h locks) relation s (x.block ∷ p ∷ map_page_of m ∷ []) q
               → StepWaits (shape_of layout index) s (growth_at layout pages locks (hand_at index stages.Judge was)) q
           put_waits_at p q free target held = put_waits (shape_of layout index) c d (h locks) (h locks) (relation_of layout index) s index was moved (below_there block states.Emptying next)
               x bytes m (kind_there block states.Emptying next) first_next of named (free_at x.block free) p q target
               (subst (λ (r : ℕ). IsFirstHeld (h locks) r s (p ∷ map_page_of m ∷ []) q) at (first_rest (h locks) relation s x.block (p ∷ map_page_of m ∷ []) q free held))
 
-          pub put_full_at : IsFreeFor (h locks) s (page_of relation x.block) → ((p : ℕ) → IsTarget c.pages (length bytes) p → ⊥) → StepFull (shape_of layout index) s (growth_at layout pages locks (hand_at index stages.Judge was)) layout.sizes.index_blocks
+          pub put_full_at : IsFreeFor (h locks) s (page_of relation x.block) → ((p : ℕ) → IsTarget c.pages c.bytes (length bytes) p → ⊥) → StepFull (shape_of layout index) s (growth_at layout pages locks (hand_at index stages.Judge was)) layout.sizes.index_blocks
           put_full_at free none = put_full (shape_of layout index) c d (h locks) (h locks) (relation_of layout index) s index was moved (below_there block states.Emptying next)
               x bytes m (kind_there block states.Emptying next) first_next of named (free_at x.block free) layout.sizes.index_blocks limit_there none

@@ -24,7 +24,8 @@ use Rattle.index_steps.specs.declared.growth_stage.Stage.{Stage}
 use Rattle.index_steps.specs.declared.growth_stage.Stage.TheVariants as stages
 use Rattle.index_steps.specs.Called.{hand_at}
 use Rattle.index_steps.specs.GrowthSteps.{GrowthAt, StepFull, StepWaits, Stepped}
-use Rattle.index_steps.proofs.Growing.{counts_there, fewer_unnamed, first_there, free_there, grows_there, locked_there, next_there, none_first, own_there, place_there, puts_there, range_there, seen_there, sweeps_there, target_back, target_there, turns_there, unnamed_but}
+use Rattle.index_steps.proofs.Views.{place_there, target_back, target_there}
+use Rattle.index_steps.proofs.Growing.{counts_there, fewer_unnamed, first_there, free_there, grows_there, locked_there, next_there, none_first, own_there, puts_there, range_there, seen_there, sweeps_there, turns_there, unnamed_but}
 use Rattle.index_steps.specs.LockLaws.{first_locked, gives_own, takes_own, takes_these}
 
 -- a growth at a stage, with the bytes of a tuple
@@ -147,7 +148,7 @@ module _ (shape : IndexShape) (c d : IndexContents) (h k : Place → Option ℕ)
 
     -- one that it names is put on another page, and its own, that one and the map's are locked
     pub moves : (x y : Spot) (bytes : List ℕ) (m : ℕ) → c.pages.kind (next_map_page c.pages) ≡ Emptying → IsNextTuple c.bytes (next_map_page c.pages) x bytes → IsOf bytes (Some m) → c.entry m ≡ Some x
-        → IsTarget c.pages (length bytes) y.block → TakesAll h k relation (x.block ∷ y.block ∷ map_page_of m ∷ []) s → PutsBytes c d y bytes
+        → IsTarget c.pages c.bytes (length bytes) y.block → TakesAll h k relation (x.block ∷ y.block ∷ map_page_of m ∷ []) s → PutsBytes c d y bytes
         → Stepped shape s (growing c lock index stages.Judge was) (growing d locked index (stages.Set m x y) bytes) (did.Moved points.Put)
     moves x y bytes m kind first of named target takes puts = (
       λ range w shows short knows pages.
@@ -199,7 +200,7 @@ module _ (shape : IndexShape) (c d : IndexContents) (h k : Place → Option ℕ)
         (subst (IsLocked w.lock s) (sym (next_there shape c lock w shows)) (locked_there shape c lock w shows s (next_map_page c.pages) held)))
 
     module _ (x : Spot) (bytes : List ℕ) (m : ℕ) (kind : c.pages.kind (next_map_page c.pages) ≡ Emptying) (first : IsNextTuple c.bytes (next_map_page c.pages) x bytes) (of : IsOf bytes (Some m)) (named : c.entry m ≡ Some x) (free : IsFree lock s x.block) where
-      pub put_waits : (p q : ℕ) → IsTarget c.pages (length bytes) p → IsFirstHeld h relation s (p ∷ map_page_of m ∷ []) q → StepWaits shape s (growing c lock index stages.Judge was) q
+      pub put_waits : (p q : ℕ) → IsTarget c.pages c.bytes (length bytes) p → IsFirstHeld h relation s (p ∷ map_page_of m ∷ []) q → StepWaits shape s (growing c lock index stages.Judge was) q
       put_waits p q target held range w shows short knows =
           let is = range_there shape bytes m of in
           EvacuatePutWaits q x (seen shape bytes) (grows_there shape c lock w shows range Emptying short below kind) (first_there shape c lock w shows x bytes first)
@@ -208,7 +209,7 @@ module _ (shape : IndexShape) (c d : IndexContents) (h k : Place → Option ℕ)
           (PutWaits p q (target_there shape c lock w shows bytes p target) (first_locked h relation s w.lock (p ∷ map_page_of m ∷ []) q (λ page. shows.lock page) held)))
 
       -- no page takes the tuple
-      pub put_full : (number : ℕ) → number ≡ c.pages.limit → ((p : ℕ) → IsTarget c.pages (length bytes) p → ⊥) → StepFull shape s (growing c lock index stages.Judge was) number
+      pub put_full : (number : ℕ) → number ≡ c.pages.limit → ((p : ℕ) → IsTarget c.pages c.bytes (length bytes) p → ⊥) → StepFull shape s (growing c lock index stages.Judge was) number
       put_full number many none range w shows short =
           let is = range_there shape bytes m of in
           EvacuateFull number x (seen shape bytes) (grows_there shape c lock w shows range Emptying short below kind) (first_there shape c lock w shows x bytes first)

@@ -1,5 +1,5 @@
 -- indexes that pages and locks show: tuples by their bytes, and what stays
-use Rattle.std.proofs.Common.{◌≡◌, ◌≢◌, ℕ, List, Option, None, Some, refl, sym, ap, subst, ◌∙◌}
+use Rattle.std.proofs.Common.{◌≡◌, ◌≢◌, ℕ, List, length, Option, None, Some, refl, sym, ap, subst, ◌∙◌}
 use Rattle.std.specs.Option.{option_map}
 use Rattle.std.proofs.lemmas.Option.{none-some, same_Some}
 use Rattle.block_model.specs.declared.place.Spot.{Spot}
@@ -7,7 +7,11 @@ use Rattle.coverage.specs.Changes.{IsFree, OwnLocks}
 use Rattle.coverage.specs.IndexView.{Building, IndexTuple, IndexView, PageKind, Pages}
 use Rattle.coverage.specs.Knowing.{LocksNone}
 use Rattle.coverage.specs.Steps.{ReadsIndex, TurnsPage}
+use Rattle.coverage.specs.Rooms.{bytes_of}
+use Rattle.coverage.specs.Verdicts.{IsTarget, IsTargetPlace}
+use Rattle.index_contents.specs.IndexPages.{Slot}
 use Rattle.index_contents.specs.IndexContents.{IndexContents}
+use Rattle.index_contents.specs.IndexChanges.{PutsBytes}
 use Rattle.index_steps.specs.IndexTuples.{IndexShape, range_said, seen}
 use Rattle.index_steps.specs.ShownIndex.{Shows}
 use Rattle.index_steps.specs.SwapAnswers.{view_after}
@@ -64,6 +68,30 @@ same_locks shape c lock w s shows = record { others = λ p n locked other. sym (
 
 pub none_locked : (shape : IndexShape) (c : IndexContents) (lock : ℕ → Option ℕ) (w : IndexView) (s : ℕ) → Shows shape c lock w → LocksNone w.lock s → LocksNone lock s
 none_locked shape c lock w s shows none p locked = none p (shows.lock p ∙ locked)
+
+-- the bytes of the tuples are those of the index
+seen_again : (shape : IndexShape) (o : Option (List ℕ)) → option_map (λ (t : IndexTuple). t.bytes) (option_map (seen shape) o) ≡ o
+seen_again shape None = refl
+seen_again shape (Some bytes) = ap Some (seen_bytes shape bytes)
+
+module _ (shape : IndexShape) (c : IndexContents) (lock : ℕ → Option ℕ) (w : IndexView) (shows : Shows shape c lock w) where
+  pub bytes_there : bytes_of w.tuple ≡ c.bytes
+  bytes_there = λ i x. (ap (option_map (λ (t : IndexTuple). t.bytes)) (shows.tuple x) ∙ seen_again shape (c.bytes x)) i
+
+  -- a place for a tuple, and a page for one, are the view's
+  pub target_there : (bytes : List ℕ) (p : ℕ) → IsTarget c.pages c.bytes (length bytes) p → IsTarget w.pages (bytes_of w.tuple) (length (seen shape bytes).bytes) p
+  target_there bytes p target = subst (λ (b : List ℕ). IsTarget w.pages (bytes_of w.tuple) (length b) p) (sym (seen_bytes shape bytes))
+      (subst (λ (at : Spot → Slot). IsTarget w.pages at (length bytes) p) (sym bytes_there) (subst (λ (pages : Pages). IsTarget pages c.bytes (length bytes) p) (sym shows.pages) target))
+
+  pub target_back : (bytes : List ℕ) (p : ℕ) → IsTarget w.pages (bytes_of w.tuple) (length (seen shape bytes).bytes) p → IsTarget c.pages c.bytes (length bytes) p
+  target_back bytes p target = subst (λ (pages : Pages). IsTarget pages c.bytes (length bytes) p) shows.pages
+      (subst (λ (at : Spot → Slot). IsTarget w.pages at (length bytes) p) bytes_there (subst (λ (b : List ℕ). IsTarget w.pages (bytes_of w.tuple) (length b) p) (seen_bytes shape bytes) target))
+
+  pub place_there : (d : IndexContents) (y : Spot) (bytes : List ℕ) → IsTarget c.pages c.bytes (length bytes) y.block → PutsBytes c d y bytes → IsTargetPlace w.pages w.tuple (length (seen shape bytes).bytes) y
+  place_there d y bytes target puts = (
+    target_there bytes y.block target,
+    (none_there shape c lock w y shows puts.lowest.0, λ slot gone. puts.lowest.1 slot (no_bytes_there shape c lock w (record { block = y.block; slot = slot }) shows gone)),
+  )
 
 -- one page turned, as the view has it
 pub turned_there : (shape : IndexShape) (c d : IndexContents) (lock : ℕ → Option ℕ) (w : IndexView) (page : ℕ) (kind : PageKind) → Shows shape c lock w → TurnsPage c.pages d.pages page kind → TurnsPage w.pages d.pages page kind

@@ -40,7 +40,7 @@ no_shown_index = record {
   autosummarize = false;
   entry = λ range. None;
   tuple = λ x. None;
-  pages = record { kind = λ p. Unstarted; room = λ p. 0; room_at = λ x. 0; map_pages = 0; limit = 0 };
+  pages = record { kind = λ p. Unstarted; map_pages = 0; limit = 0 };
   lock = λ p. None;
 }
 

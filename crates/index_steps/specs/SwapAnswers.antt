@@ -93,7 +93,7 @@ MachineOutcome told Cause old new (Err faults.Memory) = ⊥
 
 -- the copied bytes stand there, and so many can't take their place
 abbrev pub MustLeave : IndexContents → Spot → List ℕ → ℕ → Type 0
-MustLeave c x copied need = (c.bytes x ≡ Some copied) × MustMove c.pages x need
+MustLeave c x copied need = (c.bytes x ≡ Some copied) × MustMove c.pages c.bytes x need
 
 -- a step's damage is told by the byte at which a page of the index begins
 abbrev pub FaultNamesPageOf : DiskLayout → (index : ℕ) → MachineFault → Type 0

@@ -9,6 +9,7 @@ use Rattle.index_contents.specs.TheConstants.{REGULAR}
 use Rattle.index_contents.specs.IndexPages.{AreSlots, IsRegular, IsSlot, Slot, taken, tuple_bytes}
 use Rattle.index_contents.specs.IndexReading.{free_of, is_regular, number_at, slot_in, slots_in, slots_of}
 use Rattle.index_contents.specs.IndexContents.{beside, room_in_place, tuple_on}
+use Rattle.index_contents.proofs.Rooms.{four_each, slots_none}
 use Rattle.index_contents.specs.Reading.{unstarted_kind}
 use Rattle.page_map.specs.PageMap.{unstarted_page}
 use Rattle.range_store.specs.Tuples.{place_on, size_of, tuple_from}
@@ -90,10 +91,6 @@ length_taken (first ∷ list) zero bytes used =
     omega (arith, long)
 length_taken (first ∷ list) (suc slot) bytes used = omega (arith, length_taken list slot bytes used)
 
-slots_none : (page : List ℕ) → is_regular (slice_index page 0) ≡ false → slots_of page ≡ []
-unfolding slots_of
-slots_none page e = ap (λ t. if t then slots_in page (number_at page 2 2) (drop 32 page) else []) e
-
 -- and not more than a page has
 pub tuple_fits : (page : List ℕ) (slot : ℕ) (bytes : List ℕ) → (is_regular (slice_index page 0) ≡ true → IsRegular (slice_index page 0) (slots_of page) page) → tuple_on page slot ≡ Some bytes → (length bytes + 4 ≤ 8160) × (length bytes + free_of (slots_of page) ≤ 8156)
 tuple_fits page slot bytes regular used = on (is_regular (slice_index page 0)) refl
@@ -120,11 +117,6 @@ has_tuples page slot below = on (is_regular (slice_index page 0)) refl
     on : (b : Bool) → is_regular (slice_index page 0) ≡ b → is_regular (slice_index page 0) ≡ true
     on true is = is
     on false is = let none : length (slots_of page) ≡ 0 = ap (length {A = Slot}) (slots_none page is) in absurd (omega (arith, below, none))
-
-four_each : (list : List Slot) → 4 * length list ≤ taken list
-unfolding taken
-four_each [] = omega arith
-four_each (slot ∷ list) = omega (arith, four_each list)
 
 pub directory_within : (page : List ℕ) (slot : ℕ) → (is_regular (slice_index page 0) ≡ true → IsRegular (slice_index page 0) (slots_of page) page) → slot < length (slots_of page) → 32 + slot * 4 + 4 ≤ 8192
 directory_within page slot regular below =

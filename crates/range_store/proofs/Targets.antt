@@ -1,7 +1,8 @@
 -- The first page for a further tuple, as coverage tells it.
-use Rattle.std.proofs.Common.{◌≡◌, ℕ, ◌<◌, inl, inr, List, refl, sym, subst, ◌∙◌}
+use Rattle.std.proofs.Common.{◌≡◌, ℕ, ◌<◌, ◌≤◌, inl, inr, List, refl, sym, subst, ◌∙◌}
 use Rattle.std.specs.Prelude.{slice_index, IfSome, Option, None, Some}
 use Rattle.std.proofs.lemmas.Bool.{cases_lt}
+use Rattle.block_model.specs.declared.place.Spot.{Spot}
 use Rattle.store_layout.specs.DiskLayout.{DiskLayout}
 use Rattle.page_layout.specs.declared.page.Form.{Form}
 use Rattle.page_layout.specs.declared.page.Form.TheVariants as forms
@@ -10,44 +11,52 @@ use Rattle.page_layout.specs.SlotLaws.{unstarted_front}
 use Rattle.page_map.specs.FirstRoom.{IsFirstRoom}
 use Rattle.page_map.specs.PageMap.{PageMap, block_at}
 use Rattle.index_contents.specs.IndexReading.{map_pages_of}
-use Rattle.index_contents.specs.TheConstants.{UNSTARTED}
+use Rattle.index_contents.specs.IndexPages.{IsIndexPage, Slot}
+use Rattle.index_contents.specs.TheConstants.{REGULAR, UNSTARTED}
 use Rattle.coverage.specs.IndexView.{PageKind, Pages, Regular, Unstarted}
 use Rattle.coverage.specs.Verdicts.{IsLowestNumber, IsPageUnstarted, IsTarget, OnNew, OnStarted, PageHasRoom}
-use Rattle.index_contents.specs.IndexContents.{contents, index_page, pages_in, relation_of}
+use Rattle.index_contents.proofs.Rooms.{page_room_there}
+use Rattle.index_contents.specs.IndexContents.{contents, contents_in, index_page, pages_in, relation_of}
 use Rattle.index_contents.specs.Kinds.{is_regular_page, is_unstarted_page, regular_page, unstarted_page_kind}
 use Rattle.range_store.specs.Tuples.{IsFirstUnstarted, TakesBytes}
 use Rattle.range_store.specs.FirstTarget.{HasRoomIn, IsFirstTarget, IsLowestOf, IsUnstartedIn}
 
--- a page has room as coverage says it
-pub has_room : (limit : ℕ) (page : ℕ → List ℕ) (need block : ℕ) → HasRoomIn page need block → PageHasRoom (pages_in limit page) need block
-has_room limit page need block has = (has.0, regular_page block (slice_index (page block) 0) has.1, has.2)
+-- in pages of an index each has room as coverage says it
+module _ (limit : ℕ) (page : ℕ → List ℕ) (checked : (block : ℕ) → IsIndexPage (page block)) (need : ℕ) where
+  abbrev HasRoomThere : ℕ → Type 0
+  HasRoomThere = PageHasRoom (pages_in limit page) (contents_in limit page).bytes need
 
-pub room_had : (limit : ℕ) (page : ℕ → List ℕ) (need block : ℕ) → PageHasRoom (pages_in limit page) need block → HasRoomIn page need block
-room_had limit page need block has = (has.0, is_regular_page block (slice_index (page block) 0) has.1, has.2)
+  has_room : (block : ℕ) → HasRoomIn page need block → HasRoomThere block
+  has_room block has = (has.0, regular_page block (slice_index (page block) 0) has.1, subst (λ (n : ℕ). need ≤ n) (sym (page_room_there limit page block (checked block) has.1)) has.2)
 
-pub is_unstarted : (limit : ℕ) (page : ℕ → List ℕ) (block : ℕ) → IsUnstartedIn page block → IsPageUnstarted (pages_in limit page) block
-is_unstarted limit page block is = unstarted_page_kind block (slice_index (page block) 0) is
+  room_had : (block : ℕ) → HasRoomThere block → HasRoomIn page need block
+  room_had block has =
+      let is : slice_index (page block) 0 ≡ REGULAR = is_regular_page block (slice_index (page block) 0) has.1 in
+      (has.0, is, subst (λ (n : ℕ). need ≤ n) (page_room_there limit page block (checked block) is) has.2)
 
-pub unstarted_was : (limit : ℕ) (page : ℕ → List ℕ) (block : ℕ) → IsPageUnstarted (pages_in limit page) block → IsUnstartedIn page block
-unstarted_was limit page block is = is_unstarted_page block (slice_index (page block) 0) is
+  is_unstarted : (block : ℕ) → IsUnstartedIn page block → IsPageUnstarted (pages_in limit page) block
+  is_unstarted block is = unstarted_page_kind block (slice_index (page block) 0) is
 
--- the lowest one of these is the lowest one of those
-lowest : (Is Was : ℕ → Type 0) (block : ℕ) → ((n : ℕ) → Is n → Was n) → ((n : ℕ) → Was n → Is n) → IsLowestOf Is block → IsLowestNumber Was block
-lowest Is Was block there back of = (
-  there block of.0,
-  λ q was. elim (cases_lt q block) [
-    | inl below ↦ absurd (of.1 q below (back q was))
-    | inr above ↦ above
-  ],
-)
+  unstarted_was : (block : ℕ) → IsPageUnstarted (pages_in limit page) block → IsUnstartedIn page block
+  unstarted_was block is = is_unstarted_page block (slice_index (page block) 0) is
 
-pub target_found : (limit : ℕ) (page : ℕ → List ℕ) (need block : ℕ) → IsFirstTarget limit page need (Some block) → IsTarget (pages_in limit page) need block
-target_found limit page need block (inl started) = OnStarted (lowest (HasRoomIn page need) (PageHasRoom (pages_in limit page) need) block (has_room limit page need) (room_had limit page need) started)
-target_found limit page need block (inr new) = OnNew (λ q has. new.0 q (room_had limit page need q has)) (lowest (IsUnstartedIn page) (IsPageUnstarted (pages_in limit page)) block (is_unstarted limit page) (unstarted_was limit page) new.1) new.2
+  -- the lowest one of these is the lowest one of those
+  lowest : (Is Was : ℕ → Type 0) (block : ℕ) → ((n : ℕ) → Is n → Was n) → ((n : ℕ) → Was n → Is n) → IsLowestOf Is block → IsLowestNumber Was block
+  lowest Is Was block there back of = (
+    there block of.0,
+    λ q was. elim (cases_lt q block) [
+      | inl below ↦ absurd (of.1 q below (back q was))
+      | inr above ↦ above
+    ],
+  )
 
-pub none_found : (limit : ℕ) (page : ℕ → List ℕ) (need block : ℕ) → IsFirstTarget limit page need None → IsTarget (pages_in limit page) need block → ⊥
-none_found limit page need block none (OnStarted lowest) = none.0 block (room_had limit page need block lowest.0)
-none_found limit page need block none (OnNew full lowest below) = none.1 block below (unstarted_was limit page block lowest.0)
+  pub target_found : (block : ℕ) → IsFirstTarget limit page need (Some block) → IsTarget (pages_in limit page) (contents_in limit page).bytes need block
+  target_found block (inl started) = OnStarted (lowest (HasRoomIn page need) HasRoomThere block has_room room_had started)
+  target_found block (inr new) = OnNew (λ q has. new.0 q (room_had q has)) (lowest (IsUnstartedIn page) (IsPageUnstarted (pages_in limit page)) block is_unstarted unstarted_was new.1) new.2
+
+  pub none_found : (block : ℕ) → IsFirstTarget limit page need None → IsTarget (pages_in limit page) (contents_in limit page).bytes need block → ⊥
+  none_found block none (OnStarted lowest) = none.0 block (room_had block lowest.0)
+  none_found block none (OnNew full lowest below) = none.1 block below (unstarted_was block lowest.0)
 
 -- a page that takes tuples is started
 abbrev NotUnstarted : PageKind → Type 0
@@ -55,17 +64,17 @@ NotUnstarted Unstarted = ⊥
 NotUnstarted kind = Unit {0}
 
 -- a target takes the tuple
-pub takes_it : (pages : Pages) (need block : ℕ) → IsTarget pages need block → TakesBytes pages need block
-takes_it pages need block (OnStarted lowest) = inl (lowest.0.1, lowest.0.2)
-takes_it pages need block (OnNew none lowest below) = inr lowest.0
+pub takes_it : (pages : Pages) (bytes : Spot → Slot) (need block : ℕ) → IsTarget pages bytes need block → TakesBytes pages bytes need block
+takes_it pages bytes need block (OnStarted lowest) = inl (lowest.0.1, lowest.0.2)
+takes_it pages bytes need block (OnNew none lowest below) = inr lowest.0
 
 -- and is the first page that isn't started, if it isn't
 unlike : {P : Type 0} (pages : Pages) (block : ℕ) → pages.kind block ≡ Regular → IsPageUnstarted pages block → P
 unlike pages block regular unstarted = absurd (subst NotUnstarted (sym regular ∙ unstarted) tt)
 
-pub first_it : (pages : Pages) (need block : ℕ) → IsTarget pages need block → IsFirstUnstarted pages block
-first_it pages need block (OnStarted lowest) = λ unstarted. unlike pages block lowest.0.1 unstarted
-first_it pages need block (OnNew none lowest below) = λ unstarted. lowest
+pub first_it : (pages : Pages) (bytes : Spot → Slot) (need block : ℕ) → IsTarget pages bytes need block → IsFirstUnstarted pages block
+first_it pages bytes need block (OnStarted lowest) = λ unstarted. unlike pages block lowest.0.1 unstarted
+first_it pages bytes need block (OnNew none lowest below) = λ unstarted. lowest
 
 -- the first page by the page store is that by the pages of the index
 
@@ -103,14 +112,15 @@ there : (layout : DiskLayout) (pages : PageMap) (index relation limit need : ℕ
 there layout pages index relation limit need answer at size first =
     subst (λ (n : ℕ). IsFirstTarget n (index_page layout pages index) need answer) size (subst (λ (r : ℕ). IsFirstTarget limit (block_at pages r) need answer) at first)
 
-pub target_at : (P : Type 0) (layout : DiskLayout) (pages : PageMap) (index relation limit need : ℕ) (answer : Option ℕ) → relation ≡ relation_of layout index → limit ≡ layout.sizes.index_blocks → (P → IsFirstTarget limit (block_at pages relation) need answer)
-    → IfSome answer (λ block. P → IsTarget (contents layout pages index).pages need block)
+pub target_at : (P : Type 0) (layout : DiskLayout) (pages : PageMap) (index relation limit need : ℕ) (answer : Option ℕ) → (P → (block : ℕ) → IsIndexPage (index_page layout pages index block)) → relation ≡ relation_of layout index → limit ≡ layout.sizes.index_blocks
+    → (P → IsFirstTarget limit (block_at pages relation) need answer) → IfSome answer (λ block. P → IsTarget (contents layout pages index).pages (contents layout pages index).bytes need block)
 unfolding contents
-target_at P layout pages index relation limit need (Some block) at size first = λ p. target_found layout.sizes.index_blocks (index_page layout pages index) need block (there layout pages index relation limit need (Some block) at size (first p))
-target_at P layout pages index relation limit need None at size first = tt
+target_at P layout pages index relation limit need (Some block) checked at size first =
+    λ p. target_found layout.sizes.index_blocks (index_page layout pages index) (checked p) need block (there layout pages index relation limit need (Some block) at size (first p))
+target_at P layout pages index relation limit need None checked at size first = tt
 
-pub no_target_at : (layout : DiskLayout) (pages : PageMap) (index relation limit need : ℕ) (answer : Option ℕ) → relation ≡ relation_of layout index → limit ≡ layout.sizes.index_blocks → answer ≡ None → IsFirstTarget limit (block_at pages relation) need answer
-    → (block : ℕ) → IsTarget (contents layout pages index).pages need block → ⊥
+pub no_target_at : (layout : DiskLayout) (pages : PageMap) (index relation limit need : ℕ) (answer : Option ℕ) → ((block : ℕ) → IsIndexPage (index_page layout pages index block)) → relation ≡ relation_of layout index → limit ≡ layout.sizes.index_blocks
+    → answer ≡ None → IsFirstTarget limit (block_at pages relation) need answer → (block : ℕ) → IsTarget (contents layout pages index).pages (contents layout pages index).bytes need block → ⊥
 unfolding contents
-no_target_at layout pages index relation limit need answer at size none first block target =
-    none_found layout.sizes.index_blocks (index_page layout pages index) need block (there layout pages index relation limit need None at size (subst (λ (a : Option ℕ). IsFirstTarget limit (block_at pages relation) need a) none first)) target
+no_target_at layout pages index relation limit need answer checked at size none first block target =
+    none_found layout.sizes.index_blocks (index_page layout pages index) checked need block (there layout pages index relation limit need None at size (subst (λ (a : Option ℕ). IsFirstTarget limit (block_at pages relation) need a) none first)) target

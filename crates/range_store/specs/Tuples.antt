@@ -12,6 +12,7 @@ use Rattle.index_contents.specs.TheConstants.{REGULAR, UNSTARTED}
 use Rattle.index_contents.specs.IndexPages.{Slot, tuple_bytes}
 use Rattle.index_contents.specs.IndexReading.{free_slot_of, number_at, slots_of}
 use Rattle.coverage.specs.IndexView.{Pages, Regular, most_bytes}
+use Rattle.coverage.specs.Rooms.{page_room}
 use Rattle.coverage.specs.Verdicts.{IsLowestNumber, IsPageUnstarted, MustMove}
 use Rattle.index_contents.specs.IndexContents.{IndexContents, room_in_place, tuple_on}
 use Rattle.range_store.specs.declared.putting.Opening.{Opening}
@@ -28,8 +29,8 @@ abbrev pub IsOfRange : List ℕ → ℕ → Type 0
 IsOfRange bytes range = (4 ≤ length bytes) × (number_of (field_at bytes 0 4) ≡ range)
 
 -- a page takes so many bytes: it is one for tuples with that much room, or isn't started
-abbrev pub TakesBytes : Pages → ℕ → ℕ → Type 0
-TakesBytes pages need block = ((pages.kind block ≡ Regular) × (need ≤ pages.room block)) ⊎ IsPageUnstarted pages block
+abbrev pub TakesBytes : Pages → (Spot → Slot) → ℕ → ℕ → Type 0
+TakesBytes pages bytes need block = ((pages.kind block ≡ Regular) × (need ≤ page_room bytes block)) ⊎ IsPageUnstarted pages block
 
 -- no page before one that isn't started is unstarted, too
 abbrev pub IsFirstUnstarted : Pages → ℕ → Type 0
@@ -51,7 +52,7 @@ size_of slot = length (tuple_bytes slot)
 -- or those that are expected stand there, and the new ones have more than the most that may take their place, or the page takes none.
 abbrev pub ShowsMisfit : IndexContents → List ℕ → Spot → List ℕ → ℕ → SwapFault → Type 0
 ShowsMisfit c page x expect size (faults.Changed found at) = (c.bytes x ≡ tuple_from page at found) × (found ≡ size_of (c.bytes x)) × (at ≡ place_on page x.slot) × (c.bytes x ≢ Some expect)
-ShowsMisfit c page x expect size (faults.Full need most_free) = (c.bytes x ≡ Some expect) × MustMove c.pages x size × (need ≡ size) × (most_free ≡ c.pages.room_at x)
+ShowsMisfit c page x expect size (faults.Full need most_free) = (c.bytes x ≡ Some expect) × MustMove c.pages c.bytes x size × (need ≡ size) × (most_free ≡ room_in_place page x.slot)
 ShowsMisfit c page x expect size (faults.Store error) = Unit {0}
 
 -- damage is told by the byte at which the page of the spot begins

@@ -49,7 +49,7 @@ pub fn put<D: Disk + Drop>(
     requires index { index < length pages.old.layout.schema.indexes }
     requires block { block < pages.old.layout.sizes.index_blocks }
     requires size { IsTupleSize (length bytes.now) }
-    requires room { Tells D.told pages.old → TakesBytes (contents pages.old.layout pages.old.pages index).pages (length bytes.now) block }
+    requires room { Tells D.told pages.old → TakesBytes (contents pages.old.layout pages.old.pages index).pages (contents pages.old.layout pages.old.pages index).bytes (length bytes.now) block }
     ensures block { IfOk result (λ spot. spot.block ≡ block) }
     ensures put { IfOk result (λ spot. Tells D.told pages.old → PutsBytes (contents pages.old.layout pages.old.pages index) (contents pages.old.layout pages.new.pages index) spot bytes.now) }
     ensures kept { OnErr result (Keeps D.told pages.old pages.new) }
@@ -61,6 +61,7 @@ pub fn put<D: Disk + Drop>(
     ensures at { IfErr result (NamesPage pages.old.layout (record { relation = relation_of pages.old.layout index; block = block })) }
     ensures outcome { Outcome D.told (Untold D.told pages.old) pages.old pages.new result }
 {
+    pages.known();
     let relation = relation_of(pages.layout(), index);
     match put_on(pages, Place { relation, block }, bytes) {
         Ok(slot) => Ok(Spot { block, slot }),

@@ -6,7 +6,9 @@ ghost use Rattle.page_layout.specs.declared.page.Form.TheVariants as forms;
 ghost use Rattle.page_map.specs.Forms.{form_of};
 ghost use Rattle.page_map.specs.Keeps.{Tells};
 ghost use Rattle.page_map.specs.PageMap.{block_at, block_limit};
+ghost use Rattle.block_model.specs.declared.place.Spot.{Spot};
 ghost use Rattle.index_contents.specs.IndexContents.{contents};
+ghost use Rattle.index_contents.specs.IndexPages.{Slot};
 ghost use Rattle.coverage.specs.IndexView.{Pages};
 ghost use Rattle.coverage.specs.Verdicts.{IsTarget};
 ghost use Rattle.range_store.specs.FirstTarget.{IsFirstTarget};
@@ -22,9 +24,10 @@ use page_store::PageStore;
 pub fn room_for<D: Disk + Drop>(pages: &PageStore<D>, index: u8, bytes: u16) -> Option<u32>
     requires index { index < length pages.now.layout.schema.indexes }
     ensures within { IfSome result (λ block. block < pages.now.layout.sizes.index_blocks) }
-    ensures target { IfSome result (λ block. Tells D.told pages.now → IsTarget (contents pages.now.layout pages.now.pages index).pages bytes block) }
-    ensures none { result ≡ None → Tells D.told pages.now → (block : ℕ) → IsTarget (contents pages.now.layout pages.now.pages index).pages bytes block → ⊥ }
+    ensures target { IfSome result (λ block. Tells D.told pages.now → IsTarget (contents pages.now.layout pages.now.pages index).pages (contents pages.now.layout pages.now.pages index).bytes bytes block) }
+    ensures none { result ≡ None → Tells D.told pages.now → (block : ℕ) → IsTarget (contents pages.now.layout pages.now.pages index).pages (contents pages.now.layout pages.now.pages index).bytes bytes block → ⊥ }
 {
+    pages.known();
     let relation = relation_of(pages.layout(), index);
     first_target(pages, relation, bytes)
 }
@@ -43,6 +46,6 @@ fn first_target<D: Disk + Drop>(pages: &PageStore<D>, relation: u8, need: u16) -
 
 /// The page for a further tuple takes it; and where that isn't started, it is the first one that isn't. Does nothing.
 pub fn a_target_takes_its_tuple()
-    ensures takes { (pages : Pages) (need block : ℕ) → IsTarget pages need block → TakesBytes pages need block }
-    ensures first { (pages : Pages) (need block : ℕ) → IsTarget pages need block → IsFirstUnstarted pages block }
+    ensures takes { (pages : Pages) (bytes : Spot → Slot) (need block : ℕ) → IsTarget pages bytes need block → TakesBytes pages bytes need block }
+    ensures first { (pages : Pages) (bytes : Spot → Slot) (need block : ℕ) → IsTarget pages bytes need block → IsFirstUnstarted pages block }
 {}

@@ -99,7 +99,7 @@ sweeps_there told index block old new slots leaves tells regular put one trims l
     (blocks_stay told old.layout index (record { relation = relation_of old.layout index; block = block }) old new leaves tells) regular put one trims listed
 
 turns_nothing : (pages : Pages) (page : ℕ) → TurnsPage pages pages page (pages.kind page)
-turns_nothing pages page = record { now = refl; kinds = λ p. inr refl; rooms = λ p. inr refl; places = λ x. inr refl; map_pages = refl; limit = refl }
+turns_nothing pages page = record { now = refl; kinds = λ p. inr refl; map_pages = refl; limit = refl }
 
 -- nothing goes where each tuple is named
 pub sweeps_nothing : (c : IndexContents) (block : ℕ) → ((n : ℕ) → IsUnnamedAt c (spot_at block n) → ⊥) → SweepsPage c c block

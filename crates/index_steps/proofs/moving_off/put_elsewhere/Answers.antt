@@ -49,8 +49,8 @@ returns-in-Ok-put g c = λ was.
     let at = (c.relation_of-relation.ensures.number ∙ ap (λ (l : DiskLayout). relation_of l c.args.at.index) c.layout.ensures) in
     let to = c.in-Ok-put.to in
     let here : to.block ≡ c.in-Some.block = c.in-Ok-put.ensures.block in
-    let target : Tells g.D.Disk.told store → IsTarget (contents store.layout store.pages c.args.at.index).pages (length c.args.bytes.now) to.block =
-    λ tells. subst (λ (b : ℕ). IsTarget (contents store.layout store.pages c.args.at.index).pages (length c.args.bytes.now) b) (sym here) (c.in-Some.ensures.target tells) in
+    let target : Tells g.D.Disk.told store → IsTarget (contents store.layout store.pages c.args.at.index).pages (contents store.layout store.pages c.args.at.index).bytes (length c.args.bytes.now) to.block =
+    λ tells. subst (λ (b : ℕ). IsTarget (contents store.layout store.pages c.args.at.index).pages (contents store.layout store.pages c.args.at.index).bytes (length c.args.bytes.now) b) (sym here) (c.in-Some.ensures.target tells) in
     let these = subst (λ (n : ℕ). TakesAll (holder c.args.locks.now) (holder c.take_all.new.self) c.relation_of-relation.result (c.args.from.block ∷ to.block ∷ n ∷ []) c.args.at.actor) c.map_page_of.ensures
     (subst (λ (b : ℕ). TakesAll (holder c.args.locks.now) (holder c.take_all.new.self) c.relation_of-relation.result (c.args.from.block ∷ b ∷ c.map_page_of.result ∷ []) c.args.at.actor) (sym here) c.in-Ok.ensures.taken) in
     done g.D.Disk.told c.args.at.actor (Untold g.D.Disk.told store) (hand_at c.args.at.index stages.Judge was) c.args.bytes.now store c.put.new.pages c.args.locks.now c.take_all.new.self (stages.Set c.args.at.range c.args.from to) (did.Moved points.Put)
@@ -59,5 +59,5 @@ returns-in-Ok-put g c = λ was.
     (takes_apart c.relation_of-relation.result (relation_of store.layout c.args.at.index) c.args.at.actor (holder c.args.locks.now) (holder c.take_all.new.self) (c.args.from.block ∷ c.in-Some.block ∷ c.map_page_of.result ∷ []) at c.in-Ok.ensures.taken)
     (takes_more 3 3 c.args.locks.now c.take_all.new.self c.args.at.actor (omega arith) c.take_all.ensures.limit c.take_all.ensures.counts)
     (λ gives. absurd gives) (λ few. few_more 3 0 3 c.args.locks.now c.take_all.new.self c.args.at.actor c.take_all.ensures.counts few (omega arith))
-    (c.put.ensures.order (λ tells. c.a_target_takes_its_tuple.ensures.first _ _ _ (c.in-Some.ensures.target tells)))
+    (c.put.ensures.order (λ tells. c.a_target_takes_its_tuple.ensures.first _ _ _ _ (c.in-Some.ensures.target tells)))
     c.put.ensures.survives c.in-Ok-put.ensures.outcome

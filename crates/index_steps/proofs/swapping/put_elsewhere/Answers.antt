@@ -59,7 +59,7 @@ returns-in-Ok-put-clause-swapped g c = λ tells w shows none.
     subst (λ (b : ℕ). TakesAll h k r (c.args.spot.block ∷ b ∷ map_page_of at.range ∷ []) at.actor) (sym block)
     (subst (λ (m : ℕ). TakesAll h k r (c.args.spot.block ∷ c.in-Some.block ∷ m ∷ []) at.actor) c.map_page_of.ensures
     (subst (λ (q : ℕ). TakesAll h k q (c.args.spot.block ∷ c.in-Some.block ∷ c.map_page_of.result ∷ []) at.actor) relation c.in-Ok.ensures.taken)) in
-    let target : IsTarget old.pages (length c.args.bytes.now) to.block = subst (λ (b : ℕ). IsTarget old.pages (length c.args.bytes.now) b) (sym block) (c.in-Some.ensures.target tells) in
+    let target : IsTarget old.pages old.bytes (length c.args.bytes.now) to.block = subst (λ (b : ℕ). IsTarget old.pages old.bytes (length c.args.bytes.now) b) (sym block) (c.in-Some.ensures.target tells) in
     let puts = c.in-Ok-put.ensures.put tells in (
       move_goes shape old lock at.actor at.range c.args.spot c.args.copied.now c.args.bytes.now w shows c.requires.free (c.requires.must tells) new to target puts (takes.free to.block (inr (inl refl))) (takes.free (map_page_of at.range) (inr (inr (inl refl)))),
       move_puts shape old lock at.actor at.range c.args.spot c.args.copied.now c.args.bytes.now w shows new to h k r these puts (takes.free to.block (inr (inl refl))) (λ page. refl) takes,
@@ -81,7 +81,7 @@ pub returns-in-Err-clause-survives : goal.returns-in-Err-clause-survives
 returns-in-Err-clause-survives g c = survives_still g.D.Disk.told c.args.pages.now c.known.ensures.stays
 
 pub returns-in-Ok-put-clause-order : goal.returns-in-Ok-put-clause-order
-returns-in-Ok-put-clause-order g c = c.put.ensures.order (λ tells. c.a_target_takes_its_tuple.ensures.first _ _ _ (c.in-Some.ensures.target tells))
+returns-in-Ok-put-clause-order g c = c.put.ensures.order (λ tells. c.a_target_takes_its_tuple.ensures.first _ _ _ _ (c.in-Some.ensures.target tells))
 
 pub returns-in-Err-put-clause-order : goal.returns-in-Err-put-clause-order
-returns-in-Err-put-clause-order g c = c.put.ensures.order (λ tells. c.a_target_takes_its_tuple.ensures.first _ _ _ (c.in-Some.ensures.target tells))
+returns-in-Err-put-clause-order g c = c.put.ensures.order (λ tells. c.a_target_takes_its_tuple.ensures.first _ _ _ _ (c.in-Some.ensures.target tells))

@@ -11,6 +11,7 @@ use Rattle.page_store.specs.SurvivesLaws.{survives_still}
 use Rattle.index_contents.specs.OrderLaws.{order_kept}
 use Rattle.index_contents.specs.OrderedCalls.{keeps_by_tuples, regular_byte}
 use Rattle.range_store.specs.Tuples.{FaultNamesPlace, size_of}
+use Rattle.index_contents.proofs.Relations.{pages_checked}
 use Rattle.range_store.proofs.Found.{nothing_past}
 use Rattle.range_store.proofs.Misfits.{stands_within}
 use Rattle.range_store.proofs.Spots.{misfits_at, none_past, replaces_at}
@@ -32,12 +33,12 @@ returns-in-Ok-clause-misfit g c = λ tells.
 pub returns-in-Ok-replace_on-clause-replaced : goal.returns-in-Ok-replace_on-clause-replaced
 returns-in-Ok-replace_on-clause-replaced g c = λ tells.
     let both = c.in-Ok-replace_on.ensures.replaced tells in
-    replaces_at g.D.Disk.told c.args.index c.relation_of-relation.result c.args.spot c.args.expect.now c.args.bytes.now c.args.pages.now c.replace_on.new.pages (c.relation_of-relation.ensures.number ∙ ap (λ (l : DiskLayout). relation_of l c.args.index) c.layout.ensures) tells c.replace_on.ensures.others both.0 both.1
+    replaces_at g.D.Disk.told c.args.index c.relation_of-relation.result c.args.spot c.args.expect.now c.args.bytes.now c.args.pages.now c.replace_on.new.pages (c.relation_of-relation.ensures.number ∙ ap (λ (l : DiskLayout). relation_of l c.args.index) c.layout.ensures) tells c.replace_on.ensures.others (pages_checked c.args.pages.now.layout c.args.pages.now.pages c.args.index c.requires.index (c.known.ensures.checked tells) c.args.spot.block) both.0 both.1
 
 pub returns-in-Err-replace_on-clause-misfit : goal.returns-in-Err-replace_on-clause-misfit
 returns-in-Err-replace_on-clause-misfit g c = λ tells.
     let store = c.args.pages.now in
-    misfits_at store.layout store.pages c.args.index c.relation_of-relation.result c.args.spot c.args.expect.now (length c.args.bytes.now) c.in-Err-replace_on.fault (c.relation_of-relation.ensures.number ∙ ap (λ (l : DiskLayout). relation_of l c.args.index) c.layout.ensures) (c.in-Err-replace_on.ensures.misfit tells)
+    misfits_at store.layout store.pages c.args.index c.relation_of-relation.result c.args.spot c.args.expect.now (length c.args.bytes.now) c.in-Err-replace_on.fault (c.relation_of-relation.ensures.number ∙ ap (λ (l : DiskLayout). relation_of l c.args.index) c.layout.ensures) (pages_checked store.layout store.pages c.args.index c.requires.index (c.known.ensures.checked tells) c.args.spot.block) (c.in-Err-replace_on.ensures.misfit tells)
 
 pub returns-in-Ok-replace_on-clause-others : goal.returns-in-Ok-replace_on-clause-others
 returns-in-Ok-replace_on-clause-others g c = leaves_others g.D.Disk.told c.args.index (record { relation = c.relation_of-relation.result; block = c.args.spot.block }) c.args.pages.now c.replace_on.new.pages (c.relation_of-relation.ensures.number ∙ ap (λ (l : DiskLayout). relation_of l c.args.index) c.layout.ensures) c.replace_on.ensures.others
