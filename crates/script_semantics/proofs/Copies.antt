@@ -1,4 +1,4 @@
--- an open transaction's copy and marks tell the table where it began
+-- an open transaction's copy and marks tell the table where its view was taken
 use Rattle.std.proofs.Common.{◌≡◌, ℕ, Bool, true, false, not, cond, ◌&&◌, ◌||◌, ◌==◌, inl, inr, List, [], ◌∷◌, ◌++◌, if◌then◌else◌, refl, sym, ap, subst, ◌∙◌, Option, Some, None, is_some, arith, eq-eqb, ne_eqb, append_assoc}
 use Rattle.std.specs.FinMap.{get, contains_key, get-insert, get-remove}
 use Rattle.std.specs.FinSet as set
@@ -20,11 +20,11 @@ use Rattle.block_model.specs.RequestLaws.{effect_by, others_stay, mark_effect}
 use Rattle.block_model.specs.SerialRun.{serial_run, serial_run-append, is_legal, IsLegal}
 use Rattle.block_model.specs.NumberMaps.{found_after_put, found_after_removal, same_Some, none_Some}
 use Rattle.script_semantics.specs.Openings.{NoneOpen, RowsAreEarlier}
-use Rattle.script_semantics.specs.FrontBeginnings.{Began}
+use Rattle.script_semantics.specs.Views.{takes_view, view_front}
 use Rattle.script_semantics.specs.Copies.{IsCopyOf, HasOfOthers, CopiesAreOfTheirFronts}
 use Rattle.script_semantics.proofs.Rows.{same_ids}
 use Rattle.script_semantics.proofs.Commits.{rows_ended}
-use Rattle.script_semantics.proofs.Fronts.{began_on, begins_here, own_number, only_begin, open_transactions_began}
+use Rattle.script_semantics.proofs.Fronts.{begin_takes, no_view, only_begin, others_take_none, view_here, view_stays}
 
 -- ---- tests
 
@@ -121,52 +121,34 @@ own_copy T s e x got legal h = subst (λ (p : DatabaseState × Answer). Stays T 
 
 -- ---- over a journal
 
--- it began where the table was so
-record BeganSo (o : DatabaseState) (journal : List Entry) (n : ℕ) (x : OpenTransaction) : Type 0 where
-  front : Began o journal n x.t
-  copy : IsCopyOf (serial_run o front.before).table x
-
 abbrev AllSo : DatabaseState → List Entry → Type 0
-AllSo o journal = (n : ℕ) (x : OpenTransaction) → get (serial_run o journal).sessions n ≡ Some x → BeganSo o journal n x
+AllSo o journal = (n : ℕ) (x : OpenTransaction) → get (serial_run o journal).sessions n ≡ Some x → IsCopyOf (serial_run o (view_front n journal)).table x
 
--- a front for a number that is the same
-so_by : (o : DatabaseState) (journal : List Entry) (n t : ℕ) (y : OpenTransaction) → y.t ≡ t → (front : Began o journal n t) → IsCopyOf (serial_run o front.before).table y → BeganSo o journal n y
-so_by o journal n t y same front copy = record {
-  front = record {
-    before = front.before;
-    entry = front.entry;
-    behind = front.behind;
-    split = front.split;
-    session = front.session;
-    begins = front.begins;
-    idle = front.idle;
-    number = front.number ∙ sym same;
-  };
-  copy = copy;
-}
+-- within a transaction no view is taken
+within_takes_none : (x : OpenTransaction) (e : Entry) → is_legal_within x e.request e.tag ≡ true → takes_view e.session e ≡ false
+within_takes_none x e legal = no_view e.session e (λ begins. false≢true (ap (λ r. is_legal_within x r e.tag) (sym begins) ∙ legal))
 
 -- from an opening on
 module _ (o : DatabaseState) (none : NoneOpen o) (earlier : RowsAreEarlier o) where
   so_own : (journal : List Entry) (e : Entry) → AllSo o journal → is_legal_request (serial_run o journal) e ≡ true → (found : Option OpenTransaction) → get (serial_run o journal).sessions e.session ≡ found
-      → (y : OpenTransaction) → get (after_request (serial_run o journal) e).sessions e.session ≡ Some y → BeganSo o (journal ++ e ∷ []) e.session y
+      → (y : OpenTransaction) → get (after_request (serial_run o journal) e).sessions e.session ≡ Some y → IsCopyOf (serial_run o (view_front e.session (journal ++ e ∷ []))).table y
   so_own journal e all legal None idle y got =
       let s = serial_run o journal in
       let new = only_begin s e y idle got in
-      so_by o (journal ++ e ∷ []) e.session s.next y (ap (λ (v : OpenTransaction). v.t) new.1) (begins_here o journal e s.next idle new.0 refl)
+      subst (λ (front : List Entry). IsCopyOf (serial_run o front).table y) (sym (view_here e.session journal e (begin_takes e new.0)))
       (subst (IsCopyOf s.table) (sym new.1) (copy_begun s (λ id has. (rows_ended o journal none earlier id has).0)))
   so_own journal e all legal (Some x) was y got =
-      let s = serial_run o journal in
-      let so = all e.session x was in
-      so_by o (journal ++ e ∷ []) e.session x.t y (own_number s e x was y got) (began_on o journal e e.session x.t so.front)
-      (own_copy (serial_run o so.front.before).table s e x was legal so.copy y got)
+      let here : is_legal_within x e.request e.tag ≡ true = ap (λ (f : Option OpenTransaction). is_legal_at f e.request e.tag) (sym was) ∙ legal in
+      subst (λ (front : List Entry). IsCopyOf (serial_run o front).table y) (sym (view_stays e.session journal (e ∷ []) (ap (λ b. b || false) (within_takes_none x e here))))
+      (own_copy (serial_run o (view_front e.session journal)).table (serial_run o journal) e x was legal (all e.session x was) y got)
 
   so_step : (journal : List Entry) (e : Entry) → AllSo o journal → is_legal_request (serial_run o journal) e ≡ true → AllSo o (journal ++ e ∷ [])
   so_step journal e all legal n y found =
       let s = serial_run o journal in
       let got : get (after_request s e).sessions n ≡ Some y = ap (λ (s' : DatabaseState). get s'.sessions n) (sym (serial_run-append o journal (e ∷ []))) ∙ found in
       elim (cases_eq n e.session) [
-        | inl own ↦ subst (λ m. BeganSo o (journal ++ e ∷ []) m y) (sym own) (so_own journal e all legal (get s.sessions e.session) refl y (ap (get (after_request s e).sessions) (sym own) ∙ got))
-        | inr apart ↦ let so = all n y (sym (others_stay s e n apart) ∙ got) in so_by o (journal ++ e ∷ []) n y.t y refl (began_on o journal e n y.t so.front) so.copy
+        | inl own ↦ subst (λ m. IsCopyOf (serial_run o (view_front m (journal ++ e ∷ []))).table y) (sym own) (so_own journal e all legal (get s.sessions e.session) refl y (ap (get (after_request s e).sessions) (sym own) ∙ got))
+        | inr apart ↦ subst (λ (front : List Entry). IsCopyOf (serial_run o front).table y) (sym (view_stays n journal (e ∷ []) (ap (λ b. b || false) (others_take_none n e apart)))) (all n y (sym (others_stay s e n apart) ∙ got))
       ]
 
   so_run : (done rest : List Entry) → is_legal (serial_run o done) rest ≡ true → AllSo o done → AllSo o (done ++ rest)
@@ -177,11 +159,8 @@ module _ (o : DatabaseState) (none : NoneOpen o) (earlier : RowsAreEarlier o) wh
       subst (AllSo o) (append_assoc done (e ∷ []) es)
       (so_run (done ++ e ∷ []) es (ap (λ (s' : DatabaseState). is_legal s' es) (serial_run-append o done (e ∷ [])) ∙ parts.1) (so_step done e all parts.0))
 
-pub copy_of_front : (o : DatabaseState) (journal : List Entry) → NoneOpen o → RowsAreEarlier o → IsLegal o journal → (n : ℕ) (x : OpenTransaction)
-    → get (serial_run o journal).sessions n ≡ Some x → (front : Began o journal n x.t) → IsCopyOf (serial_run o front.before).table x
-copy_of_front o journal none earlier legal n x found front =
-    let so = so_run o none earlier [] journal legal (λ m y got. absurd (none_Some y (sym (none m) ∙ got))) n x found in
-    subst (λ (l : List Entry). IsCopyOf (serial_run o l).table x) (open_transactions_began.once o journal n n x.t so.front front) so.copy
+pub copy_of_front : (o : DatabaseState) (journal : List Entry) → NoneOpen o → RowsAreEarlier o → IsLegal o journal → AllSo o journal
+copy_of_front o journal none earlier legal = so_run o none earlier [] journal legal (λ m y got. absurd (none_Some y (sym (none m) ∙ got)))
 
 -- whose rows it has
 has_of_others : (T : TableState) (x : OpenTransaction) (id : RowId) → IsCopyOf T x → HasOfOthers x id → contains_key T id ≡ true
@@ -191,6 +170,6 @@ has_of_others T x id copy (inr marked) = copy id ∙ or_right (contains_key x.vi
 pub copies_are_of_their_fronts : CopiesAreOfTheirFronts
 copies_are_of_their_fronts = record {
   copy = copy_of_front;
-  ended = λ o journal none earlier legal n x found front id has. rows_ended o front.before none earlier id
-      (has_of_others (serial_run o front.before).table x id (copy_of_front o journal none earlier legal n x found front) has);
+  ended = λ o journal none earlier legal n x found id has. rows_ended o (view_front n journal) none earlier id
+      (has_of_others (serial_run o (view_front n journal)).table x id (copy_of_front o journal none earlier legal n x found) has);
 }

@@ -1,92 +1,91 @@
--- where open transactions began
-use Rattle.std.proofs.Common.{◌≡◌, ℕ, ◌+◌, ◌<◌, ◌≤◌, inl, inr, List, [], ◌∷◌, ◌++◌, refl, sym, ap, subst, ◌∙◌, Option, Some, None, arith, append_assoc}
+-- where sessions took their views
+use Rattle.std.proofs.Common.{◌≡◌, ◌⊎◌, inl, inr, ℕ, ◌==◌, ◌&&◌, ◌||◌, Bool, true, false, if◌then◌else◌, List, [], ◌∷◌, ◌++◌, refl, sym, ap, subst, ◌∙◌, Option, Some, None, eq-eqb, eqb-true, ne_eqb}
+use Rattle.std.specs.List.{list_any}
 use Rattle.std.specs.FinMap.{get}
-use Rattle.std.proofs.lemmas.Bool.{cases_eq}
+use Rattle.std.proofs.Math.Bool.{or-false}
+use Rattle.std.proofs.lemmas.Bool.{and_left, and_parts, and_right, cases_eq, false≢true, or_left, or_right}
 use Rattle.std.proofs.lemmas.List.{append-nil}
+use Rattle.std.proofs.lemmas.List.Folds.{list_any-append}
 use Rattle.block_model.specs.declared.request.Entry.{Entry}
 use Rattle.block_model.specs.declared.request.Request.{Request}
 use Rattle.block_model.specs.declared.request.Request.TheVariants.{Begin, Put, Look, Mark, Commit, Rollback}
 use Rattle.block_model.specs.DatabaseState.{DatabaseState, OpenTransaction}
-use Rattle.block_model.specs.RequestEffect.{Answer, effect_outside, after_request, after_begin, new_transaction, with_transaction, without_transaction}
+use Rattle.block_model.specs.RequestEffect.{Answer, effect_outside, after_request, new_transaction}
 use Rattle.block_model.specs.SerialRun.{serial_run, serial_run-append}
-use Rattle.block_model.specs.NumberMaps.{found_after_put, found_after_removal, same_Some, none_Some}
-use Rattle.block_model.specs.RequestLaws.{effect_by, within_leads, others_stay}
+use Rattle.block_model.specs.NumberMaps.{found_after_put, none_Some}
+use Rattle.block_model.specs.RequestLaws.{effect_by, others_stay}
+use Rattle.script_semantics.specs.DeadRows.{HasEnded}
 use Rattle.script_semantics.specs.Openings.{NoneOpen}
-use Rattle.script_semantics.specs.FrontBeginnings.{Began, OpenTransactionsBegan}
-use Rattle.script_semantics.proofs.Splits.{IsPast, fronts}
-use Rattle.script_semantics.proofs.Steps.{begin_is}
-use Rattle.script_semantics.proofs.Numbers.{run_next, numbered_after}
+use Rattle.script_semantics.specs.Views.{AllTook, Took, takes_a_view, takes_view, view_front}
+use Rattle.script_semantics.specs.ViewsTaken.{IsBeforeLast, ViewsAreTaken}
+use Rattle.script_semantics.proofs.Numbers.{run_ended}
 
-one_of_two : (a b more rest : List Entry) → a ++ more ≡ b → b ++ rest ≡ a → a ≡ b
-one_of_two [] [] more rest on back = refl
-one_of_two [] (y ∷ b) more rest on back = absurd (cc)
-one_of_two (x ∷ a) [] more rest on back = absurd (cc)
-one_of_two (x ∷ a) (y ∷ b) more rest on back =
-    let head : x ≡ y = cc in
-    let first : a ++ more ≡ b = cc in
-    let second : b ++ rest ≡ a = cc in
-    λ i. head i ∷ one_of_two a b more rest first second i
+-- ---- fronts of lists of requests
 
--- a front whose next number isn't above the transaction's goes on to where it began
-past_is_above : (o : DatabaseState) (journal before behind : List Entry) (n t : ℕ) (front : Began o journal n t) → IsPast front.before before behind (front.entry ∷ front.behind) → t < (serial_run o before).next
-past_is_above o journal before behind n t front past =
-    let there = serial_run o front.before in
-    let entry : front.entry ≡ past.entry = (let same = past.next in cc) in
-    let began : after_request there past.entry ≡ after_begin there front.entry.session = ap (after_request there) (sym entry)
-    ∙ begin_is there front.entry (ap (get there.sessions) front.session ∙ front.idle) front.begins in
-    let grown : (after_request there past.entry).next ≡ there.next + 1 = ap (λ (s : DatabaseState). s.next) began in
-    let on = run_next (after_request there past.entry) past.more in
-    let reached : serial_run (after_request there past.entry) past.more ≡ serial_run o before = sym (serial_run-append o front.before (past.entry ∷ past.more)) ∙ ap (serial_run o) past.reaches in
-    let number = front.number in
-    subst (λ (s : DatabaseState). t < s.next) reached (omega (arith, grown, on, number))
+module _ (n : ℕ) where
+  pub takes_own : (e : Entry) → takes_view n e ≡ true → n ≡ e.session
+  takes_own e takes = sym (eqb-true e.session n (and_parts (e.session == n) (takes_a_view e.request) takes).0)
 
-pub goes_on : (o : DatabaseState) (journal before behind : List Entry) (n t : ℕ) (front : Began o journal n t) → before ++ behind ≡ journal → (serial_run o before).next ≤ t → (more : List Entry) × (before ++ more ≡ front.before)
-goes_on o journal before behind n t front split low = elim (fronts before behind front.before (front.entry ∷ front.behind) (split ∙ sym front.split)) [
-  | inl on ↦ (on.0, on.1)
-  | inr past ↦ let above = past_is_above o journal before behind n t front past in absurd (omega (arith, above, low))
-]
+  pub others_take_none : (e : Entry) → (n ≡ e.session → ⊥) → takes_view n e ≡ false
+  others_take_none e apart = and_left (e.session == n) (takes_a_view e.request) (ne_eqb e.session n (λ same. apart (sym same)))
 
-began_once : (o : DatabaseState) (journal : List Entry) (n m t : ℕ) (one : Began o journal n t) (other : Began o journal m t) → one.before ≡ other.before
-began_once o journal n m t one other =
-    let there = goes_on o journal one.before (one.entry ∷ one.behind) m t other one.split (let e = one.number in omega (arith, e)) in
-    let back = goes_on o journal other.before (other.entry ∷ other.behind) n t one other.split (let e = other.number in omega (arith, e)) in
-    one_of_two one.before other.before there.0 back.0 there.1 back.1
+  pub no_view : (e : Entry) → (e.request ≡ Begin → ⊥) → takes_view n e ≡ false
+  no_view e other = and_right (e.session == n) (takes_a_view e.request) (by e.request other)
+    where
+      by : (r : Request) → (r ≡ Begin → ⊥) → takes_a_view r ≡ false
+      by Begin other = absurd (other refl)
+      by (Put values) other = refl
+      by (Look q) other = refl
+      by (Mark id) other = refl
+      by Commit other = refl
+      by Rollback other = refl
 
--- ---- one more request
+  -- behind a front
+  pub view_behind : (before behind : List Entry) → Took n behind → view_front n (before ++ behind) ≡ before ++ view_front n behind
+  view_behind [] behind took = refl
+  view_behind (e ∷ before) behind took =
+      let later : list_any (takes_view n) (before ++ behind) ≡ true = list_any-append (takes_view n) before behind ∙ or_right (list_any (takes_view n) before) (list_any (takes_view n) behind) took in
+      ap (λ b. if b then e ∷ view_front n (before ++ behind) else []) later ∙ ap (λ (l : List Entry). e ∷ l) (view_behind before behind took)
 
-abbrev AllBegan : DatabaseState → List Entry → Type 0
-AllBegan o journal = (n : ℕ) (x : OpenTransaction) → get (serial_run o journal).sessions n ≡ Some x → Began o journal n x.t
+  pub view_here : (journal : List Entry) (e : Entry) → takes_view n e ≡ true → view_front n (journal ++ e ∷ []) ≡ journal
+  view_here journal e takes = view_behind journal (e ∷ []) (ap (λ b. b || false) takes) ∙ append-nil journal
 
-abbrev pub began_on : (o : DatabaseState) (journal : List Entry) (e : Entry) (n t : ℕ) → Began o journal n t → Began o (journal ++ e ∷ []) n t
-began_on o journal e n t front = record {
-  before = front.before;
-  entry = front.entry;
-  behind = front.behind ++ e ∷ [];
-  split = sym (append_assoc front.before (front.entry ∷ front.behind) (e ∷ [])) ∙ ap (λ (l : List Entry). l ++ e ∷ []) front.split;
-  session = front.session;
-  begins = front.begins;
-  idle = front.idle;
-  number = front.number;
-}
+  -- before requests by which it takes none
+  none_taken : (more : List Entry) → list_any (takes_view n) more ≡ false → view_front n more ≡ []
+  none_taken [] none = refl
+  none_taken (e ∷ more) none = elim (list_any (takes_view n) more) as (λ b. (takes_view n e || b) ≡ false → (if b then e ∷ view_front n more else []) ≡ []) [
+    | true ↦ λ is. absurd (false≢true (sym is ∙ or_right (takes_view n e) true refl))
+    | false ↦ λ _. refl
+  ] none
 
--- a session's own request leaves its transaction's number
-abbrev HasNumber : ℕ → ℕ → DatabaseState → Type 0
-HasNumber n t s = (y : OpenTransaction) → get s.sessions n ≡ Some y → y.t ≡ t
+  pub view_stays : (journal more : List Entry) → list_any (takes_view n) more ≡ false → view_front n (journal ++ more) ≡ view_front n journal
+  view_stays [] more none = none_taken more none
+  view_stays (e ∷ journal) more none =
+      let same : list_any (takes_view n) (journal ++ more) ≡ list_any (takes_view n) journal = list_any-append (takes_view n) journal more ∙ ap (λ b. list_any (takes_view n) journal || b) none ∙ or-false (list_any (takes_view n) journal) in
+      λ i. if same i then e ∷ view_stays journal more none i else []
 
-number_put : (s : DatabaseState) (n t : ℕ) (z : OpenTransaction) → z.t ≡ t → HasNumber n t (with_transaction s n z)
-number_put s n t z same y found = elim (found_after_put s.sessions n n z y found) [
-  | inl here ↦ ap (λ (v : OpenTransaction). v.t) (sym here.1) ∙ same
-  | inr there ↦ absurd (there.0 refl)
-]
+  -- the journal goes on behind it
+  pub view_splits : (journal : List Entry) → (rest : List Entry) × (view_front n journal ++ rest ≡ journal)
+  view_splits [] = ([], refl)
+  view_splits (e ∷ journal) = elim (list_any (takes_view n) journal) as (λ b. (rest : List Entry) × ((if b then e ∷ view_front n journal else []) ++ rest ≡ e ∷ journal)) [
+    | true ↦ let later = view_splits journal in (later.0, ap (λ (l : List Entry). e ∷ l) later.1)
+    | false ↦ (e ∷ journal, refl)
+  ]
 
-pub number_over : (s : DatabaseState) (n t : ℕ) → HasNumber n t (without_transaction s n)
-number_over s n t y found = absurd ((found_after_removal s.sessions n n y found).0 refl)
+  before_last : (journal : List Entry) → Took n journal → IsBeforeLast n (view_front n journal) journal
+  before_last [] took = absurd (false≢true took)
+  before_last (e ∷ journal) took = elim (list_any (takes_view n) journal) as (λ b. list_any (takes_view n) journal ≡ b → (takes_view n e || b) ≡ true → IsBeforeLast n (if b then e ∷ view_front n journal else []) (e ∷ journal)) [
+    | true ↦ λ later _. let rest = before_last journal later in record { entry = rest.entry; behind = rest.behind; split = ap (λ (l : List Entry). e ∷ l) rest.split; takes = rest.takes; last = rest.last }
+    | false ↦ λ none takes. record { entry = e; behind = journal; split = refl; takes = sym (or-false (takes_view n e)) ∙ takes; last = none }
+  ] refl took
 
-pub own_number : (s : DatabaseState) (e : Entry) (x : OpenTransaction) → get s.sessions e.session ≡ Some x → HasNumber e.session x.t (after_request s e)
-own_number s e x got = subst (λ (p : DatabaseState × Answer). HasNumber e.session x.t p.0) (sym (effect_by s e (Some x) got))
-    (within_leads (HasNumber e.session x.t) s e.session x (λ y found. ap (λ (v : OpenTransaction). v.t) (same_Some y x (sym found ∙ got)))
-    (λ y same marks. number_put s e.session x.t y same) (λ id y other free same marks. number_put s e.session x.t y same)
-    (number_over s e.session x.t) (λ sound. number_over s e.session x.t) e.table e.request e.tag)
+-- what has ended there has ended behind it
+pub ended_since : (o : DatabaseState) (journal : List Entry) (n t : ℕ) → HasEnded (serial_run o (view_front n journal)) t → HasEnded (serial_run o journal) t
+ended_since o journal n t ended =
+    let rest = view_splits n journal in
+    subst (λ (s : DatabaseState). HasEnded s t) (sym (serial_run-append o (view_front n journal) rest.0) ∙ ap (serial_run o) rest.1) (run_ended (serial_run o (view_front n journal)) rest.0 t ended)
+
+-- ---- open transactions
 
 -- of a session that has none, a begin alone makes one
 pub only_begin : (s : DatabaseState) (e : Entry) (y : OpenTransaction) → get s.sessions e.session ≡ None → get (after_request s e).sessions e.session ≡ Some y → (e.request ≡ Begin) × (y ≡ new_transaction s)
@@ -100,37 +99,36 @@ only_begin s e y idle found = go e.request (ap (λ (p : DatabaseState × Answer)
     go Commit got = absurd (none_Some y (sym idle ∙ got))
     go Rollback got = absurd (none_Some y (sym idle ∙ got))
 
--- it began by this request
-abbrev pub begins_here : (o : DatabaseState) (journal : List Entry) (e : Entry) (t : ℕ) → get (serial_run o journal).sessions e.session ≡ None → e.request ≡ Begin → (serial_run o journal).next ≡ t → Began o (journal ++ e ∷ []) e.session t
-begins_here o journal e t idle begins number = record { before = journal; entry = e; behind = []; split = refl; session = refl; begins = begins; idle = idle; number = number }
+pub begin_takes : (e : Entry) → e.request ≡ Begin → takes_view e.session e ≡ true
+begin_takes e begins = λ i. (eq-eqb e.session e.session refl i) && takes_a_view (begins i)
 
-began_own : (o : DatabaseState) (journal : List Entry) (e : Entry) → AllBegan o journal → (found : Option OpenTransaction) → get (serial_run o journal).sessions e.session ≡ found
-    → (y : OpenTransaction) → get (after_request (serial_run o journal) e).sessions e.session ≡ Some y → Began o (journal ++ e ∷ []) e.session y.t
-began_own o journal e all None idle y got =
-    let new = only_begin (serial_run o journal) e y idle got in
-    begins_here o journal e y.t idle new.0 (ap (λ (v : OpenTransaction). v.t) (sym new.1))
-began_own o journal e all (Some x) was y got =
-    subst (Began o (journal ++ e ∷ []) e.session) (sym (own_number (serial_run o journal) e x was y got)) (began_on o journal e e.session x.t (all e.session x was))
+abbrev HasOne : DatabaseState → ℕ → Type 0
+HasOne s n = (x : OpenTransaction) × (get s.sessions n ≡ Some x)
 
-began_step : (o : DatabaseState) (journal : List Entry) (e : Entry) → AllBegan o journal → AllBegan o (journal ++ e ∷ [])
-began_step o journal e all n y found =
-    let got : get (after_request (serial_run o journal) e).sessions n ≡ Some y = ap (λ (s : DatabaseState). get s.sessions n) (sym (serial_run-append o journal (e ∷ []))) ∙ found in
-    elim (cases_eq n e.session) [
-      | inl own ↦ subst (λ m. Began o (journal ++ e ∷ []) m y.t) (sym own)
-          (began_own o journal e all (get (serial_run o journal).sessions e.session) refl y (ap (get (after_request (serial_run o journal) e).sessions) (sym own) ∙ got))
-      | inr apart ↦ began_on o journal e n y.t (all n y (sym (others_stay (serial_run o journal) e n apart) ∙ got))
-    ]
+-- a session that has one took its view by the request, or had one before
+took_own : (s : DatabaseState) (e : Entry) (was : Option OpenTransaction) → get s.sessions e.session ≡ was → HasOne (after_request s e) e.session → (takes_view e.session e ≡ true) ⊎ HasOne s e.session
+took_own s e None idle one = inl (begin_takes e (only_begin s e one.0 idle one.1).0)
+took_own s e (Some x) was one = inr (x, was)
 
-began_run : (o : DatabaseState) (done rest : List Entry) → AllBegan o done → AllBegan o (done ++ rest)
-began_run o done [] all = subst (AllBegan o) (sym (append-nil done)) all
-began_run o done (e ∷ es) all = subst (AllBegan o) (append_assoc done (e ∷ []) es) (began_run o (done ++ e ∷ []) es (began_step o done e all))
+took_step : (s : DatabaseState) (e : Entry) (n : ℕ) → HasOne (after_request s e) n → (takes_view n e ≡ true) ⊎ HasOne s n
+took_step s e n one = elim (cases_eq n e.session) [
+  | inl own ↦ subst (λ m. HasOne (after_request s e) m → (takes_view m e ≡ true) ⊎ HasOne s m) (sym own) (took_own s e (get s.sessions e.session) refl) one
+  | inr apart ↦ inr (one.0, sym (others_stay s e n apart) ∙ one.1)
+]
 
-pub all_began : (o : DatabaseState) (journal : List Entry) → NoneOpen o → AllBegan o journal
-all_began o journal none = began_run o [] journal (λ n x found. absurd (none_Some x (sym (none n) ∙ found)))
+took_run : (s : DatabaseState) (journal : List Entry) (n : ℕ) → HasOne (serial_run s journal) n → Took n journal ⊎ HasOne s n
+took_run s [] n one = inr one
+took_run s (e ∷ journal) n one = elim (took_run (after_request s e) journal n one) [
+  | inl later ↦ inl (or_right (takes_view n e) (list_any (takes_view n) journal) later)
+  | inr there ↦ elim (took_step s e n there) [ inl here ↦ inl (or_left (takes_view n e) (list_any (takes_view n) journal) here) | inr was ↦ inr was ]
+]
 
-pub open_transactions_began : OpenTransactionsBegan
-open_transactions_began = record {
-  began = all_began;
-  once = began_once;
-  last = λ o journal none n t front m y found. let low = (numbered_after o front.before none).below m y found in subst (λ k. y.t < k) front.number low;
+pub all_took : (o : DatabaseState) (journal : List Entry) → NoneOpen o → AllTook (serial_run o journal) journal
+all_took o journal none n x found = elim (took_run o journal n (x, found)) [ inl took ↦ took | inr was ↦ absurd (none_Some was.0 (sym (none n) ∙ was.1)) ]
+
+pub views_are_taken : ViewsAreTaken
+views_are_taken = record {
+  took = all_took;
+  front = before_last;
+  unended = λ o journal n x found ended. (ended_since o journal n x.t ended).1 (n, x, found, refl);
 }

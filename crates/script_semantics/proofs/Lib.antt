@@ -12,7 +12,7 @@ mod Openings
 mod Rows
 mod Steps
 pub mod Numbers
-mod Splits
+pub mod Splits
 pub mod Fronts
 pub mod Commits
 mod Copies

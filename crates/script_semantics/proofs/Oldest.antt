@@ -1,93 +1,53 @@
--- the oldest open transaction, and the rows that are dead by where it began
-use Rattle.std.proofs.Common.{◌≡◌, ℕ, zero, suc, ◌+◌, ◌<◌, ◌≤◌, true, false, cond, ◌⊎◌, inl, inr, List, [], ◌∷◌, ◌++◌, refl, sym, ap, subst, ◌∙◌, Option, Some, None, arith, eqb-true}
-use Rattle.std.specs.FinMap.{get, entries, find, get-entries}
-use Rattle.std.specs.Ordering.{eq_by_cmp, nat_cmp}
-use Rattle.std.specs.Cmp.{unsigned_tied}
-use Rattle.std.proofs.lemmas.Bool.{cases_eq, cases_lt}
+-- where the oldest view was taken of open transactions, and the rows that are dead by that front
+use Rattle.std.proofs.Common.{◌≡◌, true, false, ◌⊎◌, inl, inr, List, [], ◌∷◌, ◌++◌, refl, sym, ap, subst, ◌∙◌, Some, None, append_assoc, if◌then◌else◌}
+use Rattle.std.specs.List.{list_any}
+use Rattle.std.specs.FinMap.{get}
+use Rattle.std.proofs.lemmas.Bool.{false≢true, or_cases}
 use Rattle.std.proofs.lemmas.List.{append-nil}
 use Rattle.block_model.specs.declared.row.RowId.{RowId}
 use Rattle.block_model.specs.declared.request.Entry.{Entry}
 use Rattle.block_model.specs.DatabaseState.{DatabaseState, OpenTransaction}
 use Rattle.block_model.specs.SerialRun.{serial_run, serial_run-append}
-use Rattle.block_model.specs.NumberMaps.{same_Some, none_Some}
+use Rattle.block_model.specs.NumberMaps.{none_Some}
 use Rattle.script_semantics.specs.Place.{Place, database_at}
-use Rattle.script_semantics.specs.DeadRows.{IsOpen, IsDead, RolledBack, Deleted}
-use Rattle.script_semantics.specs.Openings.{NoneOpen}
+use Rattle.script_semantics.specs.DeadRows.{IsDead, RolledBack, Deleted}
 use Rattle.script_semantics.specs.GoneRows.{IsGone}
 use Rattle.script_semantics.specs.OldestFront.{IsOldestFront, Whole, OfOldest, OldestFrontStands, IsRolledBack, DeadByOldestFront}
+use Rattle.script_semantics.specs.Views.{AllTook, Took, takes_view, view_front}
 use Rattle.script_semantics.proofs.Numbers.{run_gone}
-use Rattle.script_semantics.proofs.Fronts.{goes_on, all_began}
+use Rattle.script_semantics.proofs.Fronts.{all_took, takes_own, view_behind}
 
--- ---- the oldest of some transactions
+-- ---- the oldest view
 
--- all that a list has stand below a number
-record Bounded (es : List (ℕ × OpenTransaction)) : Type 0 where
-  bound : ℕ
-  below : (n : ℕ) (x : OpenTransaction) → find nat_cmp n es ≡ Some x → n < bound
+module _ (o : DatabaseState) (journal : List Entry) where
+  abbrev now : DatabaseState
+  now = serial_run o journal
 
-bounded : (es : List (ℕ × OpenTransaction)) → Bounded es
-bounded [] = record { bound = 0; below = λ n x found. absurd (none_Some x found) }
-bounded (e ∷ es) = let rest = bounded es in record {
-  bound = e.0 + 1 + rest.bound;
-  below = λ n x found. elim (eq_by_cmp nat_cmp n e.0) as (λ b. eq_by_cmp nat_cmp n e.0 ≡ b → cond b (Some e.1) (find nat_cmp n es) ≡ Some x → n < e.0 + 1 + rest.bound) [
-    | true ↦ λ here got. let is : n ≡ e.0 = eqb-true n e.0 (sym (unsigned_tied n e.0) ∙ here) in omega (arith, is)
-    | false ↦ λ away got. let low = rest.below n x got in omega (arith, low)
-  ] refl found;
-}
-
--- of those below a bound
-data OldestBelow (f : ℕ → Option OpenTransaction) (bound : ℕ) : Type 0 where
-  Nobody : ((n : ℕ) (x : OpenTransaction) → n < bound → f n ≡ Some x → ⊥) → OldestBelow f bound
-  Oldest : (n : ℕ) (x : OpenTransaction) → f n ≡ Some x → ((m : ℕ) (y : OpenTransaction) → m < bound → f m ≡ Some y → x.t ≤ y.t) → OldestBelow f bound
-
--- one more
-module _ (f : ℕ → Option OpenTransaction) (bound : ℕ) where
-  by_place : (m : ℕ) (y : OpenTransaction) → m < suc bound → f m ≡ Some y → (P : Type 0) → (m < bound → P) → (f bound ≡ Some y → P) → P
-  by_place m y low got P before here = elim (cases_eq m bound) [
-    | inl is ↦ here (ap f (sym is) ∙ got)
-    | inr apart ↦ before (omega (arith, low, apart))
+  -- all took theirs behind a request, if the request's own session did
+  took_later : (e : Entry) (entries : List Entry) → AllTook now (e ∷ entries) → ((x : OpenTransaction) → get now.sessions e.session ≡ Some x → Took e.session entries) → AllTook now entries
+  took_later e entries all own n x found = elim (or_cases (takes_view n e) (list_any (takes_view n) entries) (all n x found)) [
+    | inl here ↦ let same = takes_own n e here in subst (λ m. Took m entries) (sym same) (own x (ap (get now.sessions) (sym same) ∙ found))
+    | inr later ↦ later
   ]
 
-  more_free : f bound ≡ None → OldestBelow f bound → OldestBelow f (suc bound)
-  more_free free (Nobody none) = Nobody (λ m y low got. by_place m y low got ⊥ (λ before. none m y before got) (λ here. none_Some y (sym free ∙ here)))
-  more_free free (Oldest n x found oldest) = Oldest n x found (λ m y low got. by_place m y low got (x.t ≤ y.t) (λ before. oldest m y before got) (λ here. absurd (none_Some y (sym free ∙ here))))
-
-  number : (z y : OpenTransaction) → f bound ≡ Some z → f bound ≡ Some y → z.t ≡ y.t
-  number z y found here = ap (λ (v : OpenTransaction). v.t) (same_Some z y (sym found ∙ here))
-
-  more_taken : (z : OpenTransaction) → f bound ≡ Some z → OldestBelow f bound → OldestBelow f (suc bound)
-  more_taken z taken (Nobody none) = Oldest bound z taken (λ m y low got. by_place m y low got (z.t ≤ y.t) (λ before. absurd (none m y before got)) (λ here. let is = number z y taken here in omega (arith, is)))
-  more_taken z taken (Oldest n x found oldest) = elim (cases_lt z.t x.t) [
-    | inl younger ↦ Oldest bound z taken (λ m y low got. by_place m y low got (z.t ≤ y.t) (λ before. let e = oldest m y before got in omega (arith, e, younger)) (λ here. let is = number z y taken here in omega (arith, is)))
-    | inr older ↦ Oldest n x found (λ m y low got. by_place m y low got (x.t ≤ y.t) (λ before. oldest m y before got) (λ here. let is = number z y taken here in omega (arith, is, older)))
-  ]
-
-  more : (o : Option OpenTransaction) → f bound ≡ o → OldestBelow f bound → OldestBelow f (suc bound)
-  more None free rest = more_free free rest
-  more (Some z) taken rest = more_taken z taken rest
-
-oldest_below : (f : ℕ → Option OpenTransaction) (bound : ℕ) → OldestBelow f bound
-oldest_below f zero = Nobody (λ n x low got. omega (arith, low))
-oldest_below f (suc k) = more f k (f k) refl (oldest_below f k)
-
--- ---- where it began
-
-by_oldest : (o : DatabaseState) (journal : List Entry) → NoneOpen o → (b : Bounded (entries (serial_run o journal).sessions)) → OldestBelow (get (serial_run o journal).sessions) b.bound → (before : List Entry) × IsOldestFront o journal before
-by_oldest o journal none b (Nobody nobody) =
-    let s = serial_run o journal in
-    (journal, Whole (λ t under_way. nobody under_way.0 under_way.1 (b.below under_way.0 under_way.1 (sym (get-entries s.sessions under_way.0) ∙ under_way.2)) under_way.2) refl)
-by_oldest o journal none b (Oldest n x found oldest) =
-    let s = serial_run o journal in
-    let front = all_began o journal none n x found in (
-      front.before,
-      OfOldest n x found
-          (λ t under_way. subst (λ k. x.t ≤ k) under_way.3 (oldest under_way.0 under_way.1 (b.below under_way.0 under_way.1 (sym (get-entries s.sessions under_way.0) ∙ under_way.2)) under_way.2)) front refl,
-    )
+  from_front : (before behind : List Entry) → before ++ behind ≡ journal → AllTook now behind → (front : List Entry) × IsOldestFront o journal front
+  from_front before [] split all = (journal, Whole (λ t under_way. false≢true (all under_way.0 under_way.1 under_way.2)) refl)
+  from_front before (e ∷ entries) split all =
+      let on : AllTook now entries → (front : List Entry) × IsOldestFront o journal front = from_front (before ++ e ∷ []) entries (append_assoc before (e ∷ []) entries ∙ split) in
+      elim (get now.sessions e.session) as (λ found. get now.sessions e.session ≡ found → (front : List Entry) × IsOldestFront o journal front) [
+        | None ↦ λ idle. on (took_later e entries all (λ x found. absurd (none_Some x (sym idle ∙ found))))
+        | Some x ↦ λ found. elim (list_any (takes_view e.session) entries) as (λ later. list_any (takes_view e.session) entries ≡ later → (front : List Entry) × IsOldestFront o journal front) [
+          | true ↦ λ later. on (took_later e entries all (λ _ _. later))
+          | false ↦ λ last. (
+            before,
+            OfOldest e.session x found (sym (ap (view_front e.session) (sym split) ∙ view_behind e.session before (e ∷ entries) (all e.session x found)
+                ∙ ap (λ b. before ++ (if b then e ∷ view_front e.session entries else [])) last ∙ append-nil before)) (e ∷ entries) split all,
+          )
+        ] refl
+      ] refl
 
 pub oldest_front_stands : OldestFrontStands
-oldest_front_stands o journal none =
-    let b = bounded (entries (serial_run o journal).sessions) in
-    by_oldest o journal none b (oldest_below (get (serial_run o journal).sessions) b.bound)
+oldest_front_stands o journal none = from_front o journal [] journal refl (all_took o journal none)
 
 -- ---- what is dead
 
@@ -97,20 +57,18 @@ gone_on o before more later id is gone = subst (λ (s : DatabaseState). IsGone s
 
 module _ (p : Place) (id : RowId) where
   deleted_is_gone : (at : List Entry) → IsOldestFront p.opening p.journal at → (before behind : List Entry) → before ++ behind ≡ p.journal → IsGone (serial_run p.opening before) id
-      → ((t : ℕ) → IsOpen (database_at p) t → (serial_run p.opening before).next ≤ t) → IsGone (serial_run p.opening at) id
-  deleted_is_gone at (Whole none is) before behind split gone first = gone_on p.opening before behind at id (split ∙ sym is) gone
-  deleted_is_gone at (OfOldest n x found oldest front is) before behind split gone first =
-      let on = goes_on p.opening p.journal before behind n x.t front split (first x.t (n, x, found, refl)) in
-      gone_on p.opening before on.0 at id (on.1 ∙ sym is) gone
+      → AllTook (database_at p) behind → IsGone (serial_run p.opening at) id
+  deleted_is_gone at (Whole none is) before behind split gone all = gone_on p.opening before behind at id (split ∙ sym is) gone
+  deleted_is_gone at (OfOldest n x found is _ _ _) before behind split gone all =
+      gone_on p.opening before (view_front n behind) at id (sym (view_behind n before behind (all n x found)) ∙ ap (view_front n) split ∙ sym is) gone
 
   dead_is_told : (at : List Entry) → IsOldestFront p.opening p.journal at → IsDead p id → IsRolledBack p id.t ⊎ IsGone (serial_run p.opening at) id
   dead_is_told at front (RolledBack since ended uncommitted) = inl (record { since = since; ended = ended; uncommitted = uncommitted })
-  dead_is_told at front (Deleted before behind split ended absent first) = inr (deleted_is_gone at front before behind split (record { ended = ended; absent = absent }) first)
+  dead_is_told at front (Deleted before behind split ended absent all) = inr (deleted_is_gone at front before behind split (record { ended = ended; absent = absent }) all)
 
   gone_is_dead : (at : List Entry) → IsOldestFront p.opening p.journal at → IsGone (serial_run p.opening at) id → IsDead p id
-  gone_is_dead at (Whole none is) gone = Deleted at [] (append-nil at ∙ is) gone.ended gone.absent (λ t under_way. absurd (none t under_way))
-  gone_is_dead at (OfOldest n x found oldest front is) gone = Deleted at (front.entry ∷ front.behind) (ap (λ (l : List Entry). l ++ front.entry ∷ front.behind) is ∙ front.split) gone.ended gone.absent
-      (λ t under_way. subst (λ k. k ≤ t) (sym (ap (λ (l : List Entry). (serial_run p.opening l).next) is ∙ front.number)) (oldest t under_way))
+  gone_is_dead at (Whole none is) gone = Deleted at [] (append-nil at ∙ is) gone.ended gone.absent (λ n x found. absurd (none x.t (n, x, found, refl)))
+  gone_is_dead at (OfOldest n x found is behind split all) gone = Deleted at behind split gone.ended gone.absent all
 
   told_is_dead : (at : List Entry) → IsOldestFront p.opening p.journal at → IsRolledBack p id.t ⊎ IsGone (serial_run p.opening at) id → IsDead p id
   told_is_dead at front (inl rolled) = RolledBack rolled.since rolled.ended rolled.uncommitted

@@ -1,4 +1,4 @@
--- What an open transaction's copy and marks tell of the table as it was when the transaction began.
+-- What an open transaction's copy and marks tell of the table as it was when its view was taken.
 use Rattle.std.specs.Prelude.{◌≡◌, ◌⊎◌, ℕ, true, false, not, ◌&&◌, ◌||◌, List, Some}
 use Rattle.std.specs.FinMap as map
 use Rattle.std.specs.FinSet as set
@@ -10,7 +10,7 @@ use Rattle.block_model.specs.RequestEffect.{is_own}
 use Rattle.block_model.specs.SerialRun.{serial_run, IsLegal}
 use Rattle.script_semantics.specs.DeadRows.{HasEnded}
 use Rattle.script_semantics.specs.Openings.{NoneOpen, RowsAreEarlier}
-use Rattle.script_semantics.specs.FrontBeginnings.{Began}
+use Rattle.script_semantics.specs.Views.{view_front}
 
 -- the table has exactly the rows of others that are in the copy, and those that the transaction marked
 abbrev pub IsCopyOf : TableState → OpenTransaction → Type 0
@@ -20,10 +20,10 @@ IsCopyOf table x = (id : RowId) → map.contains_key table id ≡ ((map.contains
 abbrev pub HasOfOthers : OpenTransaction → RowId → Type 0
 HasOfOthers x id = ((map.contains_key x.view id ≡ true) × (is_own x id ≡ false)) ⊎ (set.contains x.marks id ≡ true)
 
--- By a legal journal from an opening on each open transaction has a copy of the table at its front, and the transactions
+-- By a legal journal from an opening on each open transaction has a copy of the table where its view was taken, and the transactions
 -- whose rows it has had ended there.
 pub record CopiesAreOfTheirFronts : Type 0 where
   pub copy : (o : DatabaseState) (journal : List Entry) → NoneOpen o → RowsAreEarlier o → IsLegal o journal → (n : ℕ) (x : OpenTransaction)
-      → map.get (serial_run o journal).sessions n ≡ Some x → (front : Began o journal n x.t) → IsCopyOf (serial_run o front.before).table x
+      → map.get (serial_run o journal).sessions n ≡ Some x → IsCopyOf (serial_run o (view_front n journal)).table x
   pub ended : (o : DatabaseState) (journal : List Entry) → NoneOpen o → RowsAreEarlier o → IsLegal o journal → (n : ℕ) (x : OpenTransaction)
-      → map.get (serial_run o journal).sessions n ≡ Some x → (front : Began o journal n x.t) → (id : RowId) → HasOfOthers x id → HasEnded (serial_run o front.before) id.t
+      → map.get (serial_run o journal).sessions n ≡ Some x → (id : RowId) → HasOfOthers x id → HasEnded (serial_run o (view_front n journal)) id.t

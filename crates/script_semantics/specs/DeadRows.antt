@@ -7,6 +7,7 @@ use Rattle.block_model.specs.declared.request.Request.TheVariants as requests
 use Rattle.block_model.specs.DatabaseState.{DatabaseState, OpenTransaction}
 use Rattle.block_model.specs.SerialRun.{serial_run}
 use Rattle.script_semantics.specs.Place.{Place, database_at}
+use Rattle.script_semantics.specs.Views.{AllTook}
 
 abbrev pub IsOpen : DatabaseState → ℕ → Type 0
 IsOpen s t = (n : ℕ) × (x : OpenTransaction) × (map.get s.sessions n ≡ Some x) × (x.t ≡ t)
@@ -27,10 +28,10 @@ pub record IsCommitted (p : Place) (t : ℕ) : Type 0 where
   pub number : transaction.t ≡ t
   pub sound : transaction.failed ≡ false
 
--- It was put by a transaction that was rolled back since the opening; or before all that are open now began, its transaction
--- had ended and it wasn't in the table.
+-- It was put by a transaction that was rolled back since the opening; or at a front of the journal, behind which all that are
+-- open now took their views, its transaction had ended and it wasn't in the table.
 pub data IsDead (p : Place) (id : RowId) : Type 0 where
   RolledBack : p.opening.next ≤ id.t → HasEnded (database_at p) id.t → (IsCommitted p id.t → ⊥) → IsDead p id
   Deleted : (before behind : List Entry) → before ++ behind ≡ p.journal → HasEnded (serial_run p.opening before) id.t
       → map.contains_key (serial_run p.opening before).table id ≡ false
-      → ((t : ℕ) → IsOpen (database_at p) t → (serial_run p.opening before).next ≤ t) → IsDead p id
+      → AllTook (database_at p) behind → IsDead p id

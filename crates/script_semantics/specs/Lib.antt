@@ -12,7 +12,8 @@ pub mod Laws
 pub mod Openings
 pub mod Numbers
 pub mod GoneRows
-pub mod FrontBeginnings
+pub mod Views
+pub mod ViewsTaken
 pub mod Copies
 pub mod OldestFront
 pub mod Commits

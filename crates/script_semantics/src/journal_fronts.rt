@@ -1,13 +1,13 @@
-//! What a journal of requests has where its open transactions began. From an opening in which none is open, numbers rise, a
-//! row that is gone stays gone, and each open transaction's copy and marks tell what the table was when it began; so the rows
-//! that nobody can see any more are told by the front at which the oldest open transaction began. Each law is a function that
+//! What a journal of requests has where its open transactions took their views. From an opening in which none is open, numbers
+//! rise, a row that is gone stays gone, and each open transaction's copy and marks tell what the table was where its view was taken;
+//! so the rows that nobody can see any more are told by the front at which the oldest view was taken. Each law is a function that
 //! does nothing: its contract is the law, and whoever calls it may use it. It stands on block_model and script_semantics, whose
 //! definition of dead rows two laws are about. session_maintenance stands on it, for a vacuum whose steps a store makes.
 
 ghost use Rattle.script_semantics.specs.Openings.{NewIsOpening};
 ghost use Rattle.script_semantics.specs.Numbers.{NumbersRise};
 ghost use Rattle.script_semantics.specs.GoneRows.{GoneRowsStayGone};
-ghost use Rattle.script_semantics.specs.FrontBeginnings.{OpenTransactionsBegan};
+ghost use Rattle.script_semantics.specs.ViewsTaken.{ViewsAreTaken};
 ghost use Rattle.script_semantics.specs.Copies.{CopiesAreOfTheirFronts};
 ghost use Rattle.script_semantics.specs.OldestFront.{OldestFrontStands, DeadByOldestFront};
 ghost use Rattle.script_semantics.specs.Commits.{CommitsStand};
@@ -31,18 +31,18 @@ pub fn gone_rows_stay_gone()
     ensures { GoneRowsStayGone }
 {}
 
-/// Each open transaction began at one front of the journal, where all that were open had lower numbers.
-pub fn open_transactions_began()
-    ensures { OpenTransactionsBegan }
+/// Each open transaction's session took its last view at one front of the journal, where the transaction hadn't ended.
+pub fn views_are_taken()
+    ensures { ViewsAreTaken }
 {}
 
-/// Where an open transaction began, the table had exactly the rows of others that its copy has now, and those that it marked;
-/// and the transactions that put these had ended.
+/// Where an open transaction's view was taken, the table had exactly the rows of others that its copy has now, and those that it
+/// marked; and the transactions that put these had ended.
 pub fn copies_are_of_their_fronts()
     ensures { CopiesAreOfTheirFronts }
 {}
 
-/// Each journal has a front at which its oldest open transaction began.
+/// Each journal has a front at which the oldest view was taken of its open transactions.
 pub fn oldest_front_stands()
     ensures { OldestFrontStands }
 {}

@@ -5,7 +5,7 @@ use Rattle.std.specs.List.{list_all}
 use Rattle.std.specs.Option.{is_some}
 use Rattle.std.specs.FinMap as map
 use Rattle.std.specs.FinSet as set
-use Rattle.std.proofs.lemmas.Bool.{and_from, and_parts, cases_eq, cases_lt, eqb-true, false_from_ne_true, false≢true, ne_eqb, not_from_false, not_from_true, or_cases, or_left, or_right, true_from_ne_false, true≢false}
+use Rattle.std.proofs.lemmas.Bool.{and_from, and_parts, and_right, cases_lt, eqb-true, false_from_ne_true, false≢true, ne_eqb, not_from_false, not_from_true, or_cases, or_left, or_right, true_from_ne_false, true≢false}
 use Rattle.std.proofs.lemmas.Map.Entries.{option_filter}
 use Rattle.block_model.specs.declared.place.Spot.{Spot}
 use Rattle.block_model.specs.declared.request.Entry.{Entry}
@@ -44,7 +44,7 @@ use Rattle.vacuum_core.specs.DeadRows.{DropsTheDead, Living, is_dead, living}
 use Rattle.vacuum_core.specs.TableSteps.{has_gone}
 use Rattle.script_semantics.specs.DeadRows.{Deleted, HasEnded, IsDead, IsOpen, RolledBack as ByRollback}
 use Rattle.script_semantics.specs.Place.{Place, database_at}
-use Rattle.script_semantics.specs.FrontBeginnings.{Began, OpenTransactionsBegan}
+use Rattle.script_semantics.specs.Views.{AllTook, view_front}
 use Rattle.script_semantics.specs.Copies.{CopiesAreOfTheirFronts}
 use Rattle.script_semantics.specs.GoneRows.{IsGone}
 use Rattle.script_semantics.specs.Numbers.{NumbersRise}
@@ -54,10 +54,10 @@ use Rattle.session_parts.specs.ShowsPlace.{IsPlaceOf}
 use Rattle.session_parts.specs.StoreStates.{ShownStore}
 use Rattle.session_maintenance.specs.DeadToAll.{DeadToAllIsDead, DropsTheDeadByJournal, OldestSpeaksForAll, living_of, oldest_snapshots, snapshots_of}
 use Rattle.session_parts.specs.FrontsStand.{FrontsStand}
-use Rattle.session_maintenance.proofs.Fronts.{goes_on}
-use Rattle.session_maintenance.proofs.Oldest.{all_snapshots, of_oldest, oldest_among, oldest_is_below, oldest_is_open}
+use Rattle.script_semantics.proofs.Fronts.{all_took, view_behind}
+use Rattle.session_maintenance.proofs.Oldest.{all_snapshots, each_snapshot, had_ended_then, of_oldest, oldest_among, oldest_is_below, oldest_is_open}
 use Rattle.session_parts.proofs.Rows.{row_is_version, version_is_row}
-use Rattle.session_parts.proofs.Snapshots.{StandsIn, is_of_open, is_open, its_front}
+use Rattle.session_parts.proofs.Snapshots.{has_ended, is_of_open, is_open}
 
 -- ---- statuses
 
@@ -79,10 +79,6 @@ neither Unused used ended uncommitted = absurd (used refl)
 neither Begun used ended uncommitted = absurd (ended refl)
 neither Committed used ended uncommitted = absurd (true≢false uncommitted)
 neither RolledBack used ended uncommitted = refl
-
-and_none : (b : Bool) → (b && false) ≡ false
-and_none true = refl
-and_none false = refl
 
 -- ---- a row of a table
 
@@ -125,7 +121,7 @@ module _ (s : ShownStore) (p : Place) (shown : IsPlaceOf s p) (table : ℕ) (spo
   known = (whole shows).known row.id version there_stored
 
   used : put ≢ Unused
-  used = shows.used row.id version there_stored
+  used = (shows.used row.id version there_stored).put
 
   as_given : (u : ℕ) → status_of gs u ≡ status u
   as_given u = status_given t.tx shows.stored u shows.next
@@ -141,14 +137,14 @@ module _ (s : ShownStore) (p : Place) (shown : IsPlaceOf s p) (table : ℕ) (spo
   ended_not_begun : (u : ℕ) → HasEnded db u → status u ≢ Begun
   ended_not_begun u ended begun = (whole shows).begun u (λ n o was same. ended.1 (is_open t db have u (n, o, was, sym same))) (as_given u ∙ begun)
 
-  -- a deleter that has committed is one, and so has who put the row
+  -- a deleter that has committed is one, and who put the row is under way no more
   deleted_by_one : is_committed gone ≡ true → row.deleter ≢ 0
   deleted_by_one is none = false≢true (sym (ap is_committed (given_none t.tx.first shows.stored row.deleter none)) ∙ is)
 
-  put_committed : is_committed gone ≡ true → is_committed put ≡ true
-  put_committed is = true_from_ne_false (is_committed put) (λ uncommitted.
-      let own : row.deleter ≡ row.id.t = known.own (ap is_committed (as_given row.id.t) ∙ uncommitted) (deleted_by_one is) in
-      false≢true (sym uncommitted ∙ ap (λ u. is_committed (status u)) (sym own) ∙ is))
+  put_not_begun : is_committed gone ≡ true → put ≢ Begun
+  put_not_begun is begun =
+      let own : row.deleter ≡ row.id.t = known.own (as_given row.id.t ∙ begun) (deleted_by_one is) in
+      committed_not_begun gone is (ap status own ∙ begun)
 
   -- the table has the row exactly where a commit put it, and none deleted it
   absent_now : is_committed gone ≡ true → map.contains_key db.table row.id ≡ false
@@ -170,7 +166,7 @@ module _ (s : ShownStore) (p : Place) (shown : IsPlaceOf s p) (table : ℕ) (spo
     rolled_early : is_rolled_back put ≡ true → row.id.t < p.opening.next → IsDead p row.id
     rolled_early is low = Deleted [] p.journal refl (low, λ under_way. absurd (let none : None ≡ Some under_way.1 = sym (stands.none_open under_way.0) ∙ under_way.2 in cc))
         (false_from_ne_true (map.contains_key p.opening.table row.id) (λ has. false≢true (sym (rolled_back put is) ∙ stands.opening row.id has)))
-        (λ u under_way. subst (λ k. p.opening.next ≤ k) under_way.3 ((numbers.numbered p.opening p.journal stands.none_open).since under_way.0 under_way.1 under_way.2))
+        (all_took p.opening p.journal stands.none_open)
 
     rolled_late : is_rolled_back put ≡ true → p.opening.next ≤ row.id.t → IsDead p row.id
     rolled_late is since = ByRollback since (put_below, λ under_way. rolled_not_begun put is (open_has_begun row.id.t under_way))
@@ -179,38 +175,20 @@ module _ (s : ShownStore) (p : Place) (shown : IsPlaceOf s p) (table : ℕ) (spo
     rolled_is_dead : is_rolled_back put ≡ true → IsDead p row.id
     rolled_is_dead is = elim (cases_lt row.id.t p.opening.next) [ inl low ↦ rolled_early is low | inr since ↦ rolled_late is since ]
 
-  -- ---- deleted for all, by the snapshot of the oldest
+  -- ---- deleted for all
 
-  module _ (is : is_committed gone ≡ true) (so : list_all (λ sn. in_snapshot sn row.deleter gone) (oldest_snapshots t.opens) ≡ true) where
+  module _ (is : is_committed gone ≡ true) (so : list_all (λ sn. in_snapshot sn row.deleter gone) (snapshots_of t.opens) ≡ true) where
     other_deleter : (n : ℕ) (o : Open) → transaction_of t.opens n ≡ Some o → row.deleter ≢ o.t
     other_deleter n o was same = committed_not_begun gone is (ap status same ∙ (open_one shows n o was).given)
 
-    -- no open transaction is older than this session's
-    module _ (n : ℕ) (x : OpenTransaction) (found : map.get db.sessions n ≡ Some x) (first : (u : ℕ) → IsOpen db u → x.t ≤ u) where
+    module _ (n : ℕ) (x : OpenTransaction) (found : map.get db.sessions n ≡ Some x) where
       abbrev opened : (o : Open) × (transaction_of t.opens n ≡ Some o) × IsCopyOf o x
       opened = have.opened n x found
 
-      -- so it is the oldest, since no other has its number
-      had_from : (m : ℕ) (o : Open) → transaction_of t.opens m ≡ Some o → o.t ≤ opened.0.t → had_ended o.snapshot row.deleter ≡ true → had_ended opened.0.snapshot row.deleter ≡ true
-      had_from m o was low had = elim (cases_eq m n) [
-        | inl same ↦
-            let one : Some o ≡ Some opened.0 = sym was ∙ ap (transaction_of t.opens) same ∙ opened.1 in
-            let alike : o ≡ opened.0 = cc in
-            subst (λ (o : Open). had_ended o.snapshot row.deleter ≡ true) alike had
-        | inr apart ↦
-            let above : x.t ≤ o.t = first o.t (is_open t db have o.t (m, o, was, refl)) in
-            let number : x.t ≡ opened.0.t = opened.2.t in
-            absurd (((whole shows).apart m n o opened.0 was opened.1 apart).differ (omega (arith, low, above, number)))
-      ]
-
       had_deleter : had_ended opened.0.snapshot row.deleter ≡ true
-      had_deleter =
-          let oldest = oldest_is_below t.opens n opened.0 opened.1 in
-          let at = oldest_is_open t.opens oldest.0 oldest.1 in
-          had_from at.0 oldest.0 at.1 oldest.2
-          (and_parts (is_committed gone) (had_ended oldest.0.snapshot row.deleter) (of_oldest t.opens (λ sn. in_snapshot sn row.deleter gone) so oldest.0 oldest.1)).1
+      had_deleter = (and_parts (is_committed gone) (had_ended opened.0.snapshot row.deleter) (each_snapshot t.opens (λ sn. in_snapshot sn row.deleter gone) so n opened.0 opened.1)).1
 
-      had_put : had_ended opened.0.snapshot row.id.t ≡ true
+    had_put : had_ended opened.0.snapshot row.id.t ≡ true
       had_put = stands.deleters table spot row below there (deleted_by_one is) n opened.0 opened.1 had_deleter
 
       deletion_done : has_done opened.0.snapshot opened.0.t row.deleter gone ≡ true
@@ -218,7 +196,7 @@ module _ (s : ShownStore) (p : Place) (shown : IsPlaceOf s p) (table : ℕ) (spo
 
       not_in_view : map.contains_key x.view row.id ≡ false
       not_in_view = (seen_in_copy s.layout s.pages t db shows.stored n table opened.0 x spot row shows shows.has opened.1 found below there).seen
-          ∙ ap (λ b. has_done opened.0.snapshot opened.0.t row.id.t put && not b) deletion_done ∙ and_none (has_done opened.0.snapshot opened.0.t row.id.t put)
+          ∙ ap (λ b. has_done opened.0.snapshot opened.0.t row.id.t put && not b) deletion_done ∙ and_right (has_done opened.0.snapshot opened.0.t row.id.t put) false refl
 
       not_in_marks : set.contains x.marks row.id ≡ false
       not_in_marks = ap (λ (x : OpenTransaction). set.contains x.marks row.id) (copy_is shows n opened.0 x opened.1 found)
@@ -226,23 +204,19 @@ module _ (s : ShownStore) (p : Place) (shown : IsPlaceOf s p) (table : ℕ) (spo
           ∙ ap (λ (o : Option Version). is_some (option_filter (is_marked opened.0) o)) there_stored
           ∙ ap (λ b. is_some (cond (b && not (eqb row.id.t opened.0.t)) (Some version) None)) (ne_eqb row.deleter opened.0.t (other_deleter n opened.0 opened.1))
 
-      -- so the table at its front lacks the row
-      absent_at_front : CopiesAreOfTheirFronts → (front : Began p.opening p.journal n x.t) → map.contains_key (serial_run p.opening front.before).table row.id ≡ false
-      absent_at_front copies front = copies.copy p.opening p.journal stands.none_open stands.earlier shown.legal n x found front row.id
-          ∙ ap (λ b. (b && not (is_own x row.id)) || set.contains x.marks row.id) not_in_view ∙ not_in_marks
-
-      ended_at_front : (front : Began p.opening p.journal n x.t) → HasEnded (serial_run p.opening front.before) row.id.t
-      ended_at_front front =
-          let at : StandsIn p n x.t opened.0.snapshot = subst (λ k. StandsIn p n k opened.0.snapshot) (sym opened.2.t) (stands.snapshots n opened.0 opened.1) in
-          (at front row.id.t).0 had_put
+      -- so the table where its view was taken lacks the row
+      gone_at_front : CopiesAreOfTheirFronts → IsGone (serial_run p.opening (view_front n p.journal)) row.id
+      gone_at_front copies = record {
+        ended = (has_ended opened.0.snapshot (serial_run p.opening (view_front n p.journal)) (stands.snapshots n opened.0 opened.1) row.id.t).0 had_put;
+        absent = copies.copy p.opening p.journal stands.none_open stands.earlier shown.legal n x found row.id ∙ ap (λ b. (b && not (is_own x row.id)) || set.contains x.marks row.id) not_in_view ∙ not_in_marks;
+      }
 
     gone_now : IsGone db row.id
-    gone_now = record { ended = (put_below, λ under_way. committed_not_begun put (put_committed is) (open_has_begun row.id.t under_way)); absent = absent_now is }
+    gone_now = record { ended = (put_below, λ under_way. put_not_begun is (open_has_begun row.id.t under_way)); absent = absent_now is }
 
     gone_at : CopiesAreOfTheirFronts → (before : List Entry) → IsOldestFront p.opening p.journal before → IsGone (serial_run p.opening before) row.id
     gone_at copies before (Whole none same) = subst (λ (l : List Entry). IsGone (serial_run p.opening l) row.id) (sym same) gone_now
-    gone_at copies before (OfOldest n x found first front same) = subst (λ (l : List Entry). IsGone (serial_run p.opening l) row.id) (sym same)
-        (record { ended = ended_at_front n x found first front; absent = absent_at_front n x found first copies front })
+    gone_at copies before (OfOldest n x found same _ _ _) = subst (λ (l : List Entry). IsGone (serial_run p.opening l) row.id) (sym same) (gone_at_front n x found copies)
 
     deleted_is_dead : CopiesAreOfTheirFronts → OldestFrontStands → DeadByOldestFront → IsDead p row.id
     deleted_is_dead copies oldest by_front =
@@ -254,8 +228,7 @@ module _ (s : ShownStore) (p : Place) (shown : IsPlaceOf s p) (table : ℕ) (spo
   put_rolled : HasEnded db row.id.t → is_committed put ≡ false → is_rolled_back put ≡ true
   put_rolled ended uncommitted = neither put used (ended_not_begun row.id.t ended) uncommitted
 
-  module _ (laws : OpenTransactionsBegan) (numbers : NumbersRise) (before behind : List Entry) (split : before ++ behind ≡ p.journal) (ended : HasEnded (serial_run p.opening before) row.id.t)
-      (first : (u : ℕ) → IsOpen db u → (serial_run p.opening before).next ≤ u) (unseen : IsUnseen db row.id) (committed : is_committed put ≡ true) where
+  module _ (numbers : NumbersRise) (before behind : List Entry) (split : before ++ behind ≡ p.journal) (ended : HasEnded (serial_run p.opening before) row.id.t) (all : AllTook db behind) (unseen : IsUnseen db row.id) (committed : is_committed put ≡ true) where
     delete_is : is_committed gone ≡ true
     delete_is = deleted_since committed unseen.table
 
@@ -263,15 +236,12 @@ module _ (s : ShownStore) (p : Place) (shown : IsPlaceOf s p) (table : ℕ) (spo
       abbrev copy : (x : OpenTransaction) × (map.get db.sessions n ≡ Some x) × IsCopyOf o x
       copy = have.shown n o was
 
-      abbrev front : Began p.opening p.journal n o.t
-      front = its_front laws p shows stands n o was
-
-      on : (more : List Entry) × (before ++ more ≡ front.before)
-      on = goes_on numbers p.opening p.journal before behind n o.t front split (first o.t (n, copy.0, copy.1, copy.2.t))
+      front : view_front n p.journal ≡ before ++ view_front n behind
+      front = ap (view_front n) (sym split) ∙ view_behind n before behind (all n copy.0 copy.1)
 
       put_had_ended : had_ended o.snapshot row.id.t ≡ true
-      put_had_ended = (stands.snapshots n o was front row.id.t).1
-          (subst (λ (d : DatabaseState). HasEnded d row.id.t) (sym (serial_run-append p.opening before on.0) ∙ ap (serial_run p.opening) on.1) (numbers.ended (serial_run p.opening before) on.0 row.id.t ended))
+      put_had_ended = (has_ended o.snapshot (serial_run p.opening (view_front n p.journal)) (stands.snapshots n o was) row.id.t).1
+          (subst (λ (d : DatabaseState). HasEnded d row.id.t) (sym (serial_run-append p.opening before (view_front n behind)) ∙ ap (serial_run p.opening) (sym front)) (numbers.ended (serial_run p.opening before) (view_front n behind) row.id.t ended))
 
       put_done : has_done o.snapshot o.t row.id.t put ≡ true
       put_done = or_right (eqb row.id.t o.t) (in_snapshot o.snapshot row.id.t put) (and_from (is_committed put) (had_ended o.snapshot row.id.t) committed put_had_ended)
@@ -301,49 +271,62 @@ module _ (s : ShownStore) (p : Place) (shown : IsPlaceOf s p) (table : ℕ) (spo
   abbrev deleted : Bool
   deleted = is_deleted_for_all (snapshots_of t.opens) row.deleter gone
 
+  abbrev deleted_for_oldest : Bool
+  deleted_for_oldest = is_deleted_for_all (oldest_snapshots t.opens) row.deleter gone
+
+  abbrev had : Snapshot → Bool
+  had sn = in_snapshot sn row.deleter gone
+
   abbrev by_oldest : Living
   by_oldest = living (oldest_snapshots t.opens) t.tx.first shows.stored
 
   abbrev by_all : Living
   by_all = living_of t shows.stored
 
-  -- dead by the oldest's snapshot alone
-  pub dead_by_oldest_is_dead : NumbersRise → CopiesAreOfTheirFronts → OldestFrontStands → DeadByOldestFront → IsTrue (is_dead by_oldest row) → IsDead p row.id
-  dead_by_oldest_is_dead numbers copies oldest by_front dead = elim (or_cases rolled (is_deleted_for_all (oldest_snapshots t.opens) row.deleter gone) dead) [
+  pub dead_to_all_is_dead : NumbersRise → CopiesAreOfTheirFronts → OldestFrontStands → DeadByOldestFront → IsTrue (is_dead by_all row) → IsDead p row.id
+  dead_to_all_is_dead numbers copies oldest by_front dead = elim (or_cases rolled deleted dead) [
     | inl back ↦ rolled_is_dead numbers back
-    | inr for_oldest ↦
-        let parts = and_parts (is_committed gone) (list_all (λ sn. in_snapshot sn row.deleter gone) (oldest_snapshots t.opens)) for_oldest in
-        deleted_is_dead parts.0 parts.1 copies oldest by_front
+    | inr for_all ↦ let parts = and_parts (is_committed gone) (list_all had (snapshots_of t.opens)) for_all in deleted_is_dead parts.0 parts.1 copies oldest by_front
   ]
 
-  -- by all snapshots it is dead by that one
+  -- dead by the oldest view alone, and by all
   pub dead_to_all_by_oldest : IsTrue (is_dead by_all row) → IsTrue (is_dead by_oldest row)
   dead_to_all_by_oldest dead = elim (or_cases rolled deleted dead) [
-    | inl back ↦ or_left rolled (is_deleted_for_all (oldest_snapshots t.opens) row.deleter gone) back
+    | inl back ↦ or_left rolled deleted_for_oldest back
     | inr for_all ↦
-        let had : Snapshot → Bool = λ sn. in_snapshot sn row.deleter gone in
         let parts = and_parts (is_committed gone) (list_all had (snapshots_of t.opens)) for_all in
-        or_right rolled (is_deleted_for_all (oldest_snapshots t.opens) row.deleter gone)
-        (and_from (is_committed gone) (list_all had (oldest_snapshots t.opens)) parts.0 (oldest_among t.opens had parts.1))
+        or_right rolled deleted_for_oldest (and_from (is_committed gone) (list_all had (oldest_snapshots t.opens)) parts.0 (oldest_among t.opens had parts.1))
   ]
 
-  by_delete : OpenTransactionsBegan → NumbersRise → (before behind : List Entry) → before ++ behind ≡ p.journal → HasEnded (serial_run p.opening before) row.id.t → ((u : ℕ) → IsOpen db u → (serial_run p.opening before).next ≤ u) → IsUnseen db row.id
+  pub dead_by_oldest_to_all : NumbersRise → IsTrue (is_dead by_oldest row) → IsTrue (is_dead by_all row)
+  dead_by_oldest_to_all numbers dead = elim (or_cases rolled deleted_for_oldest dead) [
+    | inl back ↦ or_left rolled deleted back
+    | inr for_oldest ↦
+        let parts = and_parts (is_committed gone) (list_all had (oldest_snapshots t.opens)) for_oldest in
+        or_right rolled deleted (and_from (is_committed gone) (list_all had (snapshots_of t.opens)) parts.0 (all_snapshots t.opens had (λ n o was.
+        let oldest = oldest_is_below t.opens n o was in
+        let at = oldest_is_open t.opens oldest.0 oldest.1 in
+        let has = (and_parts (is_committed gone) (had_ended oldest.0.snapshot row.deleter) (of_oldest t.opens had parts.1 oldest.0 oldest.1)).1 in
+        and_from (is_committed gone) (had_ended o.snapshot row.deleter) parts.0 (had_ended_then numbers p.opening p.journal stands.none_open at.0 n oldest.0.snapshot o.snapshot
+        (stands.snapshots at.0 oldest.0 at.1) (stands.snapshots n o was) oldest.2 row.deleter has))))
+  ]
+
+  by_delete : NumbersRise → (before behind : List Entry) → before ++ behind ≡ p.journal → HasEnded (serial_run p.opening before) row.id.t → AllTook db behind → IsUnseen db row.id
       → (committed : Bool) → is_committed put ≡ committed → (rolled || deleted) ≡ true
-  by_delete laws numbers before behind split ended first unseen true is = or_right rolled deleted (deleted_for_all laws numbers before behind split ended first unseen is)
-  by_delete laws numbers before behind split ended first unseen false is = or_left rolled deleted
+  by_delete numbers before behind split ended all unseen true is = or_right rolled deleted (deleted_for_all numbers before behind split ended all unseen is)
+  by_delete numbers before behind split ended all unseen false is = or_left rolled deleted
       (put_rolled (subst (λ (d : DatabaseState). HasEnded d row.id.t) (sym (serial_run-append p.opening before behind) ∙ ap (serial_run p.opening) split) (numbers.ended (serial_run p.opening before) behind row.id.t ended)) is)
 
-  by_journal : OpenTransactionsBegan → NumbersRise → IsUnseen db row.id → IsDead p row.id → (rolled || deleted) ≡ true
-  by_journal laws numbers unseen (ByRollback since ended uncommitted) = or_left rolled deleted
+  by_journal : NumbersRise → IsUnseen db row.id → IsDead p row.id → (rolled || deleted) ≡ true
+  by_journal numbers unseen (ByRollback since ended uncommitted) = or_left rolled deleted
       (put_rolled ended (false_from_ne_true (is_committed put) (λ is. uncommitted ((stands.commits row.id.t since).0 is))))
-  by_journal laws numbers unseen (Deleted before behind split ended absent first) = by_delete laws numbers before behind split ended first unseen (is_committed put) refl
+  by_journal numbers unseen (Deleted before behind split ended absent all) = by_delete numbers before behind split ended all unseen (is_committed put) refl
 
-  pub dead_is_dead_to_all : OpenTransactionsBegan → NumbersRise → DeadRowsAreUnseen → IsDead p row.id → IsTrue (is_dead by_all row)
-  dead_is_dead_to_all laws numbers unseen dead = by_journal laws numbers (unseen p stands.none_open stands.earlier shown.legal row.id dead) dead
+  pub dead_is_dead_to_all : NumbersRise → DeadRowsAreUnseen → IsDead p row.id → IsTrue (is_dead by_all row)
+  dead_is_dead_to_all numbers unseen dead = by_journal laws numbers (unseen p stands.none_open stands.earlier shown.legal row.id dead) dead
 
 -- what the journal says, as the law needs it
 pub record JournalLaws : Type 0 where
-  pub began : OpenTransactionsBegan
   pub numbers : NumbersRise
   pub copies : CopiesAreOfTheirFronts
   pub oldest : OldestFrontStands
@@ -352,8 +335,8 @@ pub record JournalLaws : Type 0 where
 
 pub dead_to_all : JournalLaws → DeadToAllIsDead
 dead_to_all laws s p table spot row shown below there = (
-  λ dead. dead_by_oldest_is_dead s p shown table spot row below there laws.numbers laws.copies laws.oldest laws.by_front (dead_to_all_by_oldest s p shown table spot row below there dead),
-  dead_is_dead_to_all s p shown table spot row below there laws.began laws.numbers laws.unseen,
+  dead_to_all_is_dead s p shown table spot row below there laws.numbers laws.copies laws.oldest laws.by_front,
+  dead_is_dead_to_all s p shown table spot row below there laws.numbers laws.unseen,
 )
 
 -- ---- the rows of a block that go
@@ -393,13 +376,13 @@ drops_by_journal laws s p table block blocks blocked shown below has drops k = d
 
 -- ---- the oldest speaks for all
 
-module _ (laws : JournalLaws) (s : ShownStore) (p : Place) (table block : ℕ) (blocks blocked : List (List Slot)) (shown : IsPlaceOf s p) (below : table < length s.layout.schema.tables)
+module _ (numbers : NumbersRise) (s : ShownStore) (p : Place) (table block : ℕ) (blocks blocked : List (List Slot)) (shown : IsPlaceOf s p) (below : table < length s.layout.schema.tables)
     (has : HasBlocks s.layout s.pages table blocks) where
   by_one_by_all : (x : Spot) (row : StoredRow) → slot_at blocks x ≡ Some row
       → IsTrue (is_dead (living (oldest_snapshots s.transactions.opens) s.transactions.tx.first shown.database.stored) row) ↔ IsTrue (is_dead (living_of s.transactions shown.database.stored) row)
   by_one_by_all x row at =
       let there : StandsAt s.layout s.pages table x row = record { blocks = blocks; has = has; there = at } in (
-        λ dead. dead_is_dead_to_all s p shown table x row below there laws.began laws.numbers laws.unseen (dead_by_oldest_is_dead s p shown table x row below there laws.numbers laws.copies laws.oldest laws.by_front dead),
+        dead_by_oldest_to_all s p shown table x row below there numbers,
         dead_to_all_by_oldest s p shown table x row below there,
       )
 
@@ -409,5 +392,5 @@ module _ (laws : JournalLaws) (s : ShownStore) (p : Place) (table block : ℕ) (
     gone = λ x row at left. let went = drops.gone x row at left in (went.0, (by_one_by_all x row at).0 went.1);
   }
 
-pub oldest_for_all : JournalLaws → OldestSpeaksForAll
-oldest_for_all laws s p table block blocks blocked shown below has = drops_for_all laws s p table block blocks blocked shown below has
+pub oldest_for_all : NumbersRise → OldestSpeaksForAll
+oldest_for_all numbers s p table block blocks blocked shown below has = drops_for_all numbers s p table block blocks blocked shown below has

@@ -1,4 +1,3 @@
-mod Fronts
 pub mod Oldest
 mod Dead
 mod Wanted

@@ -42,13 +42,13 @@ DropsTheDeadByJournal = (s : ShownStore) (p : Place) (table block : ℕ) (blocks
     → DropsTheDead (living_of s.transactions shown.database.stored) blocks blocked block → (k : ℕ)
     → IsTrue (has_gone (rows_in table blocks block k) (rows_in table blocked block k)) ↔ ((r : Row) × (rows_in table blocks block k ≡ Some r) × IsDead p r.id)
 
--- ---- the oldest open transaction speaks for all
+-- ---- the oldest view speaks for all
 
 abbrev pub snapshot_in : Option Open → List Snapshot
 snapshot_in None = []
 snapshot_in (Some o) = o.snapshot ∷ []
 
--- the snapshot of the oldest open transaction, if one is open
+-- the snapshot of the open transaction with the oldest view, if one is open
 abbrev pub oldest_snapshots : List (Option Open) → List Snapshot
 oldest_snapshots opens = snapshot_in (oldest_of opens)
 

@@ -78,7 +78,7 @@ pub fn clean_on<D: Disk + Drop>(
     }
 }
 
-/// The snapshot of the oldest open transaction, if one is open. No row is dead to it that a younger one sees.
+/// The oldest snapshot of the open transactions, if one is open. No row is dead to it that another one sees.
 fn oldest_snapshot(transactions: &Transactions) -> &[Snapshot]
     ensures { result.now ≡ oldest_snapshots transactions.now.opens }
 {

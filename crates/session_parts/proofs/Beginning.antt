@@ -1,5 +1,5 @@
 -- what a begin keeps
-use Rattle.std.proofs.Common.{◌≡◌, ◌≢◌, inl, inr, ℕ, ◌<◌, ◌≤◌, Bool, true, false, ltb, List, [], ◌∷◌, length, set, None, Some, refl, sym, ap, subst, ◌∙◌, arith}
+use Rattle.std.proofs.Common.{◌≡◌, ◌≢◌, inl, inr, ℕ, ◌<◌, ◌≤◌, ◌||◌, Bool, true, false, ltb, List, [], ◌∷◌, length, set, None, Some, refl, sym, ap, subst, ◌∙◌, arith}
 use Rattle.std.specs.Prelude.{IsTrue, ◌↔◌}
 use Rattle.std.specs.FinMap as map
 use Rattle.std.proofs.lemmas.Bool.{cases_eq, cases_lt, false≢true}
@@ -8,11 +8,12 @@ use Rattle.block_model.specs.declared.request.Entry.{Entry}
 use Rattle.block_model.specs.declared.request.Request.TheVariants as requests
 use Rattle.block_model.specs.declared.row.RowId.{RowId}
 use Rattle.block_model.specs.DatabaseState.{DatabaseState}
+use Rattle.block_model.specs.SerialRun.{serial_run}
 use Rattle.store_layout.specs.DiskLayout.{DiskLayout}
 use Rattle.page_map.specs.PageMap.{PageMap}
 use Rattle.snapshot_core.specs.declared.statuses.Status.{Status}
 use Rattle.snapshot_core.specs.declared.statuses.Status.TheVariants.{Begun, Unused}
-use Rattle.snapshot_core.specs.Visibility.{is_committed}
+use Rattle.snapshot_core.specs.Visibility.{had_ended, is_committed}
 use Rattle.snapshot_core.specs.declared.sessions.Open.{Open}
 use Rattle.snapshot_core.specs.StoredVersions.{transaction_of}
 use Rattle.transactions.specs.ShownVersions.{version_of}
@@ -27,17 +28,17 @@ use Rattle.transactions.proofs.Marks.{row_stored}
 use Rattle.transactions.proofs.Shown.{open_one, whole}
 use Rattle.script_semantics.specs.DeadRows.{IsCommitted}
 use Rattle.script_semantics.specs.Place.{Place, database_at}
-use Rattle.script_semantics.specs.FrontBeginnings.{OpenTransactionsBegan}
+use Rattle.script_semantics.specs.Views.{takes_view, view_front}
 use Rattle.script_semantics.specs.Commits.{CommitsAt, CommitsStand}
 use Rattle.script_semantics.specs.Numbers.{NumbersRise}
 use Rattle.script_semantics.proofs.Commits.{commits_stand}
-use Rattle.script_semantics.proofs.Fronts.{open_transactions_began}
+use Rattle.script_semantics.proofs.Fronts.{begin_takes, others_take_none, view_here}
 use Rattle.script_semantics.proofs.Numbers.{numbers_rise}
-use Rattle.session_parts.specs.FrontsStand.{FrontsStand}
+use Rattle.session_parts.specs.FrontsStand.{FrontsStand, IsTakenOf}
 use Rattle.session_parts.specs.RowsFollow.{IsOfOpen, RowsFollow}
 use Rattle.session_parts.specs.FrontLaws.{BeginStands, GoesOn, IsRequestOf}
 use Rattle.session_parts.proofs.Following.{HasBoth, all_follow, both_follow}
-use Rattle.session_parts.proofs.Snapshots.{StandsIn, has_none, is_of_open, its_front, new_has_ended, new_has_none, stands_newly, stands_on, which}
+use Rattle.session_parts.proofs.Snapshots.{has_ended, has_none, is_of_open, is_open, new_is_taken, taken_on, which}
 use Rattle.session_parts.proofs.Statuses.{commits_none}
 use Rattle.session_parts.proofs.Within.{earlier_still, none_still}
 
@@ -56,7 +57,7 @@ newly_uncommitted first stored u some = elim (cases_lt u (length stored)) [
 
 -- ---- what it keeps
 
-module _ (began : OpenTransactionsBegan) (commits : CommitsStand) (numbers : NumbersRise) (layout : DiskLayout) (old new : PageMap) (t : TransactionsState) (stored : List Status) (p q : Place) (n : ℕ) (e : Entry)
+module _ (commits : CommitsStand) (numbers : NumbersRise) (layout : DiskLayout) (old new : PageMap) (t : TransactionsState) (stored : List Status) (p q : Place) (n : ℕ) (e : Entry)
     (shows : ShowsDatabase layout old t (database_at p)) (stands : FrontsStand layout old t stored p) (idle : transaction_of t.opens n ≡ None) (begins : IsRequestOf n requests.Begin e) (goes : GoesOn p q (e ∷ [])) (follow : RowsFollow layout old new t) where
   abbrev have : HaveTransactions t (database_at p)
   have = sessions_shown layout old t (database_at p) shows
@@ -95,15 +96,23 @@ module _ (began : OpenTransactionsBegan) (commits : CommitsStand) (numbers : Num
 
   -- ---- snapshots
 
-  new_stands : StandsIn q n t.tx.next (next_open t).snapshot
-  new_stands = stands_newly began p q e n t.tx.next (next_open t).snapshot goes begins.session begins.asks (have.none n idle) have.next (λ u. new_has_ended t (database_at p) have u)
+  new_taken : IsTakenOf (next_open t).snapshot (database_at p)
+  new_taken = new_is_taken t (database_at p) shows have
 
-  snapshots_still : (m : ℕ) (o : Open) → transaction_of (with_begun t n).opens m ≡ Some o → StandsIn q m o.t o.snapshot
+  -- it has none that is open
+  new_has_none : (u : ℕ) → IsOfOpen t u → IsTrue (had_ended (next_open t).snapshot u) → ⊥
+  new_has_none u under had = ((has_ended (next_open t).snapshot (database_at p) new_taken u).0 had).1 (is_open t (database_at p) have u under)
+
+  new_front : view_front n q.journal ≡ p.journal
+  new_front = ap (view_front n) goes.journal ∙ view_here n p.journal e (subst (λ k. takes_view k e ≡ true) begins.session (begin_takes e begins.asks))
+
+  snapshots_still : (m : ℕ) (o : Open) → transaction_of (with_begun t n).opens m ≡ Some o → IsTakenOf o.snapshot (serial_run q.opening (view_front m q.journal))
   snapshots_still m o is = elim (which t.opens n m (Some (next_open t)) o is) [
     | inl own ↦
         let same : next_open t ≡ o = (let both = own.1 in cc) in
-        subst (λ k. StandsIn q k o.t o.snapshot) (sym own.0) (subst (λ (o : Open). StandsIn q n o.t o.snapshot) same new_stands)
-    | inr other ↦ stands_on began p q (e ∷ []) goes m o.t o.snapshot (its_front began p shows stands m o other.1) (stands.snapshots m o other.1)
+        subst (λ k. IsTakenOf o.snapshot (serial_run q.opening (view_front k q.journal))) (sym own.0)
+        (subst (λ (o : Open). IsTakenOf o.snapshot (serial_run q.opening (view_front n q.journal))) same (subst (IsTakenOf (next_open t).snapshot) (λ i. serial_run (sym goes.opening i) (sym new_front i)) new_taken))
+    | inr other ↦ taken_on p q (e ∷ []) goes m (ap (λ b. b || false) (others_take_none m e (λ same. other.0 (same ∙ begins.session)))) o.snapshot (stands.snapshots m o other.1)
   ]
 
   -- ---- deleters
@@ -114,21 +123,21 @@ module _ (began : OpenTransactionsBegan) (commits : CommitsStand) (numbers : Num
       let known = (whole shows).known row.id (version_of table row) (row_stored shows table spot row below there) in
       let put = (row_is_of layout old t (database_at p) shows.stored table spot row shows shows.has below there).put in
       let next = have.next in
-      (new_has_ended t (database_at p) have row.id.t).1 (
+      (has_ended (next_open t).snapshot (database_at p) new_taken row.id.t).1 (
         omega (arith, put, next),
         λ under_way.
             let under = is_of_open t (database_at p) have row.id.t under_way in
             let begun = (open_one shows under.0 under.1 under.2).given in
-            let own : row.deleter ≡ row.id.t = known.own (ap is_committed (status_given t.tx shows.stored row.id.t shows.next ∙ ap (given_status t.tx.first shows.stored) under.3 ∙ begun)) some in
-            new_has_none t (database_at p) have row.deleter (subst (IsOfOpen t) (sym own) under) had,
+            let own : row.deleter ≡ row.id.t = known.own (status_given t.tx shows.stored row.id.t shows.next ∙ ap (given_status t.tx.first shows.stored) under.3 ∙ begun) some in
+            new_has_none row.deleter (subst (IsOfOpen t) (sym own) under) had,
       )
 
   both_still : (m : ℕ) (o : Open) → transaction_of (with_begun t n).opens m ≡ Some o → HasBoth layout new o.snapshot
   both_still m o is = elim (which t.opens n m (Some (next_open t)) o is) [
     | inl own ↦
         let same : next_open t ≡ o = (let both = own.1 in cc) in
-        subst (λ (o : Open). HasBoth layout new o.snapshot) same (both_follow layout old new t (next_open t).snapshot follow new_has_both (λ u under had. new_has_none t (database_at p) have u under had))
-    | inr other ↦ both_follow layout old new t o.snapshot follow (λ table spot row below there some had. stands.deleters table spot row below there some m o other.1 had) (λ u under had. has_none began p shows stands m o other.1 u under had)
+        subst (λ (o : Open). HasBoth layout new o.snapshot) same (both_follow layout old new t (next_open t).snapshot follow new_has_both new_has_none)
+    | inr other ↦ both_follow layout old new t o.snapshot follow (λ table spot row below there some had. stands.deleters table spot row below there some m o other.1 had) (λ u under had. has_none p shows stands m o other.1 u under had)
   ]
 
   opening_still : (id : RowId) → map.contains_key p.opening.table id ≡ true → IsTrue (is_committed (given_status t.tx.first later id.t))
@@ -150,4 +159,4 @@ module _ (began : OpenTransactionsBegan) (commits : CommitsStand) (numbers : Num
 
 pub begin_stands : BeginStands
 begin_stands layout old new t stored p q n e shows has stands idle begins goes follow =
-    begun_stands open_transactions_began commits_stand numbers_rise layout old new t stored p q n e shows stands idle begins goes follow
+    begun_stands commits_stand numbers_rise layout old new t stored p q n e shows stands idle begins goes follow

@@ -1,5 +1,5 @@
 -- what a commit and a rollback keep
-use Rattle.std.proofs.Common.{◌≡◌, ◌≢◌, inl, inr, ℕ, ◌≤◌, Bool, true, false, ltb, List, [], ◌∷◌, set, None, Some, refl, sym, ap, subst, ◌∙◌, arith}
+use Rattle.std.proofs.Common.{◌≡◌, ◌≢◌, inl, inr, ℕ, ◌≤◌, ◌||◌, Bool, true, false, ltb, List, [], ◌∷◌, set, None, Some, refl, sym, ap, subst, ◌∙◌, arith}
 use Rattle.std.specs.Prelude.{IsTrue, ◌↔◌}
 use Rattle.std.specs.FinMap as map
 use Rattle.std.proofs.lemmas.Bool.{cases_eq, false≢true}
@@ -27,15 +27,14 @@ use Rattle.transactions.proofs.Given.{ended_stays, given_changed, given_other}
 use Rattle.transactions.proofs.Shown.{IsOpenOne, one_list_shown, open_one}
 use Rattle.script_semantics.specs.DeadRows.{IsCommitted}
 use Rattle.script_semantics.specs.Place.{Place, database_at}
-use Rattle.script_semantics.specs.FrontBeginnings.{OpenTransactionsBegan}
 use Rattle.script_semantics.specs.Commits.{CommitsAt, CommitsStand}
 use Rattle.script_semantics.proofs.Commits.{commits_stand}
-use Rattle.script_semantics.proofs.Fronts.{open_transactions_began}
+use Rattle.script_semantics.proofs.Fronts.{no_view}
 use Rattle.session_parts.specs.FrontsStand.{FrontsStand}
 use Rattle.session_parts.specs.RowsFollow.{RowsFollow}
 use Rattle.session_parts.specs.FrontLaws.{EndStands, GoesOn, IsEnding}
 use Rattle.session_parts.proofs.Following.{all_follow, both_follow}
-use Rattle.session_parts.proofs.Snapshots.{has_none, its_front, stands_on, which}
+use Rattle.session_parts.proofs.Snapshots.{has_none, taken_on, which}
 use Rattle.session_parts.proofs.Statuses.{commits_none, commits_with}
 use Rattle.session_parts.proofs.Within.{earlier_still, none_still}
 
@@ -66,7 +65,7 @@ commits_only (Mark id) failed end is so = absurd is
 commits_only Commit failed end is so = (refl, whole_commits failed (ap is_committed (sym is) ∙ so))
 commits_only Rollback failed end is so = absurd (false≢true (ap is_committed (sym is) ∙ so))
 
-module _ (began : OpenTransactionsBegan) (commits : CommitsStand) (layout : DiskLayout) (old new : PageMap) (t : TransactionsState) (stored : List Status) (p q : Place) (n : ℕ) (o : Open) (e : Entry) (end : Status)
+module _ (commits : CommitsStand) (layout : DiskLayout) (old new : PageMap) (t : TransactionsState) (stored : List Status) (p q : Place) (n : ℕ) (o : Open) (e : Entry) (end : Status)
     (shows : ShowsDatabase layout old t (database_at p)) (has : HasStatuses layout old stored) (stands : FrontsStand layout old t stored p) (was : transaction_of t.opens n ≡ Some o) (session : e.session ≡ n) (ending : IsEnding e.request o.failed end)
     (goes : GoesOn p q (e ∷ [])) (follow : RowsFollow layout old new t) where
   abbrev later : List Status
@@ -141,14 +140,13 @@ module _ (began : OpenTransactionsBegan) (commits : CommitsStand) (layout : Disk
     first = ap (λ (d : DatabaseState). d.next) goes.opening ∙ stands.first;
     commits = λ u low. commits_still u (subst (λ (d : DatabaseState). d.next ≤ u) goes.opening low);
     snapshots = λ m x is.
-        let there = others m x is in
-        stands_on began p q (e ∷ []) goes m x.t x.snapshot (its_front began p shows stands m x there) (stands.snapshots m x there);
+        taken_on p q (e ∷ []) goes m (ap (λ b. b || false) (no_view m e (λ begins. subst (λ (r : Request). IsEnding r o.failed end) begins ending))) x.snapshot (stands.snapshots m x (others m x is));
     opening = λ id there. opening_still id (ap (λ (d : DatabaseState). map.contains_key d.table id) (sym goes.opening) ∙ there);
     deleters = all_follow layout new (with_open t n None) (λ m x is.
         let there = others m x is in
-        both_follow layout old new t x.snapshot follow (λ table spot row below at some had. stands.deleters table spot row below at some m x there had) (λ u under had. has_none began p shows stands m x there u under had));
+        both_follow layout old new t x.snapshot follow (λ table spot row below at some had. stands.deleters table spot row below at some m x there had) (λ u under had. has_none p shows stands m x there u under had));
   }
 
 pub end_stands : EndStands
 end_stands layout old new t stored p q n o e end shows has stands was session ending goes follow =
-    ended_stands open_transactions_began commits_stand layout old new t stored p q n o e end shows has stands was session ending goes follow
+    ended_stands commits_stand layout old new t stored p q n o e end shows has stands was session ending goes follow

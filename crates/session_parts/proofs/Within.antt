@@ -1,9 +1,13 @@
 -- what a step within a transaction keeps
-use Rattle.std.proofs.Common.{◌≡◌, inl, inr, ℕ, ◌+◌, ◌≤◌, List, All, Some, refl, sym, ap, subst, ◌∙◌}
+use Rattle.std.proofs.Common.{◌≡◌, inl, inr, ℕ, ◌+◌, ◌≤◌, false, List, All, Some, refl, sym, ap, subst, ◌∙◌}
 use Rattle.std.specs.Prelude.{IsTrue}
+use Rattle.std.specs.List.{list_any}
 use Rattle.std.specs.FinMap as map
+use Rattle.std.proofs.lemmas.List.Elements.{All-weaker}
+use Rattle.std.proofs.lemmas.List.Folds.{list_any_none}
 use Rattle.block_model.specs.declared.request.Entry.{Entry}
 use Rattle.block_model.specs.DatabaseState.{DatabaseState}
+use Rattle.block_model.specs.SerialRun.{serial_run}
 use Rattle.store_layout.specs.DiskLayout.{DiskLayout}
 use Rattle.page_map.specs.PageMap.{PageMap}
 use Rattle.snapshot_core.specs.declared.snapshots.Snapshot.{Snapshot}
@@ -17,16 +21,16 @@ use Rattle.transactions.specs.GivenStatuses.{given_status}
 use Rattle.transactions.specs.ShowsDatabase.{ShowsDatabase}
 use Rattle.transactions.specs.TransactionsState.{TransactionsState, with_open}
 use Rattle.script_semantics.specs.Place.{Place, database_at}
-use Rattle.script_semantics.specs.FrontBeginnings.{OpenTransactionsBegan}
+use Rattle.script_semantics.specs.Views.{takes_view, view_front}
 use Rattle.script_semantics.specs.Commits.{CommitsStand}
 use Rattle.script_semantics.specs.Openings.{NoneOpen, RowsAreEarlier}
 use Rattle.script_semantics.proofs.Commits.{commits_stand}
-use Rattle.script_semantics.proofs.Fronts.{open_transactions_began}
-use Rattle.session_parts.specs.FrontsStand.{FrontsStand}
+use Rattle.script_semantics.proofs.Fronts.{no_view}
+use Rattle.session_parts.specs.FrontsStand.{FrontsStand, IsTakenOf}
 use Rattle.session_parts.specs.RowsFollow.{RowsFollow}
 use Rattle.session_parts.specs.FrontLaws.{AnyPlaceStands, AnyStatusesStand, GoesOn, IsWithin, OpensStay, OwnStepsKeepOpens, StepWithinStands}
 use Rattle.session_parts.proofs.Following.{HasBoth, all_follow, both_follow}
-use Rattle.session_parts.proofs.Snapshots.{StandsAtFronts, StandsIn, has_none, its_front, stands_on, which}
+use Rattle.session_parts.proofs.Snapshots.{has_none, taken_on, which}
 use Rattle.session_parts.proofs.Statuses.{commits_within, same_commits}
 
 pub any_statuses_stand : AnyStatusesStand
@@ -34,11 +38,6 @@ any_statuses_stand layout pages t stored other p has has_other stands = subst (�
 
 -- what is known of a place by its opening and its journal
 module _ (layout : DiskLayout) (pages : PageMap) (t : TransactionsState) (stored : List Status) (p q : Place) (opening : q.opening ≡ p.opening) (journal : q.journal ≡ p.journal) (stands : FrontsStand layout pages t stored p) where
-  same_fronts : (n : ℕ) (o : Open) → transaction_of t.opens n ≡ Some o → StandsIn q n o.t o.snapshot
-  same_fronts n o was =
-      subst (λ (l : List Entry). StandsAtFronts q.opening l n o.t o.snapshot) (sym journal)
-      (subst (λ (d : DatabaseState). StandsAtFronts d p.journal n o.t o.snapshot) (sym opening) (stands.snapshots n o was))
-
   pub place_stands : FrontsStand layout pages t stored q
   place_stands = record {
     none_open = subst NoneOpen (sym opening) stands.none_open;
@@ -47,7 +46,7 @@ module _ (layout : DiskLayout) (pages : PageMap) (t : TransactionsState) (stored
     commits = λ u low.
         let was = stands.commits u (subst (λ (d : DatabaseState). d.next ≤ u) opening low) in
         (λ c. same_commits p q u opening journal (was.0 c), λ c. was.1 (same_commits q p u (sym opening) (sym journal) c));
-    snapshots = same_fronts;
+    snapshots = λ n o was. subst (IsTakenOf o.snapshot) (λ i. serial_run (sym opening i) (view_front n (sym journal i))) (stands.snapshots n o was);
     opening = λ id there. stands.opening id (ap (λ (d : DatabaseState). map.contains_key d.table id) (sym opening) ∙ there);
     deleters = stands.deleters;
   }
@@ -62,14 +61,12 @@ none_still p q more goes = subst NoneOpen (sym goes.opening)
 pub earlier_still : (p q : Place) (more : List Entry) → GoesOn p q more → RowsAreEarlier p.opening → RowsAreEarlier q.opening
 earlier_still p q more goes = subst RowsAreEarlier (sym goes.opening)
 
-module _ (began : OpenTransactionsBegan) (commits : CommitsStand) (layout : DiskLayout) (old new : PageMap) (t now : TransactionsState) (stored : List Status) (p q : Place) (more : List Entry) (shows : ShowsDatabase layout old t (database_at p))
-    (stands : FrontsStand layout old t stored p) (goes : GoesOn p q more) (within : All (λ (e : Entry). IsWithin e.request) more) (first : now.tx.first ≡ t.tx.first) (stay : OpensStay t now) (follow : RowsFollow layout old new t) where
-  snapshot_stands : (n : ℕ) (o : Open) → transaction_of now.opens n ≡ Some o → StandsIn q n o.t o.snapshot
-  snapshot_stands n o is =
-      let was = stay n o is in
-      subst (λ k. StandsIn q n k o.snapshot) (sym was.2) (subst (StandsIn q n was.0.t) (sym was.3)
-      (stands_on began p q more goes n was.0.t was.0.snapshot (its_front began p shows stands n was.0 was.1) (stands.snapshots n was.0 was.1)))
+-- by requests within transactions no session takes a view
+within_takes_none : (n : ℕ) (more : List Entry) → All (λ (e : Entry). IsWithin e.request) more → list_any (takes_view n) more ≡ false
+within_takes_none n more within = list_any_none (takes_view n) more (All-weaker (λ (e : Entry). IsWithin e.request) (λ e. takes_view n e ≡ false) (λ e is. no_view n e (λ begins. subst IsWithin begins is)) more within)
 
+module _ (commits : CommitsStand) (layout : DiskLayout) (old new : PageMap) (t now : TransactionsState) (stored : List Status) (p q : Place) (more : List Entry) (shows : ShowsDatabase layout old t (database_at p))
+    (stands : FrontsStand layout old t stored p) (goes : GoesOn p q more) (within : All (λ (e : Entry). IsWithin e.request) more) (first : now.tx.first ≡ t.tx.first) (stay : OpensStay t now) (follow : RowsFollow layout old new t) where
   pub within_stands : FrontsStand layout new now stored q
   within_stands = record {
     none_open = none_still p q more goes stands.none_open;
@@ -79,18 +76,20 @@ module _ (began : OpenTransactionsBegan) (commits : CommitsStand) (layout : Disk
         let was = stands.commits u (subst (λ (d : DatabaseState). d.next ≤ u) goes.opening low) in
         let both = commits_within commits p q more goes within u in
         (λ c. both.0 (was.0 (subst (λ k. IsTrue (is_committed (given_status k stored u))) first c)), λ c. subst (λ k. IsTrue (is_committed (given_status k stored u))) (sym first) (was.1 (both.1 c)));
-    snapshots = snapshot_stands;
+    snapshots = λ n o is.
+        let was = stay n o is in
+        taken_on p q more goes n (within_takes_none n more within) o.snapshot (subst (λ (s : Snapshot). IsTakenOf s (serial_run p.opening (view_front n p.journal))) (sym was.3) (stands.snapshots n was.0 was.1));
     opening = λ id there. subst (λ k. IsTrue (is_committed (given_status k stored id.t))) (sym first) (stands.opening id (ap (λ (d : DatabaseState). map.contains_key d.table id) (sym goes.opening) ∙ there));
     deleters = all_follow layout new now (λ n o is.
         let was = stay n o is in
         both_follow layout old new t o.snapshot follow
         (subst (λ (s : Snapshot). HasBoth layout old s) (sym was.3) (λ table spot row below there some had. stands.deleters table spot row below there some n was.0 was.1 had))
-        (λ u under had. has_none began p shows stands n was.0 was.1 u under (subst (λ (s : Snapshot). IsTrue (had_ended s u)) was.3 had)));
+        (λ u under had. has_none p shows stands n was.0 was.1 u under (subst (λ (s : Snapshot). IsTrue (had_ended s u)) was.3 had)));
   }
 
 pub step_within_stands : StepWithinStands
 step_within_stands layout old new t now stored p q more shows stands goes within first stay follow =
-    within_stands open_transactions_began commits_stand layout old new t now stored p q more shows stands goes within first stay follow
+    within_stands commits_stand layout old new t now stored p q more shows stands goes within first stay follow
 
 -- ---- which steps keep what is open
 

@@ -1,10 +1,15 @@
 -- the place of the definition of texts that a store shows
-use Rattle.std.specs.Prelude.{◌≡◌, ℕ, ◌<◌, Bool, true, false, List, length, map, Option, None, Some}
+use Rattle.std.specs.Prelude.{◌≡◌, ℕ, ◌<◌, All, Bool, true, false, List, length, map, Option, None, Some}
+use Rattle.std.specs.List.{IsDistinct}
+use Rattle.std.specs.Ordering.{eq_by_cmp}
 use Rattle.std.specs.FinMap as finite
+use Rattle.block_model.specs.declared.row.Query.{Query}
 use Rattle.block_model.specs.declared.row.Row.{Row}
+use Rattle.block_model.specs.declared.row.RowId.{RowId}
 use Rattle.block_model.specs.DatabaseState.{OpenTransaction}
 use Rattle.block_model.specs.RequestEffect.{rows_found}
 use Rattle.block_model.specs.SerialRun.{IsLegal}
+use Rattle.block_model.specs.TableState.{id_cmp}
 use Rattle.page_layout.specs.PageContents.{Slot}
 use Rattle.page_locks.specs.RightHolders.{right_of}
 use Rattle.recovery.specs.PageOrder.{IsIndexInOrder}
@@ -25,6 +30,7 @@ use Rattle.script_semantics.specs.Place.{Place, database_at}
 use Rattle.session_parts.specs.FrontsStand.{FrontsStand}
 use Rattle.session_parts.specs.declared.hand.Hand.{Hand}
 use Rattle.session_parts.specs.declared.hand.Hand.TheVariants as hands
+use Rattle.session_parts.specs.declared.hand.Marking.{Marking}
 use Rattle.session_parts.specs.Hands.{HandShows, hits_left, ids_of}
 use Rattle.session_parts.specs.HandsAsk.{HandAsked}
 use Rattle.session_parts.specs.HandsInTables.{IsTaskOf}
@@ -54,10 +60,19 @@ abbrev pub is_put : {A : Type 0} → Option A → Bool
 is_put None = false
 is_put (Some x) = true
 
--- what a delete has still to mark is what it finds in its session's copy, in order
+-- rows of the copy, each once
+abbrev pub AreInCopy : OpenTransaction → List RowId → Type 0
+AreInCopy x ids = IsDistinct (eq_by_cmp id_cmp) ids × All (λ (id : RowId). finite.contains_key x.view id ≡ true) ids
+
+-- before a delete's look is entered, the hits are what its query finds in its session's copy, in order; behind it, those that are left are in the copy
+abbrev pub AreToMark : (look : Option Query) → OpenTransaction → Marking → Type 0
+AreToMark (Some look) x marking = map (λ (r : Row). r.id) (rows_found x marking.query) ≡ ids_of marking.hits.items
+AreToMark None x marking = AreInCopy x (ids_of (hits_left marking))
+
+-- so it is with what a delete has still to mark
 abbrev pub IsLeftToMark : Option OpenTransaction → Hand → Type 0
 IsLeftToMark None hand = Unit {0}
-IsLeftToMark (Some x) (hands.Marks marking) = map (λ (r : Row). r.id) (rows_found x marking.query) ≡ ids_of (hits_left marking)
+IsLeftToMark (Some x) (hands.Marks marking) = AreToMark marking.look x marking
 IsLeftToMark (Some x) hand = Unit {0}
 
 -- how a statement in hand stands to its session's transaction

@@ -1,13 +1,14 @@
--- A copy that loses the first row that a query finds.
-use Rattle.std.proofs.Common.{◌≡◌, Bool, true, false, cond, not, ◌&&◌, T, List, [], ◌∷◌, map, None, Some, Ordering, refl, sym, ap, ◌∙◌, subst}
+-- The rows that a query finds in a copy, by their ids, and a copy that loses one of them.
+use Rattle.std.proofs.Common.{◌≡◌, Bool, true, false, cond, ◌&&◌, ◌||◌, T, All, List, [], ◌∷◌, map, None, Some, Ordering, is_some, refl, sym, ap, ◌∙◌, subst}
 use Rattle.std.specs.declared.cmp.Ordering.TheVariants.{Less, Equal, Greater}
-use Rattle.std.specs.List.{filter}
+use Rattle.std.specs.List.{AllByRecursion, IsDistinct, filter}
 use Rattle.std.specs.Ordering.{eq_by_cmp, is_lt, is_eq}
 use Rattle.std.specs.Cmp.{eq_by_cmp_equiv}
 use Rattle.std.specs.FinMap as maps
-use Rattle.std.specs.FinMap.{entries, remove, from_sorted, find, is_sorted, get-entries, get-remove, get-from_sorted, entries-from_sorted, entries_sorted, same_map}
-use Rattle.std.specs.FinMap.Entries.{below_all, where_key, is_sorted-where_key, find-where_key}
+use Rattle.std.specs.FinMap.{contains_key, entries, find, is_sorted, get-entries, get-remove, entries_sorted}
+use Rattle.std.specs.FinMap.Entries.{below_all}
 use Rattle.std.proofs.lemmas.Bool.{true≢false}
+use Rattle.std.proofs.lemmas.List.Elements.{All-from_recursion, recursion_from_All}
 use Rattle.std.proofs.lemmas.Option.{none-some}
 use Rattle.block_model.specs.declared.row.RowId.{RowId}
 use Rattle.block_model.specs.declared.row.Row.{Row}
@@ -15,7 +16,8 @@ use Rattle.block_model.specs.declared.row.Query.{Query}
 use Rattle.block_model.specs.DatabaseState.{OpenTransaction}
 use Rattle.block_model.specs.RequestEffect.{rows_found, after_mark}
 use Rattle.block_model.specs.RowMatches.{row_matches}
-use Rattle.block_model.specs.TableState.{TableState, id_cmp, ids_total, ids_exact, id_ties_itself}
+use Rattle.block_model.specs.TableState.{id_cmp, ids_total, ids_exact, id_ties_itself}
+use Rattle.session_parts.specs.ShowsPlace.{AreInCopy}
 
 -- ---- parts of tests
 
@@ -75,16 +77,10 @@ abbrev AtTheirIds : List (RowId × Row) → Type 0
 AtTheirIds [] = Unit {0}
 AtTheirIds (e ∷ es) = (e.1.id ≡ e.0) × AtTheirIds es
 
--- a lesser id isn't found among them, and its removal leaves them
+-- a lesser id isn't found among them
 missing : (id : RowId) (es : List (RowId × Row)) → T (below_all id_cmp id es) → find id_cmp id es ≡ None
 missing id [] h = refl
 missing id (e ∷ es) h = ap (λ b. cond b (Some e.1) (find id_cmp id es)) (apart_by (id_cmp id e.0) (first _ _ h)) ∙ missing id es (second _ _ h)
-
-all_stay : (id : RowId) (es : List (RowId × Row)) → T (below_all id_cmp id es) → where_key id_cmp (λ k. not (same id k)) es ≡ es
-all_stay id [] h = refl
-all_stay id (e ∷ es) h =
-    ap (λ b. cond (not b) (e ∷ where_key id_cmp (λ k. not (same id k)) es) (where_key id_cmp (λ k. not (same id k)) es)) (apart_by (id_cmp id e.0) (first _ _ h))
-    ∙ ap (λ l. e ∷ l) (all_stay id es (second _ _ h))
 
 at_ids : (es : List (RowId × Row)) → T (is_sorted id_cmp es) → ((id : RowId) (r : Row) → find id_cmp id es ≡ Some r → r.id ≡ id) → AtTheirIds es
 at_ids [] h found = tt
@@ -101,66 +97,72 @@ at_ids (e ∷ es) h found = (
         ] refl
 
 module _ (m : Row → Bool) where
-  abbrev found_in : List (RowId × Row) → List Row
-  found_in es = filter m (map (λ (e : RowId × Row). e.1) es)
+  abbrev ids_found : List (RowId × Row) → List RowId
+  ids_found es = map (λ (r : Row). r.id) (filter m (map (λ (e : RowId × Row). e.1) es))
 
-  -- the first row that is found stands at its id
-  first_there : (es : List (RowId × Row)) (row : Row) (more : List Row) → T (is_sorted id_cmp es) → AtTheirIds es → found_in es ≡ row ∷ more → find id_cmp row.id es ≡ Some row
-  first_there [] row more h at is = absurd (nil-cons is)
-  first_there (e ∷ es) row more h at is =
-      elim (m e.1) as (λ b. cond b (e.1 ∷ found_in es) (found_in es) ≡ row ∷ more → find id_cmp row.id (e ∷ es) ≡ Some row) [
-        | true ↦ λ is. let head : e.1 ≡ row = same_head is in
-            ap (λ b. cond b (Some e.1) (find id_cmp row.id es)) (ap (λ (r : Row). same r.id e.0) (sym head) ∙ ap (λ k. same k e.0) at.0 ∙ id_ties_itself e.0) ∙ ap Some head
-        | false ↦ λ is. let there = first_there es row more (second _ _ h) at.1 is in
-            elim (same row.id e.0) as (λ b. same row.id e.0 ≡ b → cond b (Some e.1) (find id_cmp row.id es) ≡ Some row) [
-              | true ↦ λ ties. absurd (none-some _ (sym (subst (λ k. find id_cmp k es ≡ None) (sym (same_id row.id e.0 ties)) (missing e.0 es (first _ _ h))) ∙ there))
-              | false ↦ λ _. there
-            ] refl
-      ] is
+  apart_found : (id : RowId) (es : List (RowId × Row)) → T (below_all id_cmp id es) → AtTheirIds es → AllByRecursion (λ k. same id k ≡ false) (ids_found es)
+  apart_found id [] h at = tt
+  apart_found id (e ∷ es) h at =
+      let rest = apart_found id es (second _ _ h) at.1 in
+      elim (m e.1) as (λ b. AllByRecursion (λ k. same id k ≡ false) (map (λ (r : Row). r.id) (cond b (e.1 ∷ filter m (map (λ (e : RowId × Row). e.1) es)) (filter m (map (λ (e : RowId × Row). e.1) es))))) [
+        | true ↦ (ap (same id) at.0 ∙ apart_by (id_cmp id e.0) (first _ _ h), rest)
+        | false ↦ rest
+      ]
 
-  -- without it the others are found
-  rest_found : (es : List (RowId × Row)) (row : Row) (more : List Row) → T (is_sorted id_cmp es) → AtTheirIds es → found_in es ≡ row ∷ more
-      → found_in (where_key id_cmp (λ k. not (same row.id k)) es) ≡ more
-  rest_found [] row more h at is = absurd (nil-cons is)
-  rest_found (e ∷ es) row more h at is =
-      elim (m e.1) as (λ b. m e.1 ≡ b → cond b (e.1 ∷ found_in es) (found_in es) ≡ row ∷ more → found_in (where_key id_cmp (λ k. not (same row.id k)) (e ∷ es)) ≡ more) [
-        | true ↦ λ _ is. let ids : row.id ≡ e.0 = ap (λ (r : Row). r.id) (sym (same_head is)) ∙ at.0 in
-            subst (λ k. found_in (where_key id_cmp (λ j. not (same k j)) (e ∷ es)) ≡ more) (sym ids)
-            (ap (λ b. found_in (cond (not b) (e ∷ where_key id_cmp (λ j. not (same e.0 j)) es) (where_key id_cmp (λ j. not (same e.0 j)) es))) (id_ties_itself e.0)
-            ∙ ap found_in (all_stay e.0 es (first _ _ h)) ∙ same_tail is)
-        | false ↦ λ off is.
-            let left = where_key id_cmp (λ k. not (same row.id k)) es in
-            elim (not (same row.id e.0)) as (λ b. found_in (cond b (e ∷ left) left) ≡ found_in left) [
-              | true ↦ ap (λ b. cond b (e.1 ∷ found_in left) (found_in left)) off
-              | false ↦ refl
-            ] ∙ rest_found es row more (second _ _ h) at.1 is
-      ] refl is
+  -- they differ
+  distinct_found : (es : List (RowId × Row)) → T (is_sorted id_cmp es) → AtTheirIds es → IsDistinct same (ids_found es)
+  unfolding IsDistinct
+  distinct_found [] h at = tt
+  distinct_found (e ∷ es) h at =
+      let rest = distinct_found es (second _ _ h) at.1 in
+      elim (m e.1) as (λ b. IsDistinct same (map (λ (r : Row). r.id) (cond b (e.1 ∷ filter m (map (λ (e : RowId × Row). e.1) es)) (filter m (map (λ (e : RowId × Row). e.1) es))))) [
+        | true ↦ (subst (λ k. AllByRecursion (λ j. same k j ≡ false) (ids_found es)) (sym at.0) (apart_found e.0 es (first _ _ h) at.1), rest)
+        | false ↦ rest
+      ]
 
--- a copy without one row has the other entries
-entries_left : (m : TableState) (id : RowId) → entries (remove m id) ≡ where_key id_cmp (λ k. not (same id k)) (entries m)
-entries_left m id =
-    let p : RowId → Bool = λ k. not (same id k) in
-    let left = where_key id_cmp p (entries m) in
-    let rises = is_sorted-where_key id_cmp p (entries m) (entries_sorted m) in
-    let alike : (q x : RowId) → id_cmp q x ≡ Equal → p x ≡ p q = λ q x ties. ap p (sym (ids_exact q x ties)) in
-    ap entries (same_map ids_total ids_exact (remove m id) (from_sorted left) (λ q.
-    get-remove ids_total m id q ∙ turned q ∙ sym (find-where_key id_cmp p q (alike q) (entries m)) ∙ sym (get-from_sorted id_cmp left q rises)))
-    ∙ entries-from_sorted id_cmp left rises
+  -- and each stands there
+  abbrev Has : List (RowId × Row) → RowId → Type 0
+  Has es id = is_some (find id_cmp id es) ≡ true
+
+  has_more : (e : RowId × Row) (es : List (RowId × Row)) (ids : List RowId) → AllByRecursion (Has es) ids → AllByRecursion (Has (e ∷ es)) ids
+  has_more e es [] has = tt
+  has_more e es (id ∷ ids) has = (elim (same id e.0) as (λ b. is_some (cond b (Some e.1) (find id_cmp id es)) ≡ true) [ true ↦ refl | false ↦ has.0 ], has_more e es ids has.1)
+
+  found_there : (es : List (RowId × Row)) → AtTheirIds es → AllByRecursion (Has es) (ids_found es)
+  found_there [] at = tt
+  found_there (e ∷ es) at =
+      let rest = has_more e es (ids_found es) (found_there es at.1) in
+      elim (m e.1) as (λ b. AllByRecursion (Has (e ∷ es)) (map (λ (r : Row). r.id) (cond b (e.1 ∷ filter m (map (λ (e : RowId × Row). e.1) es)) (filter m (map (λ (e : RowId × Row). e.1) es))))) [
+        | true ↦ (ap (λ b. is_some (cond b (Some e.1) (find id_cmp e.1.id es))) (ap (λ k. same k e.0) at.0 ∙ id_ties_itself e.0), rest)
+        | false ↦ rest
+      ]
+
+-- what a query finds in a copy
+pub found_in_copy : (x : OpenTransaction) (q : Query) → ((id : RowId) (r : Row) → maps.get x.view id ≡ Some r → r.id ≡ id) → AreInCopy x (map (λ (r : Row). r.id) (rows_found x q))
+found_in_copy x q ids =
+    let es = entries x.view in
+    let at : AtTheirIds es = at_ids es (entries_sorted x.view) (λ id r is. ids id r (get-entries x.view id ∙ is)) in (
+      distinct_found (row_matches q) es (entries_sorted x.view) at,
+      All-from_recursion (λ (id : RowId). contains_key x.view id ≡ true) (ids_found (row_matches q) es)
+          (there (ids_found (row_matches q) es) (found_there (row_matches q) es at)),
+    )
   where
-    turned : (q : RowId) → cond (same q id) None (maps.get m q) ≡ cond (not (same id q)) (find id_cmp q (entries m)) None
-    turned q =
-        ap (λ b. cond b None (maps.get m q)) ((eq_by_cmp_equiv ids_total).symm q id)
-        ∙ elim (same id q) as (λ b. cond b None (maps.get m q) ≡ cond (not b) (find id_cmp q (entries m)) None) [ true ↦ refl | false ↦ get-entries m q ]
+    there : (found : List RowId) → AllByRecursion (Has (row_matches q) (entries x.view)) found → AllByRecursion (λ (id : RowId). contains_key x.view id ≡ true) found
+    there [] has = tt
+    there (id ∷ found) has = (ap is_some (get-entries x.view id) ∙ has.0, there found has.1)
 
-module _ (x : OpenTransaction) (q : Query) (ids : (id : RowId) (r : Row) → maps.get x.view id ≡ Some r → r.id ≡ id) (row : Row) (more : List Row) (found : rows_found x q ≡ row ∷ more) where
-  in_order : T (is_sorted id_cmp (entries x.view))
-  in_order = entries_sorted x.view
-
-  at : AtTheirIds (entries x.view)
-  at = at_ids (entries x.view) in_order (λ id r is. ids id r (get-entries x.view id ∙ is))
-
-  pub first_in_copy : maps.get x.view row.id ≡ Some row
-  first_in_copy = get-entries x.view row.id ∙ first_there (row_matches q) (entries x.view) row more in_order at found
-
-  pub others_found : rows_found (after_mark x row.id) q ≡ more
-  others_found = ap (found_in (row_matches q)) (entries_left x.view row.id) ∙ rest_found (row_matches q) (entries x.view) row more in_order at found
+-- the others, where the first one is marked
+pub others_in_copy : (x : OpenTransaction) (id : RowId) (others : List RowId) → AreInCopy x (id ∷ others) → AreInCopy (after_mark x id) others
+unfolding IsDistinct
+others_in_copy x id others are = (
+  are.0.1,
+  All-from_recursion (λ (k : RowId). contains_key (after_mark x id).view k ≡ true) others (stay others are.0.0 (recursion_from_All (λ (k : RowId). contains_key x.view k ≡ true) (id ∷ others) are.1).1),
+)
+  where
+    stay : (others : List RowId) → AllByRecursion (λ k. same id k ≡ false) others → AllByRecursion (λ k. contains_key x.view k ≡ true) others
+        → AllByRecursion (λ k. contains_key (after_mark x id).view k ≡ true) others
+    stay [] apart has = tt
+    stay (k ∷ others) apart has = (
+      ap is_some (get-remove ids_total x.view id k ∙ ap (λ b. cond b None (maps.get x.view k)) ((eq_by_cmp_equiv ids_total).symm k id ∙ apart.0)) ∙ has.0,
+      stay others apart.1 has.1,
+    )

@@ -68,7 +68,7 @@ use Rattle.session_parts.specs.HandsInTables.{IsMarkingAt, IsMarkingBy, IsTaskOf
 use Rattle.session_parts.specs.JournalState.{JournalState}
 use Rattle.session_parts.specs.Leaving.{CountsFew, LeadsTo, LeavesOthers, RowsStay, SameLocks, SlotsStay, StepsInTable}
 use Rattle.session_parts.specs.PlacesAfter.{place_after}
-use Rattle.session_parts.specs.ShowsPlace.{IsOfTransaction, IsPlaceOf, ShowsTable}
+use Rattle.session_parts.specs.ShowsPlace.{AreInCopy, IsOfTransaction, IsPlaceOf, ShowsTable}
 use Rattle.session_parts.specs.Stepping.{MakesItsStep}
 use Rattle.session_parts.specs.StoreLaws.{HasHand}
 use Rattle.session_parts.specs.StoreStates.{ShownStore, hand_in, shown_of, store_of, with_hand}
@@ -420,7 +420,7 @@ module _ {D : Type 0} (told : D → Told) (laws : MarkLaws) (old : Parts D) (pag
 
       own_then : (hand : Hand) → hand_then ≡ Some hand → IsOfTransaction (transaction_of old.transactions.opens n) (Some (after_mark there.stands.copy hit.id)) hand
       own_then hand is = subst (IsOfTransaction (transaction_of old.transactions.opens n) (Some (after_mark there.stands.copy hit.id))) (same_Some (hands.Marks marking_then) hand is)
-          (there.found_then ∙ ap ids_of (sym left_later))
+          (subst (λ (l : List Hit). AreInCopy (after_mark there.stands.copy hit.id) (ids_of l)) (sym left_later) there.left_then)
 
       pub shown_moved : IsPlaceOf (shown_of (store_of new names (with_hand hands_ n hand_then))) (place_then hand_then names hands_ is tells p shown (Some at_then))
       shown_moved = shown_then hand_then names hands_ is tells p shown (Some at_then) shows_then in_its_table ((λ same. marks_by), (λ apart. absurd (apart refl))) own_then tt

@@ -31,13 +31,13 @@ use Rattle.session_parts.specs.HandFits.{IsMarkingFor, IsUnderWay}
 use Rattle.session_parts.specs.Hands.{HandShows, MarkAnswers, hits_left, ids_of}
 use Rattle.session_parts.specs.HandsInTables.{IsMarkingAt, IsMarkingBy, IsTaskOf}
 use Rattle.session_parts.specs.Shares.{look_share}
-use Rattle.session_parts.specs.ShowsPlace.{IsLeftToMark, IsPlaceOf, ShowsTable}
+use Rattle.session_parts.specs.ShowsPlace.{AreInCopy, AreToMark, IsLeftToMark, IsPlaceOf, ShowsTable}
 use Rattle.session_parts.specs.StoreStates.{ShownStore, hand_in}
 use Rattle.session_transactions.specs.Looks.{look_entries}
-use Rattle.session_transactions.proofs.Copies.{first_in_copy, others_found}
+use Rattle.session_transactions.proofs.Copies.{found_in_copy, others_in_copy}
 use Rattle.session_transactions.proofs.Definition.{StandsAtMark}
 use Rattle.session_transactions.proofs.Entries.{HasMarked, entries_of}
-use Rattle.session_transactions.proofs.Hits.{IsFirstOf, first_of, hits_from, rows_from}
+use Rattle.session_transactions.proofs.Hits.{IsFirstOf, hits_from, rows_from}
 
 -- whether the look is still to be entered
 abbrev pub is_first : Option Query → Bool
@@ -49,16 +49,17 @@ pub under_way : (own : Option Open) → IsUnderWay own → (o : Open) × (own �
 under_way None is = absurd is
 under_way (Some o) is = (o, refl, is)
 
-left_in : (copy : Option OpenTransaction) (x : OpenTransaction) (marking : Marking) → copy ≡ Some x → IsLeftToMark copy (hands.Marks marking)
-    → map (λ (r : Row). r.id) (rows_found x marking.query) ≡ ids_of (hits_left marking)
-left_in copy x marking is left = subst (λ (c : Option OpenTransaction). IsLeftToMark c (hands.Marks marking)) is left
+-- the hits that are left are in the copy
+left_in : (look : Option Query) (marking : Marking) (answers : List Answer) (x : OpenTransaction) → ((id : RowId) (r : Row) → finite.get x.view id ≡ Some r → r.id ≡ id) → MarkAnswers look marking answers → AreToMark look x marking
+    → AreInCopy x (ids_of (hits_left marking))
+left_in (Some look) marking answers x at_ids are to_mark = subst (AreInCopy x) (to_mark ∙ ap (λ (k : ℕ). ids_of (drop k marking.hits.items)) (sym are.1)) (found_in_copy x marking.query at_ids)
+left_in None marking answers x at_ids are to_mark = to_mark
 
 -- the rows of its query, of which so many are marked
-answered : (look : Option Query) (marking : Marking) (answers : List Answer) (x : OpenTransaction) → MarkAnswers look marking answers
-    → map (λ (r : Row). r.id) (rows_found x marking.query) ≡ ids_of (hits_left marking)
+answered : (look : Option Query) (marking : Marking) (answers : List Answer) (x : OpenTransaction) → MarkAnswers look marking answers → AreToMark look x marking
     → (rows : List Row) × HasMarked (is_first look) (rows_found x marking.query) rows marking.next answers × (map (λ (r : Row). r.id) rows ≡ ids_of marking.hits.items)
-answered (Some look) marking answers x are left = (rows_found x marking.query, (are.0, refl, are.1), left ∙ ap (λ (k : ℕ). ids_of (drop k marking.hits.items)) are.1)
-answered None marking answers x are left = (are.0, are.2, are.1)
+answered (Some look) marking answers x are to_mark = (rows_found x marking.query, (are.0, refl, are.1), to_mark)
+answered None marking answers x are to_mark = (are.0, are.2, are.1)
 
 -- how the delete stands, and its row on the pages
 pub record MarksAt (s : ShownStore) (p : Place) (n : ℕ) (marking : Marking) (hit : Hit) (o : Open) (shown : IsPlaceOf s p) : Type 0 where
@@ -71,7 +72,7 @@ pub record MarksAt (s : ShownStore) (p : Place) (n : ℕ) (marking : Marking) (h
   pub whole : stands.copy.failed ≡ false
   pub number : stands.copy.t ≡ o.t
   pub in_copy : finite.contains_key stands.copy.view hit.id ≡ true
-  pub found_then : map (λ (r : Row). r.id) (rows_found (after_mark stands.copy hit.id) marking.query) ≡ ids_of (drop (suc marking.next) marking.hits.items)
+  pub left_then : AreInCopy (after_mark stands.copy hit.id) (ids_of (drop (suc marking.next) marking.hits.items))
   pub table : ShowsTable s shown.database.stored marking.query.table (p.tables marking.query.table)
   pub marking_at : IsMarkingAt s.transactions.tx.first shown.database.stored o table.blocks marking (table.unseen.task n)
   pub scan_is : stands.scan ≡ marking_at.scan
@@ -91,14 +92,14 @@ module _ (sessions : SessionsAreShown) (copies : CopyStands) (s : ShownStore) (p
   abbrev found : (x : OpenTransaction) × (finite.get (database_at p).sessions n ≡ Some x) × IsCopyOf o x
   found = (sessions s.layout s.pages s.transactions (database_at p) shown.database).shown n o opened
 
-  left : map Id (rows_found found.0 marking.query) ≡ ids_of (hits_left marking)
-  left = left_in (finite.get (database_at p).sessions n) found.0 marking found.1 (shown.own n (hands.Marks marking) hands_is)
+  to_mark : AreToMark marking.look found.0 marking
+  to_mark = subst (λ (c : Option OpenTransaction). IsLeftToMark c (hands.Marks marking)) found.1 (shown.own n (hands.Marks marking) hands_is)
 
   left_is : ids_of (hits_left marking) ≡ hit.id ∷ ids_of (drop (suc marking.next) marking.hits.items)
   left_is = ap ids_of (hits_from marking.hits.items marking.next hit next)
 
   abbrev its_rows : (rows : List Row) × HasMarked (is_first marking.look) (rows_found found.0 marking.query) rows marking.next shows.0.answers × (map Id rows ≡ ids_of marking.hits.items)
-  its_rows = answered marking.look marking shows.0.answers found.0 shows.3 left
+  its_rows = answered marking.look marking shows.0.answers found.0 shows.3 to_mark
 
   abbrev here : IsFirstOf (drop marking.next its_rows.0) hit.id (ids_of (drop (suc marking.next) marking.hits.items))
   here = rows_from its_rows.0 marking.hits.items marking.next hit its_rows.2 next
@@ -110,11 +111,9 @@ module _ (sessions : SessionsAreShown) (copies : CopyStands) (s : ShownStore) (p
   marking_at = subst (λ (x : Option Open). IsMarkingBy s.transactions.tx shown.database.stored x table.blocks marking (table.unseen.task n)) opened
       ((subst (λ (h : Option Hand). IsTaskOf s.layout marking.query.table table.blocks s.transactions.tx shown.database.stored (transaction_of s.transactions.opens n) h (table.unseen.task n)) hands_is (table.tasks n)).0 refl)
 
-  abbrev in_view : IsFirstOf (rows_found found.0 marking.query) hit.id (ids_of (drop (suc marking.next) marking.hits.items))
-  in_view = first_of (rows_found found.0 marking.query) hit.id (ids_of (drop (suc marking.next) marking.hits.items)) (left ∙ left_is)
-
-  at_ids : (id : RowId) (r : Row) → finite.get found.0.view id ≡ Some r → r.id ≡ id
-  at_ids id r is = (copies s.layout s.pages s.transactions (database_at p) n found.0 id r shown.database found.1 is).1
+  in_view : AreInCopy found.0 (hit.id ∷ ids_of (drop (suc marking.next) marking.hits.items))
+  in_view = subst (AreInCopy found.0) left_is (left_in marking.look marking shows.0.answers found.0
+      (λ id r is. (copies s.layout s.pages s.transactions (database_at p) n found.0 id r shown.database found.1 is).1) shows.3 to_mark)
 
   abbrev stands : StandsAtMark p n marking.query shows.0.answers (is_first marking.look) marking.next
   stands = record {
@@ -145,9 +144,8 @@ module _ (sessions : SessionsAreShown) (copies : CopyStands) (s : ShownStore) (p
     rows_ids = its_rows.2;
     whole = found.2.failed ∙ whole;
     number = found.2.t;
-    in_copy = ap is_some (subst (λ (id : RowId). finite.get found.0.view id ≡ Some in_view.row) in_view.its_id (first_in_copy found.0 marking.query at_ids in_view.row in_view.more in_view.is));
-    found_then = subst (λ (id : RowId). map Id (rows_found (after_mark found.0 id) marking.query) ≡ ids_of (drop (suc marking.next) marking.hits.items)) in_view.its_id
-        (ap (map Id) (others_found found.0 marking.query at_ids in_view.row in_view.more in_view.is) ∙ in_view.others);
+    in_copy = All-head (λ (id : RowId). finite.contains_key found.0.view id ≡ true) hit.id (ids_of (drop (suc marking.next) marking.hits.items)) in_view.1;
+    left_then = others_in_copy found.0 hit.id (ids_of (drop (suc marking.next) marking.hits.items)) in_view;
     table = table;
     marking_at = marking_at;
     scan_is = refl;

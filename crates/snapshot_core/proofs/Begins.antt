@@ -1,6 +1,6 @@
 -- what a begin makes of the visible state
 use Rattle.std.proofs.Common.{◌≡◌, ◌≢◌, Bool, true, false, not, ◌&&◌, ◌||◌, ℕ, zero, suc, ◌+◌, ◌<◌, List, [], ◌∷◌, ◌++◌, length, Option, None, Some, refl, sym, ap, ◌∙◌, inl, inr, subst, arith, eqb, eqb-true, eq-eqb, ne_eqb, length-append}
-use Rattle.std.specs.List.{list_any}
+use Rattle.std.specs.List.{AllByRecursion, IsDistinct, list_any}
 use Rattle.std.specs.Ordering.{nat_cmp, eq_by_cmp}
 use Rattle.std.specs.FinMap.{get}
 use Rattle.std.specs.FinSet as marks
@@ -34,14 +34,14 @@ or_true true = refl
 or_true false = refl
 
 -- each open one is active in its snapshot
-open_is_active : (os : List (Option Open)) (m : ℕ) (p : Open) → transaction_of os m ≡ Some p → list_any (λ u. eqb u p.t) (numbers_of os) ≡ true
+pub open_is_active : (os : List (Option Open)) (m : ℕ) (p : Open) → transaction_of os m ≡ Some p → list_any (λ u. eqb u p.t) (numbers_of os) ≡ true
 open_is_active [] m p h = absurd (cc)
 open_is_active (None ∷ os) zero p h = absurd (cc)
 open_is_active (None ∷ os) (suc m) p h = open_is_active os m p h
 open_is_active (Some o ∷ os) zero p h = let same : o ≡ p = cc in ap (λ b. b || list_any (λ u. eqb u p.t) (numbers_of os)) (eq-eqb o.t p.t (ap (λ (o : Open). o.t) same))
 open_is_active (Some o ∷ os) (suc m) p h = ap (λ c. eqb o.t p.t || c) (open_is_active os m p h) ∙ or_true (eqb o.t p.t)
 
-active_is_open : (os : List (Option Open)) (t : ℕ) → list_any (λ u. eqb u t) (numbers_of os) ≡ true → (m : ℕ) × (p : Open) × (transaction_of os m ≡ Some p) × (p.t ≡ t)
+pub active_is_open : (os : List (Option Open)) (t : ℕ) → list_any (λ u. eqb u t) (numbers_of os) ≡ true → (m : ℕ) × (p : Open) × (transaction_of os m ≡ Some p) × (p.t ≡ t)
 active_is_open [] t h = absurd (false≢true h)
 active_is_open (None ∷ os) t h = let r = active_is_open os t h in (suc r.0, r.1, r.2, r.3)
 active_is_open (Some o ∷ os) t h =
@@ -49,6 +49,21 @@ active_is_open (Some o ∷ os) t h =
       | true ↦ λ same _. (0, o, refl, eqb-true o.t t same)
       | false ↦ λ _ later. let r = active_is_open os t later in (suc r.0, r.1, r.2, r.3)
     ] refl h
+
+-- their numbers differ where they do
+numbers_differ : (t : ℕ) (os : List (Option Open)) → ((n : ℕ) (p : Open) → transaction_of os n ≡ Some p → t ≢ p.t) → AllByRecursion (λ u. eqb t u ≡ false) (numbers_of os)
+numbers_differ t [] differ = tt
+numbers_differ t (None ∷ os) differ = numbers_differ t os (λ n p was. differ (suc n) p was)
+numbers_differ t (Some o ∷ os) differ = (ne_eqb t o.t (differ 0 o refl), numbers_differ t os (λ n p was. differ (suc n) p was))
+
+pub numbers_once : (os : List (Option Open)) → ((m n : ℕ) (o p : Open) → transaction_of os m ≡ Some o → transaction_of os n ≡ Some p → m ≢ n → o.t ≢ p.t) → IsDistinct eqb (numbers_of os)
+unfolding IsDistinct
+numbers_once [] differ = tt
+numbers_once (None ∷ os) differ = numbers_once os (λ m n o p was is apart. differ (suc m) (suc n) o p was is (λ same. apart (omega (arith, same))))
+numbers_once (Some o ∷ os) differ = (
+  numbers_differ o.t os (λ n p was. differ 0 (suc n) o p refl was (λ same. absurd (omega (arith, same)))),
+  numbers_once os (λ m n o p was is apart. differ (suc m) (suc n) o p was is (λ same. apart (omega (arith, same)))),
+)
 
 -- what is committed isn't active
 committed_is_free : (vs : List Version) (ss : List Status) (os : List (Option Open)) (t : ℕ) → IsStored vs ss os → is_committed (status_of ss t) ≡ true → list_any (λ u. eqb u t) (numbers_of os) ≡ false
@@ -124,7 +139,8 @@ begun_stored vs ss os os' n whole idle at = record {
   known = λ q v h. let known = whole.known q v h in record {
     put = longer ss v.row.id.t known.put;
     gone = longer ss v.deleter known.gone;
-    own = λ uncommitted. known.own (sym (ap is_committed (status_before ss Begun v.row.id.t known.put)) ∙ uncommitted);
+    own = λ is. known.own (sym (status_before ss Begun v.row.id.t known.put) ∙ is);
+    marked = λ is other. ap is_committed (status_before ss Begun v.row.id.t known.put) ∙ known.marked (sym (status_before ss Begun v.deleter known.gone) ∙ is) other;
   };
   under_way = λ m p h. elim (which os os' n o at m p h) [
     | inl a ↦ subst (IsUnderWay vs (ss ++ Begun ∷ [])) a.1 (new_under_way vs ss os whole)

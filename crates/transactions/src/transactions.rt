@@ -124,7 +124,7 @@ impl Transactions {
         open_of(self.sessions.as_slice(), session)
     }
 
-    /// The open transaction that began first, if one is open. What had ended when it began had ended when each other one did.
+    /// The open transaction whose view was taken first, if one is open. What had ended then had ended when each other view was taken.
     pub fn oldest(&self) -> Option<&Open>
         ensures { option_copied result ≡ oldest_of self.now.opens }
     {

@@ -111,7 +111,7 @@ impl Vacuum {
 
     /// The next step. The first one takes the summarise lock of the table, and reads the extent; the lock is the caller's to give, once the
     /// summaries are done that come behind the vacuum's last step. A step at a block of the heap drops the rows that are dead to all, by the
-    /// snapshots `live`, of which the oldest open transaction's is enough; one at a page of an index drops the tuples that the map doesn't
+    /// snapshots `live`, of which the one with the oldest view is enough; one at a page of an index drops the tuples that the map doesn't
     /// name, where no other actor holds the page's lock, and takes no lock. Where a step is blocked, or lacks the summarise lock, nothing is
     /// changed; after an error no page is. Takes no memory.
     pub fn step<D: Disk + Drop>(

@@ -3,7 +3,6 @@ use Rattle.session_maintenance.proofs.dead_rows.dead_to_all_is_dead.Goals as goa
 
 pub returns-clause-rows : goal.returns-clause-rows
 returns-clause-rows c = dead_to_all (record {
-  began = c.open_transactions_began.ensures;
   numbers = c.numbers_rise.ensures;
   copies = c.copies_are_of_their_fronts.ensures;
   oldest = c.oldest_front_stands.ensures;
@@ -13,7 +12,6 @@ returns-clause-rows c = dead_to_all (record {
 
 pub returns-clause-blocks : goal.returns-clause-blocks
 returns-clause-blocks c = drops_by_journal (record {
-  began = c.open_transactions_began.ensures;
   numbers = c.numbers_rise.ensures;
   copies = c.copies_are_of_their_fronts.ensures;
   oldest = c.oldest_front_stands.ensures;
