@@ -9,11 +9,16 @@ pub mod Selects
 pub mod SummaryStep
 pub mod Summing
 pub mod IndexMakes
+pub mod RoomInPlace
 pub mod Stages
 pub mod Places
 pub mod Maintained
 pub mod Said
 pub mod Summaries
+pub mod RoomySteps
+pub mod MaintainDoes
+pub mod RoomyTable
+pub mod FullIndexes
 pub mod Summarized
 pub mod Desummarized
 pub mod Waits
