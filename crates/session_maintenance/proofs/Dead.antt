@@ -121,7 +121,7 @@ module _ (s : ShownStore) (p : Place) (shown : IsPlaceOf s p) (table : ℕ) (spo
   known = (whole shows).known row.id version there_stored
 
   used : put ≢ Unused
-  used = shows.used row.id version there_stored
+  used = (shows.used row.id version there_stored).put
 
   as_given : (u : ℕ) → status_of gs u ≡ status u
   as_given u = status_given t.tx shows.stored u shows.next
@@ -137,14 +137,14 @@ module _ (s : ShownStore) (p : Place) (shown : IsPlaceOf s p) (table : ℕ) (spo
   ended_not_begun : (u : ℕ) → HasEnded db u → status u ≢ Begun
   ended_not_begun u ended begun = (whole shows).begun u (λ n o was same. ended.1 (is_open t db have u (n, o, was, sym same))) (as_given u ∙ begun)
 
-  -- a deleter that has committed is one, and so has who put the row
+  -- a deleter that has committed is one, and who put the row is under way no more
   deleted_by_one : is_committed gone ≡ true → row.deleter ≢ 0
   deleted_by_one is none = false≢true (sym (ap is_committed (given_none t.tx.first shows.stored row.deleter none)) ∙ is)
 
-  put_committed : is_committed gone ≡ true → is_committed put ≡ true
-  put_committed is = true_from_ne_false (is_committed put) (λ uncommitted.
-      let own : row.deleter ≡ row.id.t = known.own (ap is_committed (as_given row.id.t) ∙ uncommitted) (deleted_by_one is) in
-      false≢true (sym uncommitted ∙ ap (λ u. is_committed (status u)) (sym own) ∙ is))
+  put_not_begun : is_committed gone ≡ true → put ≢ Begun
+  put_not_begun is begun =
+      let own : row.deleter ≡ row.id.t = known.own (as_given row.id.t ∙ begun) (deleted_by_one is) in
+      committed_not_begun gone is (ap status own ∙ begun)
 
   -- the table has the row exactly where a commit put it, and none deleted it
   absent_now : is_committed gone ≡ true → map.contains_key db.table row.id ≡ false
@@ -212,7 +212,7 @@ module _ (s : ShownStore) (p : Place) (shown : IsPlaceOf s p) (table : ℕ) (spo
       }
 
     gone_now : IsGone db row.id
-    gone_now = record { ended = (put_below, λ under_way. committed_not_begun put (put_committed is) (open_has_begun row.id.t under_way)); absent = absent_now is }
+    gone_now = record { ended = (put_below, λ under_way. put_not_begun is (open_has_begun row.id.t under_way)); absent = absent_now is }
 
     gone_at : CopiesAreOfTheirFronts → (before : List Entry) → IsOldestFront p.opening p.journal before → IsGone (serial_run p.opening before) row.id
     gone_at copies before (Whole none same) = subst (λ (l : List Entry). IsGone (serial_run p.opening l) row.id) (sym same) gone_now

@@ -73,8 +73,7 @@ module _ (layout : DiskLayout) (pages : PageMap) (t : TransactionsState) (d : Da
 
     deleted_by_another : (m : ℕ) (o : Open) → transaction_of t.opens m ≡ Some o → row.deleter ≢ o.t
     deleted_by_another m o is same =
-        let some = (under m o is).numbered in
-        put_by_another m o is (sym (known.own none_committed (λ none. omega (arith, some, same, none))) ∙ same)
+        false≢true (sym none_committed ∙ known.marked (ap (status_of statuses) same ∙ (under m o is).begun) (λ own. put_by_another m o is (sym own ∙ same)))
 
     rolled_unseen : IsUnseenVersion statuses t.opens v
     rolled_unseen = record {

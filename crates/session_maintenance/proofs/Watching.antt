@@ -84,7 +84,7 @@ module _ (s : ShownStore) (p : Place) (table : ℕ) (w : TableState) (shown : Is
     | inr some ↦
         let stands : StandsAt s.layout s.pages table x row = record { blocks = shows.blocks; has = shows.has; there = there } in
         let known = (whole base).known row.id (version_of table row) (row_stored base table x row below stands) in
-        let own : row.deleter ≡ row.id.t = known.own (ap is_committed (status_given t.tx base.stored row.id.t base.next ∙ is)) some in
+        let own : row.deleter ≡ row.id.t = known.own (status_given t.tx base.stored row.id.t base.next ∙ is) some in
         begun_not_committed (given_status t.tx.first base.stored row.deleter) (ap (given_status t.tx.first base.stored) own ∙ is)
   ]
 

@@ -128,7 +128,7 @@ module _ (commits : CommitsStand) (numbers : NumbersRise) (layout : DiskLayout) 
         λ under_way.
             let under = is_of_open t (database_at p) have row.id.t under_way in
             let begun = (open_one shows under.0 under.1 under.2).given in
-            let own : row.deleter ≡ row.id.t = known.own (ap is_committed (status_given t.tx shows.stored row.id.t shows.next ∙ ap (given_status t.tx.first shows.stored) under.3 ∙ begun)) some in
+            let own : row.deleter ≡ row.id.t = known.own (status_given t.tx shows.stored row.id.t shows.next ∙ ap (given_status t.tx.first shows.stored) under.3 ∙ begun) some in
             new_has_none row.deleter (subst (IsOfOpen t) (sym own) under) had,
       )
 

@@ -11,7 +11,7 @@ use Rattle.session_parts.specs.declared.hand.Hand.{Hand}
 use Rattle.session_parts.specs.Hands.{HandShows}
 use Rattle.session_parts.specs.HandsAsk.{HandAsked}
 use Rattle.session_parts.specs.HandsInTables.{IsTaskOf}
-use Rattle.session_parts.specs.OpeningLaws.{OpenedIsShown, place_opened, unseen_at_rest}
+use Rattle.session_parts.specs.OpeningLaws.{OpenedIsShown, place_opened}
 
 pub opened_is_shown : OpenedIsShown
 opened_is_shown s opening tables empty unasked undropped none started database opened order = record {
@@ -29,7 +29,7 @@ opened_is_shown s opening tables empty unasked undropped none started database o
   tables = λ table below. record {
     blocks = (opened table below).blocks;
     has = (opened table below).has;
-    unseen = unseen_at_rest (counts_of s.transactions database.stored) (opened table below).unnamed;
+    unseen = record { summarise_lock = None; task = λ n. Resting; counts = counts_of s.transactions database.stored; unnamed = (opened table below).unnamed };
     shown = (opened table below).is;
     lock = sym (opened table below).free;
     counts = λ t. refl;

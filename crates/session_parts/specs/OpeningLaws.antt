@@ -12,7 +12,7 @@ use Rattle.transactions.specs.Laws.{IsOpened}
 use Rattle.transactions.specs.ShowsDatabase.{ShowsDatabase}
 use Rattle.index_contents.specs.IndexContents.{index_page}
 use Rattle.coverage.specs.Accounts.{no_account}
-use Rattle.coverage.specs.Machines.{Unseen, table_state}
+use Rattle.coverage.specs.Machines.{table_state}
 use Rattle.coverage.specs.Table.{Resting, TableState}
 use Rattle.coverage.specs.TableCovered.{IsTableKept}
 use Rattle.script_semantics.specs.ShownRows.{shown_by}
@@ -20,16 +20,12 @@ use Rattle.script_semantics.specs.Place.{Place}
 use Rattle.session_parts.specs.ShowsPlace.{IsPlaceOf}
 use Rattle.session_parts.specs.StoreStates.{ShownStore, dropped_in, hand_in}
 
--- Nobody is at anything: who holds no summarise lock, with these rows that count, and these tuples that were unnamed.
-abbrev pub unseen_at_rest : (counts : ℕ → Bool) → (unnamed : ℕ → Spot → Bool) → Unseen
-unseen_at_rest counts unnamed = record { summarise_lock = None; task = λ n. Resting; counts = counts; unnamed = unnamed }
-
--- the table that the pages show, and which is kept, while nobody is at anything
+-- the table that the pages show, and which is kept, while nobody is at anything, and these tuples were unnamed
 pub record IsTableOpened (s : ShownStore) (stored : List Status) (table : ℕ) (w : TableState) : Type 0 where
   pub blocks : List (List Slot)
   pub has : HasBlocks s.layout s.pages table blocks
   pub unnamed : ℕ → Spot → Bool
-  pub is : w ≡ table_state (shown_by s.layout s.pages s.locks table blocks) (unseen_at_rest (counts_of s.transactions stored) unnamed)
+  pub is : w ≡ table_state (shown_by s.layout s.pages s.locks table blocks) (record { summarise_lock = None; task = λ n. Resting; counts = counts_of s.transactions stored; unnamed = unnamed })
   pub free : right_of s.rights table ≡ None
   pub kept : IsTableKept w
 

@@ -1,15 +1,14 @@
 -- Whose rows count on the pages that a stop leaves, once they are opened.
-use Rattle.std.proofs.Common.{◌≡◌, ◌≢◌, ◌⊎◌, inl, inr, ℕ, zero, suc, Bool, true, false, cond, ◌||◌, eqb, ltb, List, [], ◌∷◌, set, take, replicate, None, Some, refl, sym, ap, subst, ◌∙◌}
+use Rattle.std.proofs.Common.{◌≡◌, ◌≢◌, ◌⊎◌, inl, inr, ℕ, zero, suc, Bool, true, false, cond, ◌||◌, eqb, ltb, List, [], ◌∷◌, set, take, None, Some, refl, sym, ap, subst, ◌∙◌}
 use Rattle.std.specs.List.{list_any}
 use Rattle.std.specs.Prelude.{IsTrue}
 use Rattle.std.proofs.lemmas.Bool.{false≢true}
 use Rattle.std.proofs.lemmas.List.{get_or-set_other}
 use Rattle.block_model.specs.DatabaseState.{DatabaseState}
-use Rattle.store_layout.specs.declared.limits.TheConstants.{MAX_SESSIONS}
 use Rattle.store_layout.specs.DiskLayout.{DiskLayout}
 use Rattle.page_map.specs.PageMap.{PageMap}
 use Rattle.snapshot_core.specs.declared.statuses.Status.{Status}
-use Rattle.snapshot_core.specs.declared.statuses.Status.TheVariants.{Begun, Committed, RolledBack, Unused}
+use Rattle.snapshot_core.specs.declared.statuses.Status.TheVariants.{Begun, Committed, Unused}
 use Rattle.snapshot_core.specs.Visibility.{is_committed}
 use Rattle.snapshot_core.specs.declared.sessions.Open.{Open}
 use Rattle.snapshot_core.specs.SessionChanges.{ended}
@@ -20,42 +19,14 @@ use Rattle.transactions.specs.GivenStatuses.{given_status}
 use Rattle.transactions.specs.Laws.{CommitCounts, OthersAreApart}
 use Rattle.transactions.specs.ShowsDatabase.{ShowsDatabase}
 use Rattle.transactions.specs.TransactionsState.{TransactionsState, with_open}
+use Rattle.transactions.proofs.Openings.{committed_after, committed_given}
 use Rattle.transactions.proofs.Shown.{open_one}
+use Rattle.store_image.proofs.Counted.{counts_opened}
 use Rattle.session_starts.specs.StoreImage.{opened_at}
-
--- ---- nothing is open
-
-or_none : (a b : Bool) → b ≡ false → (a || b) ≡ a
-or_none true b is = refl
-or_none false b is = is
 
 or_first : (a b : Bool) → IsTrue a → IsTrue (a || b)
 or_first true b is = refl
 or_first false b is = absurd (false≢true is)
-
-none_goes_on : (n u : ℕ) → list_any (goes_on u) (replicate n None) ≡ false
-none_goes_on zero u = refl
-none_goes_on (suc n) u = none_goes_on n u
-
--- so the rows of commits count alone
-counts_opened : (next : ℕ) (ss : List Status) (u : ℕ) → counts (opened_at next) ss u ≡ is_committed (given_status next ss u)
-counts_opened next ss u = or_none (is_committed (given_status next ss u)) (list_any (goes_on u) (replicate MAX_SESSIONS None)) (none_goes_on MAX_SESSIONS u)
-
--- ---- statuses of another opening
-
-committed_after : (earlier : Bool) (e : Status) → is_committed (after_stop earlier e) ≡ is_committed e
-committed_after true Unused = refl
-committed_after true Begun = refl
-committed_after true Committed = refl
-committed_after true RolledBack = refl
-committed_after false e = refl
-
-committed_given : (first other : ℕ) (ss : List Status) (u : ℕ) → is_committed (given_status first ss u) ≡ is_committed (given_status other ss u)
-committed_given first other ss u = go (eqb u 0)
-  where
-    go : (b : Bool) → is_committed (cond b Unused (after_stop (ltb u first) (status_of ss u))) ≡ is_committed (cond b Unused (after_stop (ltb u other) (status_of ss u)))
-    go true = refl
-    go false = committed_after (ltb u first) (status_of ss u) ∙ sym (committed_after (ltb u other) (status_of ss u))
 
 -- whoever counts once the pages are opened counts with the same statuses whatever is open
 pub counted_before : (t : TransactionsState) (next : ℕ) (ss : List Status) (u : ℕ) → IsTrue (counts (opened_at next) ss u) → IsTrue (counts t ss u)

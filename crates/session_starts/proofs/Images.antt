@@ -31,16 +31,16 @@ use Rattle.index_steps.specs.ShownRows.{shown_by}
 use Rattle.session_parts.specs.Insert.{Insert}
 use Rattle.script_semantics.specs.Place.{Place, database_at}
 use Rattle.session_parts.specs.declared.hand.Hand.TheVariants as hands
-use Rattle.session_parts.specs.OpeningLaws.{unseen_at_rest}
 use Rattle.session_parts.specs.ShowsPlace.{IsPlaceOf, ShowsTable}
 use Rattle.session_parts.specs.StoreStates.{ShownStore, hand_in}
 use Rattle.session_parts.proofs.Tables.{same_blocks, same_contents, shown_alike}
+use Rattle.store_image.proofs.Unnamed.{is_unnamed}
 use Rattle.session_starts.specs.ImageLaws.{CommitIsImage, ShownIsImage}
-use Rattle.session_starts.specs.StoreImage.{IsRestingTable, IsStoreImage, database_with, opened_at}
+use Rattle.session_starts.specs.StoreImage.{IsRestingTable, IsStoreImage, database_with, opened_at, unseen_at_rest}
 use Rattle.session_starts.proofs.Counts.{IsPartOf, begun_is_void, counted_before, part_counts_no_more, part_of_one, part_voids_others}
 use Rattle.session_starts.proofs.Order.{pages_in_order}
 use Rattle.session_starts.proofs.PutRows.{row_in_hand, row_inserted}
-use Rattle.session_starts.proofs.Resting.{is_unnamed, kept_at_rest, locks_then, nobody_locks, table_at_rest, with_its_locks}
+use Rattle.session_starts.proofs.Resting.{kept_at_rest, locks_then, nobody_locks, table_at_rest, with_its_locks}
 
 -- an opening keeps the database, without what was under way
 database_opened : OpeningIsShown → SessionsAreShown → (layout : DiskLayout) (pages : PageMap) (t : TransactionsState) (d : DatabaseState) → ShowsDatabase layout pages t d

@@ -1,6 +1,6 @@
 -- an index of fresh pages
 use Rattle.std.proofs.Common.{◌≡◌, inl, inr, ℕ, zero, suc, ◌%◌, ◌<◌, ◌≤◌, Bool, true, false, List, [], length, refl, sym, ◌∙◌, ap, arith, lit<}
-use Rattle.std.specs.Prelude.{drop, nat_le, replicate, slice_index, slice_index_or, Option, None, if◌then◌else◌}
+use Rattle.std.specs.Prelude.{nat_le, replicate, slice_index, slice_index_or, Option, None, if◌then◌else◌}
 use Rattle.std.proofs.lemmas.Bool.{cases_lt, lt-leb}
 use Rattle.std.proofs.lemmas.List.{get_or-replicate, length-replicate}
 use Rattle.block_model.specs.declared.place.Place.{Place}
@@ -10,7 +10,7 @@ use Rattle.store_layout.specs.RelationCounts.{blocks_of_index, count_relations}
 use Rattle.page_map.specs.PageMap.{IsWhole, PageMap, block_at}
 use Rattle.index_layout.specs.declared.format.TheConstants.{MAP, MAP_ENTRIES, META}
 use Rattle.index_layout.specs.IndexPages.{AreEntries, IsMap, IsMeta, meta_bytes}
-use Rattle.index_layout.specs.IndexReading.{entries_of, is_regular, map_pages_of, number_at, slots_in, slots_of}
+use Rattle.index_layout.specs.IndexReading.{entries_of, map_pages_of}
 use Rattle.coverage.specs.IndexView.{Mapping, map_page_of}
 use Rattle.coverage.specs.PageOrder.{AreNewPages}
 use Rattle.index_contents.specs.Calls.{past_the_limit}
@@ -19,6 +19,7 @@ use Rattle.index_contents.specs.MapLaws.{is_of_map}
 use Rattle.index_contents.specs.Reading.{unstarted_kind}
 use Rattle.store_format.specs.FreshStore.{fresh_index_page, fresh_page, unstarted_page}
 use Rattle.store_format.proofs.Places.{fresh_index, index_others}
+use Rattle.store_image.proofs.Ordered.{no_tuple_on}
 use Rattle.session_starts.specs.NewTables.{IsNewIndex}
 
 -- a page has one list of entries, and a metapage one number
@@ -32,13 +33,6 @@ none_in : (n k : ℕ) → ◌≡◌ {A = Option Spot} (slice_index_or (replicate
 none_in zero k = refl
 none_in (suc n) zero = refl
 none_in (suc n) (suc k) = none_in n k
-
--- a page of another kind has no tuple
-no_tuple_on : (page : List ℕ) (kind slot : ℕ) → slice_index page 0 ≡ kind → is_regular kind ≡ false → tuple_on page slot ≡ None
-unfolding slots_of
-no_tuple_on page kind slot is other =
-    ap (λ (k : ℕ). slice_index_or (if is_regular k then slots_in page (number_at page 2 2) (drop 32 page) else []) slot None) is
-    ∙ ap (λ (b : Bool). slice_index_or (if b then slots_in page (number_at page 2 2) (drop 32 page) else []) slot None) other
 
 either_none : (b : Bool) (e : Option Spot) → e ≡ None → (if b then e else None) ≡ None
 either_none true e none = none

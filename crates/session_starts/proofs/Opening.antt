@@ -28,11 +28,11 @@ use Rattle.index_steps.specs.ShownRows.{shown_by}
 use Rattle.index_steps.specs.ShownTable.{indexes_of, shown_at}
 use Rattle.script_semantics.specs.Place.{Place}
 use Rattle.script_semantics.specs.Starts.{IsLaidOut, IsOpening}
-use Rattle.session_parts.specs.OpeningLaws.{IsTableOpened, OpenedIsShown, place_opened, unseen_at_rest}
+use Rattle.session_parts.specs.OpeningLaws.{IsTableOpened, OpenedIsShown, place_opened}
 use Rattle.session_parts.specs.ShowsPlace.{IsPlaceOf}
 use Rattle.session_parts.specs.StoreStates.{ShownStore}
 use Rattle.session_starts.specs.ImageLaws.{IsOpenedStore}
-use Rattle.session_starts.specs.StoreImage.{IsRestingTable, IsStoreImage, database_with, opened_at}
+use Rattle.session_starts.specs.StoreImage.{IsRestingTable, IsStoreImage, database_with, opened_at, unseen_at_rest}
 
 -- ---- the transactions
 

@@ -1,7 +1,7 @@
 -- Tables at rest: what a stop leaves of a table, whatever its statements had in hand.
-use Rattle.std.proofs.Common.{◌≡◌, ◌⊎◌, inl, inr, ℕ, ◌<◌, Bool, true, false, not, ◌&&◌, eqb, eqb-true, eq-eqb, List, Option, None, Some, refl, sym, ap, ◌∙◌, arith}
+use Rattle.std.proofs.Common.{◌≡◌, inl, ℕ, ◌<◌, Bool, false, not, List, Option, None, Some, refl, sym, ap, ◌∙◌, arith}
 use Rattle.std.specs.Prelude.{IsTrue, slice_get}
-use Rattle.std.proofs.lemmas.Bool.{and_parts, false≢true}
+use Rattle.std.proofs.lemmas.Bool.{false≢true}
 use Rattle.std.proofs.lemmas.Option.{none-some}
 use Rattle.block_model.specs.declared.place.Spot.{Spot}
 use Rattle.block_model.specs.declared.row.Row.{Row}
@@ -20,35 +20,8 @@ use Rattle.coverage.specs.Table.{TableState, index_state, index_view_at, seen_by
 use Rattle.coverage.specs.TableCovered.{IsTableAtRest, IsTableKept, TableStops}
 use Rattle.index_steps.specs.ShownRows.{shown_by}
 use Rattle.index_steps.specs.ShownTable.{indexes_of, shown_at}
-use Rattle.session_parts.specs.OpeningLaws.{unseen_at_rest}
-use Rattle.session_starts.specs.StoreImage.{IsUnlocked}
-
--- ---- tuples that the map doesn't name
-
-abbrev names : Spot → Option Spot → Bool
-names x None = false
-names x (Some y) = eqb y.block x.block && eqb y.slot x.slot
-
-names_it : (x : Spot) (o : Option Spot) → names x o ≡ true → o ≡ Some x
-names_it x None is = absurd (false≢true is)
-names_it x (Some y) is =
-    let parts = and_parts (eqb y.block x.block) (eqb y.slot x.slot) is in
-    λ i. Some (record { block = eqb-true y.block x.block parts.0 i; slot = eqb-true y.slot x.slot parts.1 i })
-
-is_named : (x : Spot) → names x (Some x) ≡ true
-is_named x = λ i. eq-eqb x.block x.block refl i && eq-eqb x.slot x.slot refl i
-
--- a tuple stands there, and the entry of its range names another place, or none
-abbrev pub is_unnamed : (ℕ → Option Spot) → Option IndexTuple → Spot → Bool
-is_unnamed entry None x = false
-is_unnamed entry (Some t) x = not (names x (entry t.range))
-
-named_or_not : (entry : ℕ → Option Spot) (o : Option IndexTuple) (x : Spot) (t : IndexTuple) → o ≡ Some t → (entry t.range ≡ Some x) ⊎ IsTrue (is_unnamed entry o x)
-named_or_not entry o x t here = go (names x (entry t.range)) refl
-  where
-    go : (b : Bool) → names x (entry t.range) ≡ b → (entry t.range ≡ Some x) ⊎ IsTrue (is_unnamed entry o x)
-    go true is = inl (names_it x (entry t.range) is)
-    go false is = inr (ap (λ (o : Option IndexTuple). is_unnamed entry o x) here ∙ ap not is)
+use Rattle.store_image.proofs.Unnamed.{is_named, is_unnamed, named_or_not, names}
+use Rattle.session_starts.specs.StoreImage.{IsUnlocked, unseen_at_rest}
 
 -- ---- a table that is stopped
 

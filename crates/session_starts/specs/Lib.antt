@@ -1,4 +1,4 @@
-pub mod StoreImage
+pub use Rattle.store_image.specs.StoreImage
 pub mod Stops
 pub mod ImageLaws
 pub mod StopRule

@@ -139,7 +139,8 @@ begun_stored vs ss os os' n whole idle at = record {
   known = λ q v h. let known = whole.known q v h in record {
     put = longer ss v.row.id.t known.put;
     gone = longer ss v.deleter known.gone;
-    own = λ uncommitted. known.own (sym (ap is_committed (status_before ss Begun v.row.id.t known.put)) ∙ uncommitted);
+    own = λ is. known.own (sym (status_before ss Begun v.row.id.t known.put) ∙ is);
+    marked = λ is other. ap is_committed (status_before ss Begun v.row.id.t known.put) ∙ known.marked (sym (status_before ss Begun v.deleter known.gone) ∙ is) other;
   };
   under_way = λ m p h. elim (which os os' n o at m p h) [
     | inl a ↦ subst (IsUnderWay vs (ss ++ Begun ∷ [])) a.1 (new_under_way vs ss os whole)

@@ -99,7 +99,7 @@ pub unheld : (vs : List Version) (ss : List Status) (os : List (Option Open)) (n
 unheld vs ss os n o v whole was there seen free = elim (cases_eq v.row.id.t o.t) [
   | inl own ↦ elim (cases_eq v.deleter 0) [
     | inl zero ↦ ap (λ t. holds (status_of ss t)) zero ∙ ap holds whole.nobody
-    | inr some ↦ absurd (deleter_other ss o v seen ((whole.known v.row.id v there).own (ap (λ t. is_committed (status_of ss t)) own ∙ ap is_committed (whole.under_way n o was).begun) some ∙ own))
+    | inr some ↦ absurd (deleter_other ss o v seen ((whole.known v.row.id v there).own (ap (status_of ss) own ∙ (whole.under_way n o was).begun) some ∙ own))
   ]
   | inr ne ↦ sym (λ i. not (ne_eqb v.row.id.t o.t ne i) && (not (ne_eqb v.deleter o.t (deleter_other ss o v seen) i) && holds (status_of ss v.deleter))) ∙ free
 ]

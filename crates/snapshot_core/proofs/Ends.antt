@@ -126,7 +126,7 @@ committed_table vs ss os n o whole was = same_map ids_total ids_exact _ _ (λ q.
     no_deleter : (v : Version) → IsKnown ss v → v.row.id.t ≡ o.t → eqb v.deleter o.t ≡ false → is_committed (status_of ss v.deleter) ≡ false
     no_deleter v known own ne = elim (cases_eq v.deleter 0) [
       | inl zero ↦ ap (λ t. is_committed (status_of ss t)) zero ∙ ap is_committed whole.nobody
-      | inr some ↦ absurd (other_number_eqb v.deleter o.t ne (known.own (not_yet v.row.id.t own) some ∙ own))
+      | inr some ↦ absurd (other_number_eqb v.deleter o.t ne (known.own (ap (status_of ss) own ∙ begun) some ∙ own))
     ]
 
     of_version : (v : Version) → IsKnown ss v
@@ -185,7 +185,8 @@ ended_stored vs ss os os' n o e whole was at ends = record {
   known = λ q v h. let known = whole.known q v h in record {
     put = omega (arith, known.put, length-set ss o.t e);
     gone = omega (arith, known.gone, length-set ss o.t e);
-    own = λ uncommitted. known.own (before v.row.id.t uncommitted);
+    own = λ is. known.own (before v.row.id.t is);
+    marked = λ is other. still_committed v.row.id.t (known.marked (before v.deleter is) other);
   };
   under_way = λ m p h. let d = left m p h in still m p d.0 d.1 (whole.under_way m p d.1);
   apart = λ m k p q h g ne. whole.apart m k p q (left m p h).1 (left k q g).1 ne;
@@ -201,11 +202,14 @@ ended_stored vs ss os os' n o e whole was at ends = record {
     apart_from : (m : ℕ) (p : Open) → eq_by_cmp nat_cmp m n ≡ false → transaction_of os m ≡ Some p → p.t ≢ o.t
     apart_from m p other was_p d = (whole.apart n m o p was was_p (λ k. other_number m n other (sym k))).differ (sym d)
 
-    -- what hasn't committed now hadn't
-    before : (t : ℕ) → is_committed (status_of (set ss o.t e) t) ≡ false → is_committed (status_of ss t) ≡ false
-    before t h = elim (cases_eq t o.t) [
-      | inl same ↦ ap (λ t. is_committed (status_of ss t)) same ∙ ap is_committed (whole.under_way n o was).begun
-      | inr ne ↦ sym (ap is_committed (status_other ss o.t t e ne)) ∙ h
+    -- what is begun now was, and what had committed has
+    before : (t : ℕ) → status_of (set ss o.t e) t ≡ Begun → status_of ss t ≡ Begun
+    before t h = elim (cases_eq t o.t) [ inl same ↦ ap (status_of ss) same ∙ (whole.under_way n o was).begun | inr ne ↦ sym (status_other ss o.t t e ne) ∙ h ]
+
+    still_committed : (t : ℕ) → is_committed (status_of ss t) ≡ true → is_committed (status_of (set ss o.t e) t) ≡ true
+    still_committed t h = elim (cases_eq t o.t) [
+      | inl same ↦ absurd (true≢false (sym h ∙ ap is_committed (ap (status_of ss) same ∙ (whole.under_way n o was).begun)))
+      | inr ne ↦ ap is_committed (status_other ss o.t t e ne) ∙ h
     ]
 
     still : (m : ℕ) (p : Open) → eq_by_cmp nat_cmp m n ≡ false → transaction_of os m ≡ Some p → IsUnderWay vs ss p → IsUnderWay vs (set ss o.t e) p

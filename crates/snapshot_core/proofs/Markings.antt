@@ -98,10 +98,11 @@ marked_stored vs ws ss os n o v whole was there seen put = record {
     marked_known = record {
       put = (whole.known v.row.id v there).put;
       gone = begun_known ss o.t (whole.under_way n o was).begun;
-      own = λ uncommitted some. elim (cases_eq v.row.id.t o.t) [
+      own = λ is some. elim (cases_eq v.row.id.t o.t) [
         | inl own ↦ sym own
-        | inr ne ↦ absurd (true≢false (sym (put_committed ss o v seen ne) ∙ uncommitted))
+        | inr ne ↦ absurd (true≢false (sym (put_committed ss o v seen ne) ∙ ap is_committed is))
       ];
+      marked = λ is other. put_committed ss o v seen (λ own. other (sym own));
     }
 
     still : (p : Open) → IsUnderWay vs ss p → IsUnderWay ws ss p

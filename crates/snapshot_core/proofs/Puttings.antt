@@ -11,6 +11,7 @@ use Rattle.block_model.specs.declared.request.Request.TheVariants as requests
 use Rattle.block_model.specs.DatabaseState.{DatabaseState, OpenTransaction}
 use Rattle.block_model.specs.RequestEffect as model
 use Rattle.snapshot_core.specs.declared.statuses.Status.{Status}
+use Rattle.snapshot_core.specs.declared.statuses.Status.TheVariants.{Unused, Begun}
 use Rattle.snapshot_core.specs.Visibility.{is_committed, had_ended}
 use Rattle.store_layout.specs.StatementRequests.{request_entry}
 use Rattle.snapshot_core.specs.declared.table.Version.{Version}
@@ -145,7 +146,7 @@ put_stored vs ws ss os os' n table values o whole was at put =
     h = whole.under_way n o was
 
     new_known : IsKnown ss (new_version o table values)
-    new_known = record { put = begun_known ss o.t (whole.under_way n o was).begun; gone = whole.some; own = λ uncommitted some. absurd (some refl) }
+    new_known = record { put = begun_known ss o.t (whole.under_way n o was).begun; gone = whole.some; own = λ is some. absurd (some refl); marked = λ is. absurd (let none : Unused ≡ Begun = sym whole.nobody ∙ is in cc) }
 
     known : (q : RowId) (x : Version) → stored ws q ≡ Some x → IsKnown ss x
     known q x g = elim (stored_after vs ws (new_version o table values) q x put g) [

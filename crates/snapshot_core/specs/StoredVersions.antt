@@ -1,5 +1,5 @@
 -- what holds of stored row versions, statuses and open transactions
-use Rattle.std.specs.Prelude.{◌≡◌, ◌≢◌, ℕ, ◌<◌, ◌≤◌, false, List, [], map, length, slice_index_or, All, Option, None, Some}
+use Rattle.std.specs.Prelude.{◌≡◌, ◌≢◌, ℕ, ◌<◌, ◌≤◌, true, false, List, [], map, length, slice_index_or, All, Option, None, Some}
 use Rattle.std.specs.List.{IsDistinct}
 use Rattle.std.specs.Ordering.{eq_by_cmp}
 use Rattle.std.specs.BTreeMap.{is_at}
@@ -26,11 +26,12 @@ versions_at tables table = slice_index_or tables table []
 abbrev pub transaction_of : List (Option Open) → ℕ → Option Open
 transaction_of sessions session = slice_index_or sessions session None
 
--- the version's transactions are known, and a row that isn't of a commit is deleted by its own transaction alone
+-- The version's transactions are known. The row of one that is under way is deleted by that one alone, and one that is under way has deleted its own rows and those of commits alone.
 pub record IsKnown (statuses : List Status) (v : Version) : Type 0 where
   pub put : v.row.id.t < length statuses
   pub gone : v.deleter < length statuses
-  pub own : is_committed (status_of statuses v.row.id.t) ≡ false → v.deleter ≢ 0 → v.deleter ≡ v.row.id.t
+  pub own : status_of statuses v.row.id.t ≡ Begun → v.deleter ≢ 0 → v.deleter ≡ v.row.id.t
+  pub marked : status_of statuses v.deleter ≡ Begun → v.deleter ≢ v.row.id.t → is_committed (status_of statuses v.row.id.t) ≡ true
 
 -- an open transaction has begun, and its rows stand before the place of its next one
 pub record IsUnderWay (versions : List Version) (statuses : List Status) (o : Open) : Type 0 where
@@ -53,6 +54,10 @@ pub record IsStored (versions : List Version) (statuses : List Status) (sessions
   pub under_way : (session : ℕ) (o : Open) → transaction_of sessions session ≡ Some o → IsUnderWay versions statuses o
   pub apart : (m n : ℕ) (o p : Open) → transaction_of sessions m ≡ Some o → transaction_of sessions n ≡ Some p → m ≢ n → AreApart o p
   pub begun : (t : ℕ) → ((session : ℕ) (o : Open) → transaction_of sessions session ≡ Some o → o.t ≢ t) → status_of statuses t ≢ Begun
+
+-- where nobody is under way, a row may have any deleter that is known, whatever became of the transaction that put it
+abbrev pub AnyDeleterIsKnown : Type 0
+AnyDeleterIsKnown = (statuses : List Status) (v : Version) → ((t : ℕ) → status_of statuses t ≢ Begun) → v.row.id.t < length statuses → v.deleter < length statuses → IsKnown statuses v
 
 -- there is a place for each session, and each row is of its table
 pub record AreVersions (tables : List (List Version)) (statuses : List Status) (sessions : List (Option Open)) : Type 0 where

@@ -3,6 +3,7 @@
 ghost use Rattle.std.specs.Prelude.{◌≡◌, ◌≢◌, ◌≤◌, ◌==◌, ◌⊎◌, ◌↔◌, [], true, false, Contains};
 ghost use Rattle.std.specs.List.{All};
 ghost use Rattle.snapshot_core.specs.Dead.{is_dead_to_all};
+ghost use Rattle.snapshot_core.specs.StoredVersions.{AnyDeleterIsKnown};
 ghost use Rattle.snapshot_core.specs.Visibility.{sees, has_done, in_snapshot, IsUnfinished};
 
 use crate::snapshots::Snapshot;
@@ -79,4 +80,10 @@ pub fn rows_that_are_dead_with_no_snapshot(deleter: u64, put: Status, gone: Stat
 /// A row that nobody has deleted is dead to all exactly where it is one of a rollback.
 pub fn rows_that_nobody_deleted(live: &[Snapshot], put: Status)
     ensures { (is_dead_to_all live.now 0 put Status.Unused ≡ true) ↔ (put ≡ Status.RolledBack) }
+{}
+
+/// Where no transaction is under way, as at an opening, a row may have any deleter whose number was given: also the row of a rollback
+/// another's, whether that has committed or not.
+pub fn a_row_at_rest_may_have_any_deleter()
+    ensures { AnyDeleterIsKnown }
 {}

@@ -17,8 +17,8 @@ mod visibility;
 
 pub use dead::dead_to_all;
 pub use laws::{
-    a_dead_row_is_not_seen, a_deleted_row_is_not_seen, an_own_row_is_seen,
-    an_unfinished_delete_hides_nothing, an_unfinished_row_is_not_seen,
+    a_dead_row_is_not_seen, a_deleted_row_is_not_seen, a_row_at_rest_may_have_any_deleter,
+    an_own_row_is_seen, an_unfinished_delete_hides_nothing, an_unfinished_row_is_not_seen,
     rows_that_are_dead_with_no_snapshot, rows_that_nobody_deleted,
 };
 pub use oldest::oldest_of;

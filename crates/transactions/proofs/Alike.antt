@@ -1,20 +1,19 @@
 -- Pages with the same statuses and tables show alike.
-use Rattle.std.proofs.Common.{◌≡◌, ◌≢◌, ℕ, ◌<◌, List, [], length, Some, sym, ap, subst, ◌∙◌}
+use Rattle.std.proofs.Common.{◌≡◌, ℕ, ◌<◌, List, [], length, Some, sym, ap, subst, ◌∙◌}
 use Rattle.std.proofs.lemmas.List.FromFn.{fill_by_all, length-map-range_with_len}
 use Rattle.block_model.specs.declared.row.RowId.{RowId}
 use Rattle.block_model.specs.DatabaseState.{DatabaseState}
 use Rattle.store_layout.specs.DiskLayout.{DiskLayout}
 use Rattle.page_map.specs.PageMap.{PageMap, block_at}
 use Rattle.heap_rows.specs.Heaps.{relation_of}
-use Rattle.snapshot_core.specs.declared.statuses.Status.TheVariants.{Unused}
 use Rattle.snapshot_core.specs.declared.table.Version.{Version}
 use Rattle.snapshot_core.specs.StoredVersions.{AreVersions, stored}
 use Rattle.snapshot_core.specs.VisibleState.{all_versions, visible_state}
 use Rattle.transactions.specs.ShownVersions.{shown_tables, versions_of_table}
 use Rattle.transactions.proofs.Tables.{same_versions, shown_at}
 use Rattle.tx_table.specs.Kept.{HasSameStatusPages, started_blocks_kept, statuses_kept}
-use Rattle.transactions.specs.GivenStatuses.{given_status, given_statuses}
-use Rattle.transactions.specs.ShowsDatabase.{ShowsDatabase}
+use Rattle.transactions.specs.GivenStatuses.{given_statuses}
+use Rattle.transactions.specs.ShowsDatabase.{HaveBegun, ShowsDatabase}
 use Rattle.transactions.specs.TransactionsState.{TransactionsState}
 use Rattle.transactions.proofs.Shown.{blocks_kept}
 
@@ -40,6 +39,6 @@ shown_alike layout old new t s statuses tables shows =
           let blocks = shows.blocks table below in
           (blocks.0, blocks_kept layout old new table blocks.0 (λ block. tables table block below) blocks.1);
       versions = subst (λ (ts : List (List Version)). AreVersions ts gs t.opens) same shows.versions;
-      used = subst (λ (ts : List (List Version)). (id : RowId) (v : Version) → stored (all_versions ts) id ≡ Some v → given_status t.tx.first shows.stored v.row.id.t ≢ Unused) same shows.used;
+      used = subst (λ (ts : List (List Version)). (id : RowId) (v : Version) → stored (all_versions ts) id ≡ Some v → HaveBegun t.tx.first shows.stored v) same shows.used;
       database = sym (ap (λ (ts : List (List Version)). visible_state (all_versions ts) gs t.opens) same) ∙ shows.database;
     }

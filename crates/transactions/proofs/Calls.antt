@@ -1,5 +1,5 @@
 -- A begin and an end of a session's transaction.
-use Rattle.std.proofs.Common.{◌≡◌, ◌≢◌, Bool, true, false, cond, not, ℕ, zero, suc, ◌+◌, ◌<◌, ◌≤◌, List, [], ◌∷◌, ◌++◌, length, replicate, set, Option, None, Some, inl, inr, refl, sym, ap, subst, ◌∙◌, arith}
+use Rattle.std.proofs.Common.{◌≡◌, ◌≢◌, Bool, true, false, cond, not, ℕ, ◌+◌, ◌<◌, ◌≤◌, List, [], ◌∷◌, ◌++◌, length, replicate, set, Option, None, Some, inl, inr, refl, sym, ap, subst, ◌∙◌, arith}
 use Rattle.std.specs.FinMap.{get}
 use Rattle.std.specs.Option.{IfSome, IsSome, IsSomeAnd, option_map}
 use Rattle.std.specs.Ordering.{eq_by_cmp, nat_cmp}
@@ -30,6 +30,7 @@ use Rattle.snapshot_core.specs.VisibleState.{all_versions, status_of, visible_st
 use Rattle.snapshot_core.proofs.Begins.{begun_effect, begun_stored, new_open}
 use Rattle.snapshot_core.proofs.Copies.{Becomes, becomes, get_open, get_visible, rewritten, still_all}
 use Rattle.snapshot_core.proofs.Ends.{committed_effect, ended_stored, rolled_effect}
+use Rattle.snapshot_core.proofs.Fresh.{nobody_at}
 use Rattle.transactions.specs.ShownVersions.{shown_tables}
 use Rattle.transactions.proofs.Tables.{own_table}
 use Rattle.tx_table.specs.Durable.{HasPart, IsBefore}
@@ -39,10 +40,10 @@ use Rattle.tx_table.specs.TxState.{IsNext, IsOver, IsOwn, TxState}
 use Rattle.tx_table.proofs.Lists.{next_begun, next_kept}
 use Rattle.tx_table.proofs.Parts.{part_none}
 use Rattle.transactions.specs.GivenStatuses.{given_status, given_statuses}
-use Rattle.transactions.specs.ShowsDatabase.{DoesRequest, OfDatabase, ShowsDatabase, ShowsSome}
+use Rattle.transactions.specs.ShowsDatabase.{DoesRequest, HaveBegun, OfDatabase, ShowsDatabase, ShowsSome}
 use Rattle.transactions.specs.TransactionsState.{AreOpen, TransactionsState, next_open, with_begun, with_open}
 use Rattle.transactions.proofs.Alike.{same_shown}
-use Rattle.transactions.proofs.Given.{ended_stays, given_begun, given_changed, given_ended, given_other, length_given}
+use Rattle.transactions.proofs.Given.{ended_stays, given_begun, given_changed, given_ended, given_other, given_unused, length_given, still_begun}
 use Rattle.transactions.proofs.Shown.{begun_is_used, blocks_kept, one_list_shown, open_one, versions_on_pages, whole}
 
 -- the pages of every other relation are as before
@@ -61,7 +62,7 @@ module _ (layout : DiskLayout) (old new : PageMap) (t now : TransactionsState) (
 
   pub moved : (stored_now : List Status) → HasStatuses layout new stored_now → IsNext stored_now now.tx.next → AreStarted layout new → length now.opens ≡ MAX_SESSIONS
       → IsStored (versions_on_pages layout old) (given_statuses now.tx stored_now) now.opens
-      → ((id : RowId) (v : Version) → stored (versions_on_pages layout old) id ≡ Some v → given_status now.tx.first stored_now v.row.id.t ≢ Unused)
+      → ((id : RowId) (v : Version) → stored (versions_on_pages layout old) id ≡ Some v → HaveBegun now.tx.first stored_now v)
       → ShowsDatabase layout new now (visible_state (versions_on_pages layout old) (given_statuses now.tx stored_now) now.opens)
   moved stored_now has next started places fit used =
       let gs = given_statuses now.tx stored_now in
@@ -78,7 +79,7 @@ module _ (layout : DiskLayout) (old new : PageMap) (t now : TransactionsState) (
           own_table = own_table layout new;
           stored = subst (λ (ts : List (List Version)). IsStored (all_versions ts) gs now.opens) tables fit;
         };
-        used = subst (λ (ts : List (List Version)). (id : RowId) (v : Version) → stored (all_versions ts) id ≡ Some v → given_status now.tx.first stored_now v.row.id.t ≢ Unused) tables used;
+        used = subst (λ (ts : List (List Version)). (id : RowId) (v : Version) → stored (all_versions ts) id ≡ Some v → HaveBegun now.tx.first stored_now v) tables used;
         database = sym (ap (λ (ts : List (List Version)). visible_state (all_versions ts) gs now.opens) tables);
       }
 
@@ -107,11 +108,12 @@ begin_shown layout old new t s session shows rest has started opened below small
           (next_begun shows.stored t.tx.next (t.tx.next + 1) Begun shows.next refl within begun_is_used) started
           (still_all t.opens now session (Some (next_open t)) shows.versions.places refl)
           (subst (λ (ss : List Status). IsStored vs ss now) (sym given) (begun_stored vs gs t.opens now session (whole shows) idle at))
-          (λ id v there.
-          let known = (whole shows).known id v there in
-          subst (λ (e : Status). e ≢ Unused) (sym (given_other t.tx.first shows.stored t.tx.next v.row.id.t Begun (λ e. omega (arith, e, known.put, long)))) (shows.used id v there)),
+          (λ id v there. still_begun t.tx.first t.tx.first shows.stored stored_now v (λ u before none. before (sym (given_other t.tx.first shows.stored t.tx.next u Begun (not_next u before)) ∙ none)) (shows.used id v there)),
     )
   where
+    not_next : (u : ℕ) → given_status t.tx.first shows.stored u ≢ Unused → u ≢ t.tx.next
+    not_next u before same = before (ap (given_status t.tx.first shows.stored) same ∙ given_unused t.tx.first shows.stored t.tx.next (shows.next.unused t.tx.next (omega arith)))
+
     nobody : (vs : List Version) (gs : List Status) (os : List (Option Open)) (n : ℕ) (s : DatabaseState) → visible_state vs gs os ≡ s → transaction_of os n ≡ None → get s.sessions n ≡ None
     nobody vs gs os n s view none = ap (λ (s : DatabaseState). get s.sessions n) (sym view) ∙ get_visible gs vs os n ∙ ap (option_map (visible_transaction gs vs)) none
 
@@ -137,7 +139,7 @@ module _ (layout : DiskLayout) (old new : PageMap) (t : TransactionsState) (s : 
       (next_kept shows.stored t.tx.next o.t e shows.next one.own.given (omega (arith, within, shows.has.counted)) used) started
       (still_all t.opens (set t.opens session None) session None shows.versions.places refl)
       (subst (λ (ss : List Status). IsStored vs ss (set t.opens session None)) (sym given_now) (ended_stored vs gs t.opens (set t.opens session None) session o e (whole shows) was ending ends))
-      (λ id v there. used_now v.row.id.t (shows.used id v there))
+      (λ id v there. still_begun t.tx.first t.tx.first shows.stored (set shows.stored o.t e) v used_now (shows.used id v there))
     where
       used_now : (u : ℕ) → given_status t.tx.first shows.stored u ≢ Unused → given_status t.tx.first (set shows.stored o.t e) u ≢ Unused
       used_now u before = elim (cases_eq u o.t) [
@@ -270,11 +272,6 @@ still_open t session o x are was same = record {
     go : (m : ℕ) (p : Open) (b : Bool) → cond b x (transaction_of t.opens m) ≡ Some p → IsOwn t.tx p.t
     go m p true e = subst (IsOwn t.tx) (sym (same p e)) (are.own session o was)
     go m p false e = are.own m p e
-
-nobody_at : (n m : ℕ) → transaction_of (replicate n None) m ≡ None
-nobody_at zero m = refl
-nobody_at (suc n) zero = refl
-nobody_at (suc n) (suc m) = nobody_at n m
 
 pub none_open : (tx : TxState) (os : List (Option Open)) → os ≡ replicate MAX_SESSIONS None → AreOpen (record { tx = tx; opens = os })
 none_open tx os is = subst (λ (os : List (Option Open)). AreOpen (record { tx = tx; opens = os })) (sym is)

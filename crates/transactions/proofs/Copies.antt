@@ -1,5 +1,5 @@
 -- What a session has in its copy of the tables.
-use Rattle.std.proofs.Common.{◌≡◌, ◌≢◌, Bool, true, false, cond, ℕ, ◌<◌, List, length, Option, None, Some, refl, sym, ap, subst, ◌∙◌, arith}
+use Rattle.std.proofs.Common.{◌≡◌, Bool, true, false, cond, ℕ, ◌<◌, List, length, Option, None, Some, refl, sym, ap, subst, ◌∙◌, arith}
 use Rattle.std.specs.Option.{is_some, option_map}
 use Rattle.std.specs.FinMap.{get}
 use Rattle.std.proofs.lemmas.Map.Entries.{option_filter}
@@ -13,7 +13,6 @@ use Rattle.page_layout.specs.RowBytes.{StoredRow}
 use Rattle.page_map.specs.PageMap.{PageMap}
 use Rattle.heap_rows.specs.RowPlaces.{slot_at}
 use Rattle.snapshot_core.specs.declared.statuses.Status.{Status}
-use Rattle.snapshot_core.specs.declared.statuses.Status.TheVariants.{Unused}
 use Rattle.snapshot_core.specs.Visibility.{sees}
 use Rattle.snapshot_core.specs.declared.table.Version.{Version}
 use Rattle.snapshot_core.specs.declared.sessions.Open.{Open}
@@ -25,10 +24,10 @@ use Rattle.snapshot_core.proofs.Copies.{get_open, get_visible, is_idle}
 use Rattle.snapshot_core.proofs.Conflicts.{its_open}
 use Rattle.transactions.specs.ShownVersions.{version_of}
 use Rattle.tx_table.specs.Statuses.{HasStatuses}
-use Rattle.transactions.specs.GivenStatuses.{given_status, given_statuses}
+use Rattle.transactions.specs.GivenStatuses.{given_statuses}
 use Rattle.transactions.specs.Laws.{IsOfTransactions, IsSeenInCopy}
 use Rattle.transactions.specs.Sessions.{HaveTransactions, IsCopyOf, open_standing}
-use Rattle.transactions.specs.ShowsDatabase.{ShowsDatabase}
+use Rattle.transactions.specs.ShowsDatabase.{HaveBegun, ShowsDatabase}
 use Rattle.transactions.specs.StoredRows.{StandsAt, StandsOnce, sees_row}
 use Rattle.transactions.specs.TransactionsState.{TransactionsState}
 use Rattle.transactions.proofs.Given.{length_given, status_given}
@@ -160,11 +159,8 @@ row_is_of layout pages t s ss table spot row shows has below stands =
     let there = row_stored shows table spot row below stands in
     let known = (whole shows).known row.id (version_of table row) there in
     let long = length_given t.tx shows.stored in
-    record {
-      put = omega (arith, known.put, long);
-      used = subst (λ (stored : List Status). given_status t.tx.first stored row.id.t ≢ Unused) (sym (one_list_shown shows ss has)) (shows.used row.id (version_of table row) there);
-      gone = omega (arith, known.gone, long);
-    }
+    let begun = subst (λ (stored : List Status). HaveBegun t.tx.first stored (version_of table row)) (sym (one_list_shown shows ss has)) (shows.used row.id (version_of table row) there) in
+    record { put = omega (arith, known.put, long); used = begun.put; gone = omega (arith, known.gone, long); deleted = begun.gone }
 
 pub ids_apart : (layout : DiskLayout) (pages : PageMap) (t : TransactionsState) (s : DatabaseState) (table other : ℕ) (spot there : Spot) (row stands : StoredRow)
     → ShowsDatabase layout pages t s → table < length layout.schema.tables → other < length layout.schema.tables

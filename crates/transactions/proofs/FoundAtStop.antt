@@ -145,7 +145,7 @@ module _ (layout : DiskLayout) (pages : PageMap) (first : ℕ) (ss gs : List Sta
 
 -- each row's transaction has a number
 pub are_numbered : {layout : DiskLayout} {pages : PageMap} {t : TransactionsState} {s : DatabaseState} (shows : ShowsDatabase layout pages t s) (id : RowId) (v : Version) → stored (versions_on_pages layout pages) id ≡ Some v → v.row.id.t ≢ 0
-are_numbered {t = t} shows id v there none = shows.used id v there (given_none t.tx.first shows.stored v.row.id.t none)
+are_numbered {t = t} shows id v there none = (shows.used id v there).put (given_none t.tx.first shows.stored v.row.id.t none)
 
 pub found_shown : (layout : DiskLayout) (pages : PageMap) (t : TransactionsState) (s : DatabaseState) → ShowsDatabase layout pages t s → FoundTable layout pages s.table
 found_shown layout pages t s shows =

@@ -5,10 +5,12 @@ use Rattle.std.proofs.lemmas.List.{get_or_append_left, get_or_past, get_or_push,
 use Rattle.std.proofs.lemmas.List.FromFn.{fill_by_all, get_or-map-range_with_len, length-map-range_with_len}
 use Rattle.snapshot_core.specs.declared.statuses.Status.{Status}
 use Rattle.snapshot_core.specs.declared.statuses.Status.TheVariants.{Unused, Begun, Committed, RolledBack}
+use Rattle.snapshot_core.specs.declared.table.Version.{Version}
 use Rattle.snapshot_core.specs.VisibleState.{status_of}
 use Rattle.tx_table.specs.Statuses.{after_stop}
 use Rattle.tx_table.specs.TxState.{IsNext, TxState}
 use Rattle.transactions.specs.GivenStatuses.{given_status, given_statuses}
+use Rattle.transactions.specs.ShowsDatabase.{HaveBegun}
 
 -- a number that isn't 0 has its stored status, as it is after the opening
 pub given_some : (first : ℕ) (stored : List Status) (t : ℕ) → t ≢ 0 → given_status first stored t ≡ after_stop (ltb t first) (status_of stored t)
@@ -21,12 +23,26 @@ unused_stays : (earlier : Bool) → after_stop earlier Unused ≡ Unused
 unused_stays true = refl
 unused_stays false = refl
 
+unused_before : (earlier : Bool) (e : Status) → after_stop earlier e ≡ Unused → e ≡ Unused
+unused_before true Unused is = refl
+unused_before true Begun is = absurd cc
+unused_before true Committed is = absurd cc
+unused_before true RolledBack is = absurd cc
+unused_before false e is = is
+
 -- what is stored as unused is unused
 pub given_unused : (first : ℕ) (stored : List Status) (t : ℕ) → status_of stored t ≡ Unused → given_status first stored t ≡ Unused
 given_unused first stored t is = elim (cases_eq t 0) [
   | inl none ↦ given_none first stored t none
   | inr some ↦ given_some first stored t some ∙ ap (after_stop (ltb t first)) is ∙ unused_stays (ltb t first)
 ]
+
+-- a number was given exactly where it isn't 0, and isn't stored as unused
+pub is_used : (first : ℕ) (stored : List Status) (t : ℕ) → t ≢ 0 → status_of stored t ≢ Unused → given_status first stored t ≢ Unused
+is_used first stored t some used unused = used (unused_before (ltb t first) (status_of stored t) (sym (given_some first stored t some) ∙ unused))
+
+pub was_used : (first : ℕ) (stored : List Status) (t : ℕ) → given_status first stored t ≢ Unused → (t ≢ 0) × (status_of stored t ≢ Unused)
+was_used first stored t used = (λ none. used (given_none first stored t none), λ unused. used (given_unused first stored t unused))
 
 pub length_given : (tx : TxState) (stored : List Status) → length (given_statuses tx stored) ≡ tx.next
 length_given tx stored = length-map-range_with_len (given_status tx.first stored) 0 tx.next
@@ -90,6 +106,10 @@ given_begun tx stored next opened within =
     ]))
 
 -- ---- what is begun
+
+-- a version's transactions have begun by other statuses too, where whoever has begun has by these
+pub still_begun : (first other : ℕ) (stored now : List Status) (v : Version) → ((t : ℕ) → given_status first stored t ≢ Unused → given_status other now t ≢ Unused) → HaveBegun first stored v → HaveBegun other now v
+still_begun first other stored now v goes have = record { put = goes v.row.id.t have.put; gone = λ some. goes v.deleter (have.gone some) }
 
 begun_before : (earlier : Bool) (status : Status) → after_stop earlier status ≡ Begun → (earlier ≡ false) × (status ≡ Begun)
 begun_before true Begun is = absurd cc

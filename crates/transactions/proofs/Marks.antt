@@ -1,5 +1,5 @@
 -- A row that a session's transaction marks, or finds marked by another.
-use Rattle.std.proofs.Common.{◌≡◌, ◌≢◌, Bool, true, false, cond, not, ◌&&◌, eqb, ℕ, ◌<◌, List, [], ◌∷◌, ◌++◌, length, set, Option, None, Some, inl, inr, refl, sym, ap, subst, ◌∙◌}
+use Rattle.std.proofs.Common.{◌≡◌, Bool, true, false, cond, not, ◌&&◌, eqb, ℕ, ◌<◌, List, [], ◌∷◌, ◌++◌, length, set, Option, None, Some, inl, inr, refl, sym, ap, subst, ◌∙◌}
 use Rattle.std.specs.List.{flat_map}
 use Rattle.std.specs.Option.{is_some}
 use Rattle.std.specs.FinMap.{contains_key}
@@ -15,7 +15,6 @@ use Rattle.page_layout.specs.RowBytes.{StoredRow}
 use Rattle.page_map.specs.PageMap.{PageMap}
 use Rattle.heap_rows.specs.RowPlaces.{with_slot}
 use Rattle.snapshot_core.specs.declared.statuses.Status.{Status}
-use Rattle.snapshot_core.specs.declared.statuses.Status.TheVariants.{Unused}
 use Rattle.snapshot_core.specs.declared.table.Version.{Version}
 use Rattle.snapshot_core.specs.declared.sessions.Open.{Open}
 use Rattle.snapshot_core.specs.Marks.{conflicts, holds, with_deleter}
@@ -33,16 +32,16 @@ use Rattle.transactions.proofs.TableSwaps.{swaps_table}
 use Rattle.transactions.proofs.Swaps.{Swaps}
 use Rattle.transactions.proofs.Tables.{own_table, table_by_blocks}
 use Rattle.tx_table.specs.Kept.{started_blocks_kept, statuses_kept}
-use Rattle.transactions.specs.GivenStatuses.{given_status, given_statuses}
+use Rattle.transactions.specs.GivenStatuses.{given_statuses}
 use Rattle.transactions.specs.Laws.{IsMarking}
-use Rattle.transactions.specs.ShowsDatabase.{DoesRequest, ShowsDatabase}
+use Rattle.transactions.specs.ShowsDatabase.{DoesRequest, HaveBegun, ShowsDatabase}
 use Rattle.transactions.specs.StoredRows.{MarksRowAt, StandsAt, conflicts_with}
 use Rattle.transactions.specs.TransactionsState.{TransactionsState, with_failed}
 use Rattle.transactions.proofs.Failures.{failing, shows_failed}
 use Rattle.transactions.proofs.Given.{status_given}
 use Rattle.transactions.proofs.Puts.{blocks_after, statuses_stay}
 use Rattle.transactions.proofs.PageSlots.{are_read}
-use Rattle.transactions.proofs.Shown.{one_list_shown, versions_on_pages, whole}
+use Rattle.transactions.proofs.Shown.{begun_is_used, one_list_shown, open_one, versions_on_pages, whole}
 
 -- a version that is there where those that don't pass are left out passes
 passes_there : (p : Version → Bool) (v : Version) (o : Option Version) → o ≡ Some v → is_some (row_of (option_filter p o)) ≡ true → p v ≡ true
@@ -129,7 +128,7 @@ mark_shown layout old new t s session table o spot row marking marks =
           stored = marked_stored vs ws gs t.opens session o v (whole shows) marking.opened there sees puts;
         };
         used = λ id x is. elim (stored_after vs ws (with_deleter v o.t) id x puts is) [
-          | inl it ↦ subst (λ (x : Version). given_status t.tx.first shows.stored x.row.id.t ≢ Unused) it.1 (shows.used row.id v there)
+          | inl it ↦ subst (HaveBegun t.tx.first shows.stored) it.1 (record { put = (shows.used row.id v there).put; gone = λ some none. begun_is_used (sym (open_one shows session o marking.opened).given ∙ none) })
           | inr old_one ↦ shows.used id x old_one
         ];
         database = refl;

@@ -1,16 +1,14 @@
 -- What an opened store shows.
 use Rattle.std.proofs.Common.{◌≡◌, ◌≢◌, Bool, true, false, cond, not, ◌&&◌, eqb, ltb, ltb-false, ℕ, zero, suc, ◌<◌, List, [], ◌∷◌, length, replicate, Option, None, Some, inl, inr, refl, sym, ap, subst, ◌∙◌, arith}
-use Rattle.std.specs.Cmp.{nat_cmp_total}
-use Rattle.std.specs.FinMap.{empty, get-empty, nat_cmp-IsAntisymmetric, same_map}
-use Rattle.std.specs.Option.{option_map}
-use Rattle.std.specs.Ordering.{nat_cmp}
-use Rattle.std.proofs.lemmas.Bool.{cases_eq}
+use Rattle.std.specs.FinMap.{empty}
+use Rattle.std.proofs.lemmas.Bool.{cases_eq, cases_lt}
 use Rattle.std.proofs.lemmas.List.{length-replicate, get_or-replicate}
 use Rattle.std.proofs.lemmas.List.FromFn.{fill_by_all}
+use Rattle.block_model.specs.declared.row.RowId.{RowId}
 use Rattle.block_model.specs.DatabaseState.{DatabaseState, initial_state}
 use Rattle.store_layout.specs.declared.limits.TheConstants.{MAX_SESSIONS}
 use Rattle.store_layout.specs.DiskLayout.{DiskLayout}
-use Rattle.page_layout.specs.PageContents.{IsUnstarted}
+use Rattle.page_layout.specs.PageContents.{IsUnstarted, Slot}
 use Rattle.page_map.specs.PageMap.{PageMap, block_at}
 use Rattle.heap_rows.specs.Heaps.{relation_of}
 use Rattle.heap_rows.specs.HeapBlocks.{HasBlocks}
@@ -19,65 +17,43 @@ use Rattle.snapshot_core.specs.declared.statuses.Status.TheVariants.{Unused, Beg
 use Rattle.snapshot_core.specs.Visibility.{is_committed}
 use Rattle.snapshot_core.specs.declared.table.Version.{Version}
 use Rattle.snapshot_core.specs.declared.sessions.Open.{Open}
-use Rattle.snapshot_core.specs.StoredVersions.{IsStored, stored, transaction_of}
-use Rattle.snapshot_core.specs.VisibleState.{all_versions, is_of_commit, status_of, table_of, visible_sessions, visible_state, visible_transaction}
-use Rattle.snapshot_core.proofs.Copies.{get_visible}
-use Rattle.snapshot_core.proofs.Fresh.{empty_state, new_versions}
+use Rattle.snapshot_core.specs.StoredVersions.{IsStored, stored}
+use Rattle.snapshot_core.specs.VisibleState.{all_versions, is_of_commit, status_of, table_of}
+use Rattle.snapshot_core.proofs.Fresh.{empty_state, new_versions, no_sessions, stored_at_rest}
+use Rattle.snapshot_core.proofs.Stored.{AreDistinct}
 use Rattle.transactions.specs.ShownVersions.{shown_tables, versions_of_table}
-use Rattle.transactions.proofs.Tables.{table_by_blocks}
+use Rattle.transactions.proofs.Tables.{own_table, table_by_blocks}
 use Rattle.tx_table.specs.LeavesRest.{AreStarted}
 use Rattle.tx_table.specs.Statuses.{HasStatuses, after_stop}
 use Rattle.tx_table.specs.TxState.{IsNext, TxState}
 use Rattle.tx_table.proofs.Lists.{next_one}
 use Rattle.transactions.specs.GivenStatuses.{given_status, given_statuses}
 use Rattle.transactions.specs.Laws.{IsOpened, without_sessions}
-use Rattle.transactions.specs.ShowsDatabase.{ShowsDatabase}
+use Rattle.transactions.specs.ShowsDatabase.{HaveBegun, ShowsDatabase}
 use Rattle.transactions.specs.TransactionsState.{TransactionsState}
-use Rattle.transactions.proofs.Given.{begun_given, given_none, given_some, given_unused, length_given, status_given}
+use Rattle.transactions.proofs.Given.{begun_given, given_none, given_unused, is_used, length_given, status_given, still_begun, was_used}
 use Rattle.transactions.proofs.PageSlots.{are_read}
 use Rattle.transactions.proofs.Shown.{one_list_shown, versions_on_pages, whole}
-
-nobody_at : (n m : ℕ) → transaction_of (replicate n None) m ≡ None
-nobody_at zero m = refl
-nobody_at (suc n) zero = refl
-nobody_at (suc n) (suc m) = nobody_at n m
-
-nobody_has : (n m : ℕ) (o : Open) → transaction_of (replicate n None) m ≡ Some o → ⊥
-nobody_has n m o h = let none : None ≡ Some o = sym (nobody_at n m) ∙ h in absurd cc
-
-no_sessions : (gs : List Status) (vs : List Version) (n : ℕ) → visible_sessions gs vs (replicate n None) ≡ empty
-no_sessions gs vs n = same_map nat_cmp_total nat_cmp-IsAntisymmetric _ _ (λ m.
-    get_visible gs vs (replicate n None) m ∙ ap (option_map (visible_transaction gs vs)) (nobody_at n m) ∙ sym (get-empty nat_cmp m))
 
 -- ---- statuses of another opening
 
 -- a stop makes no commit and undoes none
-committed_after : (earlier : Bool) (e : Status) → is_committed (after_stop earlier e) ≡ is_committed e
+pub committed_after : (earlier : Bool) (e : Status) → is_committed (after_stop earlier e) ≡ is_committed e
 committed_after true Unused = refl
 committed_after true Begun = refl
 committed_after true Committed = refl
 committed_after true RolledBack = refl
 committed_after false e = refl
 
-committed_given : (first other : ℕ) (ss : List Status) (u : ℕ) → is_committed (given_status first ss u) ≡ is_committed (given_status other ss u)
+pub committed_given : (first other : ℕ) (ss : List Status) (u : ℕ) → is_committed (given_status first ss u) ≡ is_committed (given_status other ss u)
 committed_given first other ss u = go (eqb u 0)
   where
     go : (b : Bool) → is_committed (cond b Unused (after_stop (ltb u first) (status_of ss u))) ≡ is_committed (cond b Unused (after_stop (ltb u other) (status_of ss u)))
     go true = refl
     go false = committed_after (ltb u first) (status_of ss u) ∙ sym (committed_after (ltb u other) (status_of ss u))
 
-unused_before : (earlier : Bool) (e : Status) → after_stop earlier e ≡ Unused → e ≡ Unused
-unused_before true Unused is = refl
-unused_before true Begun is = absurd cc
-unused_before true Committed is = absurd cc
-unused_before true RolledBack is = absurd cc
-unused_before false e is = is
-
 used_given : (first other : ℕ) (ss : List Status) (u : ℕ) → given_status first ss u ≢ Unused → given_status other ss u ≢ Unused
-used_given first other ss u used unused = elim (cases_eq u 0) [
-  | inl none ↦ used (given_none first ss u none)
-  | inr some ↦ used (given_unused first ss u (unused_before (ltb u other) (status_of ss u) (sym (given_some other ss u some) ∙ unused)))
-]
+used_given first other ss u used = let was = was_used first ss u used in is_used other ss u was.0 was.1
 
 -- nothing is begun where none began since the opening
 none_begun : (next : ℕ) (ss : List Status) (u : ℕ) → IsNext ss next → given_status next ss u ≢ Begun
@@ -91,61 +67,61 @@ none_begun next ss u is begun = elim (cases_eq u 0) [
     begun_no_unused : Begun ≡ Unused → ⊥
     begun_no_unused e = absurd cc
 
+-- ---- rows at rest
+
+-- Where nobody is under way, pages show the database of their commits if the ids of their rows differ, and each row's transaction and deleter have begun.
+module _ (layout : DiskLayout) (pages : PageMap) (next : ℕ) (ss : List Status) (has : HasStatuses layout pages ss) (is : IsNext ss next) (started : AreStarted layout pages)
+    (blocks : (table : ℕ) → table < length layout.schema.tables → (blocks : List (List Slot)) × HasBlocks layout pages table blocks) (distinct : AreDistinct (versions_on_pages layout pages))
+    (begun : (id : RowId) (v : Version) → stored (versions_on_pages layout pages) id ≡ Some v → HaveBegun next ss v) where
+  -- the statuses of an opening
+  abbrev opened : List Status
+  opened = given_statuses (record { first = next; next = next }) ss
+
+  long : length opened ≡ next
+  long = length_given (record { first = next; next = next }) ss
+
+  numbered : (u : ℕ) → given_status next ss u ≢ Unused → u < length opened
+  numbered u used = elim (cases_lt u next) [ inl low ↦ omega (arith, low, long) | inr past ↦ absurd (used (given_unused next ss u (is.unused u past))) ]
+
+  its_numbers : (v : Version) → HaveBegun next ss v → (v.row.id.t < length opened) × (v.deleter < length opened)
+  its_numbers v have = (numbered v.row.id.t have.put, elim (cases_eq v.deleter 0) [ inl none ↦ omega (arith, none, long, is.some) | inr some ↦ numbered v.deleter (have.gone some) ])
+
+  stopped : IsStored (versions_on_pages layout pages) opened (replicate MAX_SESSIONS None)
+  stopped =
+      let given = λ (u : ℕ). status_given (record { first = next; next = next }) ss u is in
+      stored_at_rest (versions_on_pages layout pages) opened MAX_SESSIONS (given 0) (omega (arith, long, is.some)) distinct (λ u begins. none_begun next ss u is (sym (given u) ∙ begins)) (λ id v there. its_numbers v (begun id v there))
+
+  pub rest_shown : ShowsDatabase layout pages (record { tx = record { first = next; next = next }; opens = replicate MAX_SESSIONS None })
+      (record { next = next; table = table_of (is_of_commit (given_statuses (record { first = next; next = next }) ss)) (versions_on_pages layout pages); sessions = empty })
+  rest_shown = record {
+    stored = ss;
+    has = has;
+    next = is;
+    started = started;
+    blocks = blocks;
+    versions = record { places = length-replicate {A = Option Open} MAX_SESSIONS None; own_table = own_table layout pages; stored = stopped };
+    used = begun;
+    database = λ i. record { next = long i; table = table_of (is_of_commit opened) (versions_on_pages layout pages); sessions = no_sessions opened (versions_on_pages layout pages) MAX_SESSIONS i };
+  }
+
+-- ---- behind a stop
+
 module _ (layout : DiskLayout) (pages : PageMap) (t : TransactionsState) (s : DatabaseState) (shows : ShowsDatabase layout pages t s) where
-  ss : List Status
-  ss = shows.stored
-
-  -- the numbers of an opening behind the stop
-  abbrev opened : TxState
-  opened = record { first = t.tx.next; next = t.tx.next }
-
   committed_alike : (u : ℕ) → is_committed (status_of (given_statuses (record { first = t.tx.next; next = t.tx.next }) shows.stored) u) ≡ is_committed (status_of (given_statuses t.tx shows.stored) u)
   committed_alike u =
       ap is_committed (status_given (record { first = t.tx.next; next = t.tx.next }) shows.stored u shows.next)
       ∙ committed_given t.tx.next t.tx.first shows.stored u
       ∙ sym (ap is_committed (status_given t.tx shows.stored u shows.next))
 
-  stopped : IsStored (versions_on_pages layout pages) (given_statuses (record { first = t.tx.next; next = t.tx.next }) shows.stored) (replicate MAX_SESSIONS None)
-  stopped =
-      let tx : TxState = record { first = t.tx.next; next = t.tx.next } in
-      let long = length_given tx shows.stored in
-      let long_before = length_given t.tx shows.stored in
-      record {
-        nobody = status_given tx shows.stored 0 shows.next;
-        some = omega (arith, long, shows.next.some);
-        ids_differ = (whole shows).ids_differ;
-        known = λ q v h.
-            let known = (whole shows).known q v h in
-            record {
-              put = omega (arith, known.put, long, long_before);
-              gone = omega (arith, known.gone, long, long_before);
-              own = λ uncommitted. known.own (sym (committed_alike v.row.id.t) ∙ uncommitted);
-            };
-        under_way = λ m o h. absurd (nobody_has MAX_SESSIONS m o h);
-        apart = λ m n o p h g ne. absurd (nobody_has MAX_SESSIONS m o h);
-        begun = λ u nobody begun. none_begun t.tx.next shows.stored u shows.next (sym (status_given tx shows.stored u shows.next) ∙ begun);
-      }
-
-  stopped_state : visible_state (versions_on_pages layout pages) (given_statuses (record { first = t.tx.next; next = t.tx.next }) shows.stored) (replicate MAX_SESSIONS None) ≡ without_sessions s
-  stopped_state =
-      let tx : TxState = record { first = t.tx.next; next = t.tx.next } in
-      let vs = versions_on_pages layout pages in
-      let gs = given_statuses tx shows.stored in
-      let table : table_of (is_of_commit gs) vs ≡ table_of (is_of_commit (given_statuses t.tx shows.stored)) vs = ap (λ (p : Version → Bool). table_of p vs) (λ i v. committed_alike v.row.id.t i && not (committed_alike v.deleter i)) in
-      let next : length gs ≡ length (given_statuses t.tx shows.stored) = length_given tx shows.stored ∙ sym (length_given t.tx shows.stored) in
-      (λ i. record { next = next i; table = table i; sessions = no_sessions gs vs MAX_SESSIONS i }) ∙ ap without_sessions shows.database
+  alike : (v : Version) → is_of_commit (given_statuses (record { first = t.tx.next; next = t.tx.next }) shows.stored) v ≡ is_of_commit (given_statuses t.tx shows.stored) v
+  alike v = λ i. committed_alike v.row.id.t i && not (committed_alike v.deleter i)
 
   pub stop_shown : ShowsDatabase layout pages (record { tx = record { first = t.tx.next; next = t.tx.next }; opens = replicate MAX_SESSIONS None }) (without_sessions s)
-  stop_shown = record {
-    stored = shows.stored;
-    has = shows.has;
-    next = shows.next;
-    started = shows.started;
-    blocks = shows.blocks;
-    versions = record { places = length-replicate {A = Option Open} MAX_SESSIONS None; own_table = shows.versions.own_table; stored = stopped };
-    used = λ id v there. used_given t.tx.first t.tx.next shows.stored v.row.id.t (shows.used id v there);
-    database = stopped_state;
-  }
+  stop_shown =
+      subst (ShowsDatabase layout pages (record { tx = record { first = t.tx.next; next = t.tx.next }; opens = replicate MAX_SESSIONS None }))
+      ((λ i. record { next = sym (length_given t.tx shows.stored) i; table = table_of (λ v. alike v i) (versions_on_pages layout pages); sessions = empty }) ∙ ap without_sessions shows.database)
+      (rest_shown layout pages t.tx.next shows.stored shows.has shows.next shows.started shows.blocks (whole shows).ids_differ
+      (λ id v there. still_begun t.tx.first t.tx.next shows.stored shows.stored v (used_given t.tx.first t.tx.next shows.stored) (shows.used id v there)))
 
 pub opening_shown : (layout : DiskLayout) (pages : PageMap) (t now : TransactionsState) (s : DatabaseState) (stored : List Status)
     → ShowsDatabase layout pages t s → HasStatuses layout pages stored → IsNext stored now.tx.next → IsOpened now → ShowsDatabase layout pages now (without_sessions s)

@@ -99,7 +99,7 @@ module _ {layout : DiskLayout} {pages : PageMap} {t : TransactionsState} {s : Da
       of_own_row : row.id.t ≡ o.t → row.deleter ≢ 0 → row.deleter ≡ o.t
       of_own_row own some =
           let known = (whole shows).known row.id (version_of table row) (row_stored shows table spot row below stands) in
-          known.own (ap is_committed (status_given t.tx shows.stored row.id.t shows.next ∙ ap (given_status t.tx.first shows.stored) own ∙ (open_one shows session o was).given)) some ∙ own
+          known.own (status_given t.tx shows.stored row.id.t shows.next ∙ ap (given_status t.tx.first shows.stored) own ∙ (open_one shows session o was).given) some ∙ own
 
       by_owner : (a b c : Bool) → eqb row.id.t o.t ≡ a → eqb row.deleter o.t ≡ b → holds (given_status t.tx.first stored row.deleter) ≡ c → (not a && (not b && c)) ≡ false → has_done p.snapshot p.t row.deleter (given_status t.tx.first stored row.deleter) ≡ false
       by_owner true b c own gone held free = elim (cases_eq row.deleter 0) [

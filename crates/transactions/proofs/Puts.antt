@@ -30,8 +30,8 @@ use Rattle.transactions.proofs.TableSwaps.{swaps_table}
 use Rattle.transactions.proofs.Swaps.{Swaps}
 use Rattle.transactions.proofs.Tables.{own_table, table_by_blocks}
 use Rattle.tx_table.specs.Kept.{HasSameStatusPages, started_blocks_kept, statuses_kept}
-use Rattle.transactions.specs.GivenStatuses.{given_status, given_statuses}
-use Rattle.transactions.specs.ShowsDatabase.{DoesRequest, ShowsDatabase}
+use Rattle.transactions.specs.GivenStatuses.{given_statuses}
+use Rattle.transactions.specs.ShowsDatabase.{DoesRequest, HaveBegun, ShowsDatabase}
 use Rattle.transactions.specs.StoredRows.{OtherRelationsStay, PutsRow}
 use Rattle.transactions.specs.TransactionsState.{TransactionsState, with_row_counted}
 use Rattle.transactions.proofs.PageSlots.{are_read}
@@ -103,9 +103,7 @@ put_shown layout old new t s session table o spot values shows was below put =
           stored = put_stored vs ws gs t.opens now session table values o (whole shows) was at puts;
         };
         used = λ id x there. elim (stored_after vs ws v id x puts there) [
-          | inl it ↦
-              let own : x.row.id.t ≡ o.t = ap (λ (v : Version). v.row.id.t) (sym it.1) in
-              λ none. begun_is_used (sym (ap (given_status t.tx.first shows.stored) own ∙ (open_one shows session o was).given) ∙ none)
+          | inl it ↦ subst (HaveBegun t.tx.first shows.stored) it.1 (record { put = λ none. begun_is_used (sym (open_one shows session o was).given ∙ none); gone = λ some. absurd (some refl) })
           | inr old_one ↦ shows.used id x old_one
         ];
         database = refl;

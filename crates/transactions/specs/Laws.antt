@@ -116,11 +116,12 @@ CopyStands = (layout : DiskLayout) (pages : PageMap) (t : TransactionsState) (s 
     → ShowsDatabase layout pages t s → maps.get s.sessions session ≡ Some x → maps.get x.view id ≡ Some row
     → (row.table < length layout.schema.tables) × (row.id ≡ id) × StandsOnce layout pages row.table row
 
--- a row's transaction is one that has begun, and its deleter is none or one with a number
+-- a row's transaction is one that has begun, and so is its deleter, where it has one
 pub record IsOfTransactions (t : TransactionsState) (stored : List Status) (row : StoredRow) : Type 0 where
   pub put : row.id.t < t.tx.next
   pub used : given_status t.tx.first stored row.id.t ≢ status.Unused
   pub gone : row.deleter < t.tx.next
+  pub deleted : row.deleter ≢ 0 → given_status t.tx.first stored row.deleter ≢ status.Unused
 
 abbrev pub RowIsOfTransactions : Type 0
 RowIsOfTransactions = (layout : DiskLayout) (pages : PageMap) (t : TransactionsState) (s : DatabaseState) (stored : List Status) (table : ℕ) (spot : Spot) (row : StoredRow)

@@ -22,8 +22,13 @@ use Rattle.tx_table.specs.TxState.{IsNext}
 use Rattle.transactions.specs.GivenStatuses.{given_status, given_statuses}
 use Rattle.transactions.specs.TransactionsState.{TransactionsState}
 
+-- By these statuses the version's transaction has begun, and so has its deleter; 0 is none.
+pub record HaveBegun (first : ℕ) (stored : List Status) (v : Version) : Type 0 where
+  pub put : given_status first stored v.row.id.t ≢ Unused
+  pub gone : v.deleter ≢ 0 → given_status first stored v.deleter ≢ Unused
+
 -- The pages have statuses, and the blocks of each table; the rows there are versions of the transactions that stand by these statuses,
--- and each row's transaction has begun. The database is the one that they show.
+-- and each row's transaction and deleter have begun. The database is the one that they show.
 pub record ShowsDatabase (layout : DiskLayout) (pages : PageMap) (t : TransactionsState) (s : DatabaseState) : Type 0 where
   pub stored : List Status
   pub has : HasStatuses layout pages stored
@@ -31,7 +36,7 @@ pub record ShowsDatabase (layout : DiskLayout) (pages : PageMap) (t : Transactio
   pub started : AreStarted layout pages
   pub blocks : (table : ℕ) → table < length layout.schema.tables → (blocks : List (List Slot)) × HasBlocks layout pages table blocks
   pub versions : AreVersions (shown_tables layout pages) (given_statuses t.tx stored) t.opens
-  pub used : (id : RowId) (v : Version) → stored_version (all_versions (shown_tables layout pages)) id ≡ Some v → given_status t.tx.first stored v.row.id.t ≢ Unused
+  pub used : (id : RowId) (v : Version) → stored_version (all_versions (shown_tables layout pages)) id ≡ Some v → HaveBegun t.tx.first stored v
   pub database : visible_state (all_versions (shown_tables layout pages)) (given_statuses t.tx stored) t.opens ≡ s
 
 -- where the disk tells its contents, a database is shown

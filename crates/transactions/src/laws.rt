@@ -53,7 +53,7 @@ pub fn a_row_of_a_copy_stands_once()
     ensures { CopyStands }
 {}
 
-/// A row's transaction has begun, and its deleter is 0 or has a number too.
+/// A row's transaction has begun, and its deleter is 0 or has begun too.
 pub fn a_row_is_of_transactions()
     ensures { RowIsOfTransactions }
 {}

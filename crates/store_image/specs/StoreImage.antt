@@ -9,7 +9,7 @@ use Rattle.store_layout.specs.declared.limits.TheConstants.{MAX_SESSIONS}
 use Rattle.store_layout.specs.DiskLayout.{DiskLayout}
 use Rattle.page_layout.specs.PageContents.{Slot}
 use Rattle.page_locks.specs.LockHolders.{LockState, holder}
-use Rattle.page_map.specs.PageMap.{PageMap}
+use Rattle.recovery.specs.PageMap.{PageMap}
 use Rattle.recovery.specs.PageOrder.{AreInOrder}
 use Rattle.heap_rows.specs.HeapBlocks.{HasBlocks}
 use Rattle.transactions.specs.CountedRows.{counts}
@@ -19,7 +19,6 @@ use Rattle.coverage.specs.Machines.{Unseen, table_state}
 use Rattle.coverage.specs.Table as protocol
 use Rattle.coverage.specs.TableCovered.{IsTableAtRest, IsTableCovered}
 use Rattle.index_steps.specs.ShownRows.{shown_by}
-use Rattle.session_parts.specs.OpeningLaws.{unseen_at_rest}
 
 -- the transactions as they are started over pages whose next number is that one: none is open
 abbrev pub opened_at : ℕ → TransactionsState
@@ -28,6 +27,10 @@ opened_at next = record { tx = record { first = next; next = next }; opens = rep
 -- the database of this table, in which no session has a transaction
 abbrev pub database_with : (next : ℕ) → TableState → DatabaseState
 database_with next table = record { next = next; table = table; sessions = map.empty }
+
+-- Nobody is at anything: who holds no summarise lock, with these rows that count, and these tuples that were unnamed.
+abbrev pub unseen_at_rest : (counts : ℕ → Bool) → (unnamed : ℕ → Spot → Bool) → Unseen
+unseen_at_rest counts unnamed = record { summarise_lock = None; task = λ n. protocol.Resting; counts = counts; unnamed = unnamed }
 
 -- nobody has the lock of a page
 abbrev pub IsUnlocked : LockState → Type 0

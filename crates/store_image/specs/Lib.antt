@@ -1,0 +1,2 @@
+pub mod StoreImage
+pub mod SoundStore
