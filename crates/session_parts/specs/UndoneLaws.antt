@@ -1,5 +1,5 @@
 -- steps that aren't done, and steps behind a call that changes no page
-use Rattle.std.specs.Prelude.{◌≡◌, ℕ, ◌<◌, ◌≤◌, List, length, Option, None, Some}
+use Rattle.std.specs.Prelude.{◌+◌, ◌≡◌, ℕ, ◌<◌, ◌≤◌, List, length, Option, None, Some}
 use Rattle.disk_trait.specs.Told.{Told}
 use Rattle.store_layout.specs.declared.limits.TheConstants.{MAX_ENTRIES, MAX_SESSIONS}
 use Rattle.page_locks.specs.LockCounts.{locks_of}
