@@ -4,6 +4,7 @@ pub mod Fits
 pub mod Holders
 pub mod Orderly
 pub mod Reaching
+pub mod LinesReach
 pub mod Selects
 pub mod SummaryStep
 pub mod Summing
