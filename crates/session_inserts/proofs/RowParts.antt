@@ -47,6 +47,7 @@ use Rattle.brin_insert.specs.declared.insert.Insert.{Insert}
 use Rattle.brin_insert.specs.InsertAnswers.{InsertStepped, IsInsertFull, StandsPlaced, relation_at, relation_in}
 use Rattle.brin_insert.specs.InsertLocks.{held_by, stage_of}
 use Rattle.brin_insert.specs.Inserts.{HasStepLeft, task_at, task_of, work_of}
+use Rattle.session_parts.proofs.FullRooms.{heap_refuses}
 use Rattle.session_parts.specs.declared.hand.Hand.{Hand}
 use Rattle.session_parts.specs.declared.hand.Hand.TheVariants as hands
 use Rattle.session_parts.specs.declared.hand.Stepped.{Stepped}
