@@ -12,7 +12,7 @@ use Rattle.block_model.specs.declared.reply.Refusal.TheVariants as refusals
 use Rattle.store_layout.specs.declared.statement.Statement.{Statement}
 use Rattle.query_words.specs.declared.line.Order.TheVariants as orders
 use Rattle.script_run.specs.declared.engine.AnswerFault.{AnswerFault}
-use Rattle.script_run.specs.declared.engine.AnswerFault.TheVariants.{Memory, Full, Disk, Damaged}
+use Rattle.script_run.specs.declared.engine.AnswerFault.TheVariants.{Disk, Damaged}
 use Rattle.coverage.specs.Accounts.{Account}
 use Rattle.script_semantics.specs.LineTexts.{NotTaken, Taken, WantsMemory, named, Finishes, LastStep, Further, Starts, RefusesStart, StepsOnce, IsFinished, NoStep, NoFinish, Plain, RefusesPlain, Submits}
 use Rattle.script_semantics.specs.Place.{Hand as HandAt, Place}

@@ -323,7 +323,7 @@ module _ (s : ShownStore) (p : Place) (shown : IsPlaceOf s p) (table : ℕ) (spo
   by_journal numbers unseen (Deleted before behind split ended absent all) = by_delete numbers before behind split ended all unseen (is_committed put) refl
 
   pub dead_is_dead_to_all : NumbersRise → DeadRowsAreUnseen → IsDead p row.id → IsTrue (is_dead by_all row)
-  dead_is_dead_to_all numbers unseen dead = by_journal laws numbers (unseen p stands.none_open stands.earlier shown.legal row.id dead) dead
+  dead_is_dead_to_all numbers unseen dead = by_journal numbers (unseen p stands.none_open stands.earlier shown.legal row.id dead) dead
 
 -- what the journal says, as the law needs it
 pub record JournalLaws : Type 0 where
