@@ -188,7 +188,7 @@ module _ (s : ShownStore) (p : Place) (shown : IsPlaceOf s p) (table : ℕ) (spo
       had_deleter : had_ended opened.0.snapshot row.deleter ≡ true
       had_deleter = (and_parts (is_committed gone) (had_ended opened.0.snapshot row.deleter) (each_snapshot t.opens (λ sn. in_snapshot sn row.deleter gone) so n opened.0 opened.1)).1
 
-    had_put : had_ended opened.0.snapshot row.id.t ≡ true
+      had_put : had_ended opened.0.snapshot row.id.t ≡ true
       had_put = stands.deleters table spot row below there (deleted_by_one is) n opened.0 opened.1 had_deleter
 
       deletion_done : has_done opened.0.snapshot opened.0.t row.deleter gone ≡ true
