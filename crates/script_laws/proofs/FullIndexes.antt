@@ -1,21 +1,19 @@
 -- A plain summarize of a table in an index with room for its ranges: what its line is told.
-use Rattle.std.proofs.Common.{◌≡◌, ◌≢◌, ◌⊎◌, inl, inr, ⊎_elim, ◌↔◌, ℕ, suc, ◌+◌, ◌*◌, ◌/◌, ◌≤◌, ◌<◌, List, [], ◌∷◌, ◌++◌, Option, None, Some, refl, sym, ap, ◌∙◌, subst, arith}
+use Rattle.std.proofs.Common.{◌≡◌, ◌≢◌, ◌⊎◌, inl, inr, ⊎_elim, ◌↔◌, ℕ, ◌+◌, ◌*◌, ◌/◌, ◌≤◌, ◌<◌, List, [], ◌++◌, Option, None, Some, refl, sym, ap, ◌∙◌, subst, arith}
 use Rattle.std.specs.Prelude.{codes, decimal}
 use Rattle.std.proofs.lemmas.Bool.{cases_eq}
-use Rattle.std.proofs.lemmas.Fmt.{decimal_digit}
 use Rattle.std.proofs.lemmas.Option.{none-some, same_Some}
 use Rattle.block_model.specs.declared.reply.Point.{Point}
 use Rattle.block_model.specs.declared.reply.Refusal.{Refusal}
-use Rattle.block_model.specs.declared.reply.Reply.{Reply}
 use Rattle.block_model.specs.declared.reply.Reply.TheVariants as replies
 use Rattle.block_model.specs.RequestEffect.{Answer}
-use Rattle.coverage.specs.Accounts.{Account, AccountsStep, no_account}
+use Rattle.coverage.specs.Accounts.{Account, AccountsStep}
 use Rattle.coverage.specs.IndexView.{Contents, map_page_of}
 use Rattle.coverage.specs.Refusals as causes
 use Rattle.coverage.specs.Refusals.{does_refusal}
 use Rattle.coverage.specs.Statements.{AreLawful}
 use Rattle.coverage.specs.Table.{Considers, EachRange, Resting, TableState}
-use Rattle.coverage.specs.TableSteps.{IsBlocked, SummariseLockHeld, TableStep, first_block}
+use Rattle.coverage.specs.TableSteps.{IsBlocked, SummariseLockHeld, TableStep}
 use Rattle.index_steps.specs.IndexTuples.{IndexShape, contents_of, index_at}
 use Rattle.index_steps.specs.LawfulShapes.{IsLawfulShape}
 use Rattle.index_steps.proofs.SeenTuples.{greatest_is}
@@ -105,6 +103,7 @@ module _ (n index t at ranges extent its : ℕ) (are : (m : ℕ) → (m * its < 
     where
       Works : Type 0
       Works = IsAtWork n at ranges extent its are (q.tables t) (q.accounts n) × (refused ≡ None)
+
       by : IsFresh p ⊎ IsBusy p → ((p.tables t).task n ≢ Resting) ⊎ Begins p n (p.tables t) (statements.Summarize index None) (turns.step.between.task n) → Works
       by (inl fresh) (inl busy) = absurd (busy fresh.rests)
       by (inl fresh) (inr begins) =
@@ -120,6 +119,7 @@ module _ (n index t at ranges extent its : ℕ) (are : (m : ℕ) → (m * its < 
     where
       at_rest : IsFresh p → IsBlocked (p.tables t) n Resting → ⊥
       at_rest fresh (SummariseLockHeld m held other) = none-some _ (sym fresh.free ∙ held)
+
       by : IsFresh p ⊎ IsBusy p → ⊥
       by (inl fresh) = at_rest fresh (subst (IsBlocked (p.tables t) n) fresh.rests blocked)
       by (inr at_work) = works_unblocked n at ranges extent its are (p.tables t) (p.accounts n) at_work.busy at_work.work blocked

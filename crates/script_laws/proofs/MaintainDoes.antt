@@ -7,11 +7,11 @@ use Rattle.coverage.specs.Statements.{Empty, Holding, Maintaining, NotBuilding, 
 use Rattle.coverage.specs.Waiting.{IsPhaseFull}
 use Rattle.coverage.specs.Accounts as accounts
 use Rattle.coverage.specs.Accounts.{Account, AccountIs, Accounts, Adds, job_count, no_account}
-use Rattle.coverage.specs.Table.{Considers, Desummarising, EachRange, Job, Maintains, OneRange, Prunes, Reaches, Restarts, Resting, Sweeps, TableState, Task, WholeRanges, index_view_at}
+use Rattle.coverage.specs.Table.{Considers, Desummarising, EachRange, Job, Maintains, OneRange, Prunes, Restarts, Resting, Sweeps, TableState, Task, WholeRanges, index_view_at}
 use Rattle.coverage.specs.TablePoints.{does_point}
 use Rattle.coverage.specs.TableSteps.{AsksSummary, BeginsScan, BeginsWith, Blocked, Conflicts, Desummarize, Does, GivesLock, GoesOn, HasRange, HasStep, IndexFull, Inserted, InsertCompletes, InsertGoes, IsBlocked, IsInsertRefused, IsMaintained, IsVacuuming}
 use Rattle.coverage.specs.TableSteps.{JobStep, Judges, JudgesNext, MaintainCompletes, MaintainGoes, Marked, MarksRow, NextIndex, NoPage, NothingToSweep, Onward, Pruned, PrunesBlock, PutsRow, RangesDone, ReadsBlock, RefusesInsert, RefusesMaintain}
-use Rattle.coverage.specs.TableSteps.{RefusesRow, RefusesScan, RefusesVacuum, RestartsIndex, SameIndexes, Scanned, Settles, Stays, StepsIn, Summarize, SummarizeOne, SweepsPage, Swept, TakesLock, TaskTurns, ToAsk, ToIndex, ToMarks, ToPage, ToRange, Transacts, Vacuum, Work}
+use Rattle.coverage.specs.TableSteps.{RefusesRow, RefusesScan, RefusesVacuum, RestartsIndex, SameIndexes, Scanned, Settles, Stays, Summarize, SummarizeOne, SweepsPage, Swept, TakesLock, TaskTurns, ToAsk, ToIndex, ToMarks, ToPage, ToRange, Transacts, Vacuum, Work}
 
 module _ (s : ℕ) (w v : TableState) where
   module _ (a b : Accounts) where

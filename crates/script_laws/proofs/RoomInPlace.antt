@@ -1,10 +1,10 @@
 -- What room a page has where a tuple comes to its lowest free slot, or in place of another.
-use Rattle.std.proofs.Common.{◌≡◌, ◌≢◌, ◌⊎◌, inl, inr, ⊎_elim, ℕ, zero, suc, ◌+◌, ◌-◌, ◌*◌, ◌≤◌, ◌<◌, Bool, true, false, if◌then◌else◌, List, length, Option, Some, None, refl, sym, ◌∙◌, ap, subst, arith}
+use Rattle.std.proofs.Common.{◌≡◌, ◌≢◌, ⊎_elim, ℕ, zero, suc, ◌+◌, ◌-◌, ◌*◌, ◌≤◌, ◌<◌, Bool, true, false, if◌then◌else◌, length, Option, Some, None, refl, sym, ◌∙◌, ap, subst, arith}
 use Rattle.std.proofs.lemmas.Option.{none-some, same_Some}
 use Rattle.std.specs.Option.{option_map}
 use Rattle.index_layout.specs.IndexPages.{Slot, taken, tuple_bytes}
 use Rattle.index_layout.specs.IndexReading.{free_of}
-use Rattle.index_layout.specs.IndexWrites.{before, room_for_further, trimmed}
+use Rattle.index_layout.specs.IndexWrites.{before, trimmed}
 use Rattle.block_model.specs.declared.place.Spot.{Spot}
 use Rattle.coverage.specs.Changes.{ChangesAt}
 use Rattle.coverage.specs.IndexView.{IndexTuple}
@@ -25,6 +25,7 @@ all_taken f (suc n) all = on (f 0) refl (all_taken (λ j. f (suc j)) n (λ j les
   where
     more : (size used : ℕ) → 4 * n ≤ used → 4 * suc n ≤ 4 + size + used
     more size used le = omega (arith, le)
+
     on : (s : Slot) → f 0 ≡ s → 4 * n ≤ taken (trimmed (first_slots (λ j. f (suc j)) n)) → 4 * suc n ≤ taken (before (f 0) (trimmed (first_slots (λ j. f (suc j)) n)))
     on None is rest = absurd (all 0 (omega arith) is)
     on (Some tuple) is rest = subst (λ (s : Slot). 4 * suc n ≤ taken (before s (trimmed (first_slots (λ j. f (suc j)) n)))) (sym is)
@@ -47,18 +48,25 @@ room_in_place f g y t most lowest changes size room = ⊎_elim
   where
     old : ℕ → Slot
     old k = bytes_of f (record { block = y.block; slot = k })
+
     new : ℕ → Slot
     new k = bytes_of g (record { block = y.block; slot = k })
+
     crosses : (a b : ℕ) → a < b → b ≤ a → ⊥
     crosses a b less le = omega (arith, less, le)
+
     before_it : (j k : ℕ) → j < 2040 → 2040 ≤ k → j < k
     before_it j k less past = omega (arith, less, past)
+
     within : (a b c : ℕ) → a ≤ b → b ≤ c → a ≤ c
     within a b c one two = omega (arith, one, two)
+
     same : (a b c : ℕ) → a ≤ b → c ≡ b → a ≤ c
     same a b c le is = omega (arith, le, is)
+
     lower : (j : ℕ) → j < y.slot → old j ≢ None
     lower j less is = crosses j y.slot less (lowest.1 j (no_bytes (f (record { block = y.block; slot = j })) is))
+
     others : (j : ℕ) → j ≢ y.slot → new j ≡ old j
     others j apart = ⊎_elim
         (λ (is : record { block = y.block; slot = j } ≡ y). absurd (apart (ap (λ (x : Spot). x.slot) is)))
@@ -92,6 +100,7 @@ still_within f g y t old page j k most changes on low size within = record {
   where
     crosses : (i n k : ℕ) → i ≡ n → n < k → k ≤ i → ⊥
     crosses i n k is less le = omega (arith, is, less, le)
+
     onto : (j k i : ℕ) → j ≤ k → k ≤ i → j ≤ i
     onto j k i one two = omega (arith, one, two)
 

@@ -1,20 +1,19 @@
 -- A summarise that steps alone in an index with room for its ranges: no tuple moves, no page is lacking, and nothing is waited for.
-use Rattle.std.proofs.Common.{◌≡◌, ◌≢◌, ◌⊎◌, inl, inr, ⊎_elim, ℕ, zero, suc, ◌+◌, ◌-◌, ◌*◌, ◌≤◌, ◌<◌, Option, None, Some, List, length, refl, sym, ap, ◌∙◌, subst, arith}
+use Rattle.std.proofs.Common.{◌≡◌, ◌≢◌, inl, inr, ⊎_elim, ℕ, suc, ◌+◌, ◌-◌, ◌*◌, ◌≤◌, ◌<◌, Option, None, Some, length, refl, sym, ap, ◌∙◌, subst, arith}
 use Rattle.std.proofs.Math.Nat.{add-mul}
 use Rattle.std.proofs.lemmas.Bool.{cases_eq}
 use Rattle.std.proofs.lemmas.Option.{none-some, same_Some}
 use Rattle.index_layout.specs.IndexPages.{Slot}
 use Rattle.block_model.specs.declared.place.Spot.{Spot}
-use Rattle.block_model.specs.declared.row.Row.{Row}
-use Rattle.coverage.specs.Changes.{Frame, IsFree, OwnLocks, SameTuples, TouchesNothing}
+use Rattle.coverage.specs.Changes.{OwnLocks, SameTuples}
 use Rattle.coverage.specs.Counts.{summarise_count}
 use Rattle.coverage.specs.IndexView.{Contents, ExtentUnread, IndexTuple, IndexView, IsFormed, IsPastMap, Pages, Passing, Progress, Regular, map_page_of, placeholder_length}
 use Rattle.coverage.specs.Rooms.{HasTuplesWithin, bytes_of, page_room, place_room}
-use Rattle.coverage.specs.Statements.{AreLawful, Copied, Dropping, Empty, Evacuating, Growing, Held, Holding, IsAt, Maintaining, Moving, NotBuilding, OnIndex, Phase, Placing, Statement, Vacant}
+use Rattle.coverage.specs.Statements.{AreLawful, Copied, Empty, Held, Holding, IsAt, Maintaining, NotBuilding, OnIndex, Phase, Placing, Statement, Vacant}
 use Rattle.coverage.specs.Steps.{Again, Count, CountLeftOver, DropOld, EvacuateDrop, EvacuatePut, EvacuateSet, EvacuateSweep, Extent, Flag, Found, Gone, Grow, GrowMap, GrowthStep}
 use Rattle.coverage.specs.Steps.{IsFinal, LookGone, LookMap, Maps, MovePut, OnIndexStep, Pass, Put, PutsTuple, ReadNoEntry, ReadsIndex, ReplacesTuple, Set, SetFinal, SetsEntry}
 use Rattle.coverage.specs.Steps.{SummariseStep, SwapFinal, Turn, TurnsPage, Unite, UniteCopies}
-use Rattle.coverage.specs.Verdicts.{Differs, Full, IsLowestNumber, IsPageUnstarted, IsTarget, IsTargetPlace, MustMove, NoTarget, OnNew, OnStarted, PutGoes, Puts, PutVerdict, SwapDiffers, SwapMoves, SwapVerdict, Verdict}
+use Rattle.coverage.specs.Verdicts.{Differs, Full, IsLowestNumber, IsPageUnstarted, IsTarget, IsTargetPlace, MustMove, NoTarget, OnNew, OnStarted, PutGoes, Puts, PutVerdict, SwapDiffers, SwapMoves, SwapVerdict}
 use Rattle.coverage.specs.Waiting.{EvacuateFull, FinalFull, IsPhaseFull, IsPhaseWaiting, MapFull, PlaceFull}
 use Rattle.coverage.proofs.FullApart.{room_not_full}
 use Rattle.coverage.proofs.PageRooms.{room_within}
@@ -182,6 +181,7 @@ module _ (s ranges range : ℕ) (inside : range < ranges) where
       where
         room : (q : ℕ) → placeholder_length w range ≤ page_room (bytes_of w.tuple) q
         room q = within (placeholder_length w range) w.contents.greatest (page_room (bytes_of w.tuple) q) (has.lawful.empty range low).0.size (room_here w.contents w.tuple w.pages has q)
+
         by : HasPage w.pages → ⊥
         by (IsStarted p past regular) = room_not_full w s range (placeholder_length w range) w.pages.limit p (past, regular, room p) (NoTarget none)
         by (IsNext p past next limit) = none p (OnNew (λ q has_room. room_not_full w s range (placeholder_length w range) w.pages.limit q has_room (NoTarget none)) next limit)

@@ -1,18 +1,14 @@
 -- A summarize of a whole table that steps alone in an index with room for its ranges: where it is between its steps, and that none is refused.
-use Rattle.std.proofs.Common.{◌≡◌, ◌≢◌, ◌⊎◌, inl, inr, ⊎_elim, ◌↔◌, ℕ, suc, ◌+◌, ◌*◌, ◌≤◌, ◌<◌, [], Option, None, Some, refl, sym, ap, ◌∙◌, subst, arith}
-use Rattle.std.proofs.lemmas.Option.{none-some, same_Some}
+use Rattle.std.proofs.Common.{◌≡◌, ◌≢◌, inl, inr, ⊎_elim, ◌↔◌, ℕ, suc, ◌+◌, ◌*◌, ◌≤◌, ◌<◌, Option, None, refl, sym, ap, ◌∙◌, subst, arith}
 use Rattle.coverage.proofs.Numbers.{lt_or_ge}
 use Rattle.block_model.specs.declared.reply.Point.{Point}
-use Rattle.block_model.specs.declared.place.Spot.{Spot}
 use Rattle.coverage.specs.Counts.{summarise_count}
-use Rattle.coverage.specs.IndexView.{IndexView}
 use Rattle.coverage.specs.Refusals.{Refusal, does_refusal}
 use Rattle.coverage.specs.Statements.{Empty, Holding, Maintaining, NotBuilding, Phase, Statement}
 use Rattle.coverage.specs.Steps.{SummariseStep}
-use Rattle.coverage.specs.Accounts.{Account, Accounts, AccountsStep, Adds, no_account}
-use Rattle.coverage.specs.Table.{Considers, EachRange, Index, Maintains, Resting, TableState, Task, index_view_at}
-use Rattle.coverage.specs.TablePoints.{does_point}
-use Rattle.coverage.specs.TableSteps.{Does, IsBlocked, SameIndexes, Settles, SummariseWaits, TableStep}
+use Rattle.coverage.specs.Accounts.{Account, Accounts, AccountsStep}
+use Rattle.coverage.specs.Table.{Considers, EachRange, Index, Maintains, Resting, TableState, index_view_at}
+use Rattle.coverage.specs.TableSteps.{IsBlocked, Settles, SummariseWaits, TableStep}
 use Rattle.script_laws.proofs.IndexMakes.{AreOwn}
 use Rattle.script_laws.proofs.Maintained.{counted}
 use Rattle.script_laws.proofs.MaintainDoes.{AtRange, Completes, FindsLocked, Goes, LacksPage, SettlesSo, at_first, at_range, settles_so}
@@ -83,13 +79,17 @@ module _ (s at ranges extent its : ℕ) (are : (m : ℕ) → (m * its < extent) 
     does_at : (a b : Accounts) → a.of s ≡ counted 0 0 r → (point : Option Point) (refused : Option Refusal) → AtRange s w v a b (EachRange extent) at r phase point refused
         → IsWithin v (b.of s) × (refused ≡ None)
     does_at a b counts _ _ (Goes new point now below step account) =
-        let left = leaves (Maintaining r new) step in
-        (InRange r new now inside (account ∙ ap (λ (x : Account). record x { ranges = x.ranges + summarise_count step }) counts ∙ ap (λ k. counted 0 0 k) (no_more r (summarise_count step) left.says.0))
-            (record { says = left.says.1; ahead = left.ahead; own = left.own; per = left.per ∙ stands.per }), refl)
+        let left = leaves (Maintaining r new) step in (
+          InRange r new now inside (account ∙ ap (λ (x : Account). record x { ranges = x.ranges + summarise_count step }) counts ∙ ap (λ k. counted 0 0 k) (no_more r (summarise_count step) left.says.0))
+              (record { says = left.says.1; ahead = left.ahead; own = left.own; per = left.per ∙ stands.per }),
+          refl,
+        )
     does_at a b counts _ _ (Completes point now below step account) =
-        let left = leaves Holding step in
-        (Between (suc r) now inside (account ∙ ap (λ (x : Account). record x { ranges = x.ranges + summarise_count step }) counts ∙ ap (λ k. counted 0 0 k) (one_more r (summarise_count step) left.says.0))
-            (record { room = left.says.1; empty = λ m le. left.ahead m (onto r m le); own = left.own; per = left.per ∙ stands.per }), refl)
+        let left = leaves Holding step in (
+          Between (suc r) now inside (account ∙ ap (λ (x : Account). record x { ranges = x.ranges + summarise_count step }) counts ∙ ap (λ k. counted 0 0 k) (one_more r (summarise_count step) left.says.0))
+              (record { room = left.says.1; empty = λ m le. left.ahead m (onto r m le); own = left.own; per = left.per ∙ stands.per }),
+          refl,
+        )
     does_at a b counts _ _ (LacksPage number why full) = absurd (never_full s ranges r inside (index_view_at at w) (index_view_at at w) phase number stands.says full)
     does_at a b counts _ _ (FindsLocked blocked) = absurd (not_blocked blocked)
 

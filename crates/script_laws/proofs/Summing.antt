@@ -21,7 +21,7 @@ use Rattle.coverage.specs.Refusals.{Refusal}
 use Rattle.coverage.specs.Table.{Considers, EachRange, Index, Maintains, Resting, TableState, Task, index_view_at, seen_by}
 use Rattle.coverage.specs.TableCovered.{IsTableKept}
 use Rattle.coverage.specs.TablePoints.{does_point}
-use Rattle.coverage.specs.TableSteps.{Does, HasRange, Settles, TableStep}
+use Rattle.coverage.specs.TableSteps.{Does, Settles, TableStep}
 use Rattle.coverage.proofs.TableSeen.{table_step_kept}
 use Rattle.coverage.proofs.Views.{pick_same}
 use Rattle.script_semantics.specs.Beginnings.{Begins, StandsAt}

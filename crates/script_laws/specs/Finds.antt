@@ -27,7 +27,8 @@ pub record IsCalm (p : Place) (n table at : ℕ) : Type 0 where
   pub free : (p.tables table).summarise_lock ≡ None
   pub unlocked : (page : ℕ) → ((p.tables table).index at).lock page ≡ None
 
--- the range has a block of the table and no tuple, and there is an entry of the map and a place for its placeholder, on a page with room for the longest tuple
+-- The range has a block of the table and no tuple; there is an entry of the map, and a place for its placeholder, on a page with room for the
+-- longest tuple.
 pub record LacksTuple (w : TableState) (at range : ℕ) : Type 0 where
   pub begins : first_block w at range < w.blocks
   pub few : range < (w.index at).contents.ranges
