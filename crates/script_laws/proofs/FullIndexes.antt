@@ -31,11 +31,10 @@ use Rattle.script_semantics.specs.Turns.{Turn, refusal_of}
 use Rattle.script_semantics.proofs.Orders.{updated_here}
 use Rattle.store_layout.specs.declared.statement.Statement.TheVariants as statements
 use Rattle.script_laws.specs.Finds.{IsCalm}
-use Rattle.script_laws.specs.FullIndexes.{AnIndexWithRoomIsNeverFull, HasRoomForRanges, HasThreeBlocks, ThreeBlocksAreSummarized, int8_minmax}
+use Rattle.script_laws.specs.FullIndexes.{AnIndexWithRoomIsNeverFull, HasRoomForRanges, HasThreeBlocks, MayStart, ThreeBlocksAreSummarized, int8_minmax}
 use Rattle.script_laws.proofs.FirstRow.{from_two}
 use Rattle.script_laws.proofs.Maintained.{counted}
 use Rattle.script_laws.proofs.RoomInPlace.{empty_within}
-use Rattle.script_laws.proofs.RoomySteps.{IsNext}
 use Rattle.script_laws.proofs.RoomyTable.{IsAtWork, IsDone, IsRoomyBefore, StillAt, works_first, works_on, works_unblocked}
 use Rattle.script_laws.proofs.Said.{said_count, said_memory, said_three}
 use Rattle.script_laws.proofs.Summarized.{summarize_allowed}
@@ -50,7 +49,7 @@ before_first n at ranges w has unlocked = record {
     lawful = has.lawful;
     fits = has.fits;
     few = λ page. empty_within (w.index at).tuple page (w.index at).contents.greatest has.tuple;
-    page = IsNext has.page has.behind has.lowest has.below;
+    page = has.page;
     mapped = λ m less past. not_past (map_page_of m) (w.index at).pages.map_pages (has.mapped m less) past;
   };
   empty = λ m le. has.entry m;
@@ -261,10 +260,8 @@ module _ (lawful : (shape : IndexShape) → IsLawfulShape shape → AreLawful (c
     tuple = three.tuple;
     lawful = subst AreLawful (sym three.contents) (lawful int8_minmax lawful_minmax);
     mapped = λ range less. first_map_page range (w.index 0).pages.map_pages less three.pages.one;
-    page = 2;
-    lowest = (three.pages.rest 2 (omega arith), λ page is. from_two (w.index 0).pages three.pages (w.index 0).tuple three.tuple more 0 page is);
-    behind = one_page (w.index 0).pages.map_pages three.pages.one;
-    below = more;
+    page = MayStart 2 (one_page (w.index 0).pages.map_pages three.pages.one)
+        (three.pages.rest 2 (omega arith), λ page is. from_two (w.index 0).pages three.pages (w.index 0).tuple three.tuple more 0 page is) more;
     fits = three_fit (w.index 0).contents.greatest (ap (λ (c : Contents). c.greatest) three.contents ∙ greatest_is int8_minmax);
   }
 

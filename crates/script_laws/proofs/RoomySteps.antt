@@ -13,19 +13,15 @@ use Rattle.coverage.specs.Statements.{AreLawful, Copied, Empty, Held, Holding, I
 use Rattle.coverage.specs.Steps.{Again, Count, CountLeftOver, DropOld, EvacuateDrop, EvacuatePut, EvacuateSet, EvacuateSweep, Extent, Flag, Found, Gone, Grow, GrowMap, GrowthStep}
 use Rattle.coverage.specs.Steps.{IsFinal, LookGone, LookMap, Maps, MovePut, OnIndexStep, Pass, Put, PutsTuple, ReadNoEntry, ReadsIndex, ReplacesTuple, Set, SetFinal, SetsEntry}
 use Rattle.coverage.specs.Steps.{SummariseStep, SwapFinal, Turn, TurnsPage, Unite, UniteCopies}
-use Rattle.coverage.specs.Verdicts.{Differs, Full, IsLowestNumber, IsPageUnstarted, IsTarget, IsTargetPlace, MustMove, NoTarget, OnNew, OnStarted, PutGoes, Puts, PutVerdict, SwapDiffers, SwapMoves, SwapVerdict}
+use Rattle.coverage.specs.Verdicts.{Differs, Full, IsTarget, IsTargetPlace, MustMove, NoTarget, OnNew, OnStarted, PutGoes, Puts, PutVerdict, SwapDiffers, SwapMoves, SwapVerdict}
 use Rattle.coverage.specs.Waiting.{EvacuateFull, FinalFull, IsPhaseFull, IsPhaseWaiting, MapFull, PlaceFull}
 use Rattle.coverage.proofs.FullApart.{room_not_full}
 use Rattle.coverage.proofs.PageRooms.{room_within}
 use Rattle.coverage.proofs.WaitsOnce.{phase_wait_locked}
+use Rattle.script_laws.specs.FullIndexes.{HasPage, IsStarted, MayStart}
 use Rattle.script_laws.proofs.RoomInPlace.{put_low, room_in_place, stands_low, still_within}
 use Rattle.script_laws.proofs.IndexMakes.{AreOwn}
 use Rattle.script_laws.proofs.Summaries.{rows_formed}
-
--- a page with tuples behind the map, or the next one that isn't started
-pub data HasPage (pages : Pages) : Type 0 where
-  IsStarted : (p : ℕ) → pages.map_pages < p → pages.kind p ≡ Regular → HasPage pages
-  IsNext : (p : ℕ) → pages.map_pages < p → IsLowestNumber (IsPageUnstarted pages) p → p < pages.limit → HasPage pages
 
 -- the tuples of each page stand in its first slots, which are so many, and there is a page, with room for one of each range
 pub record HasRoom (ranges slots : ℕ) (contents : Contents) (tuple : Spot → Option IndexTuple) (pages : Pages) : Type 0 where
@@ -103,7 +99,7 @@ put_target w s range need _ (PutGoes y target one two) = target
 past_map : (pages : Pages) (bytes : Spot → Slot) (need p : ℕ) → HasPage pages → ((q : ℕ) → need ≤ page_room bytes q) → IsTarget pages bytes need p → pages.map_pages < p
 past_map pages bytes need p has room (OnStarted lowest) = lowest.0.0
 past_map pages bytes need p (IsStarted q past regular) room (OnNew none lowest below) = absurd (none q (past, regular, room q))
-past_map pages bytes need p (IsNext q past next limit) room (OnNew none lowest below) = omega (arith, past, next.1 p lowest.0)
+past_map pages bytes need p (MayStart q past next limit) room (OnNew none lowest below) = omega (arith, past, next.1 p lowest.0)
 
 module _ (s ranges range : ℕ) (inside : range < ranges) where
   room_here : (contents : Contents) (tuple : Spot → Option IndexTuple) (pages : Pages) → HasRoom ranges range contents tuple pages → (page : ℕ) → contents.greatest ≤ page_room (bytes_of tuple) page
@@ -184,7 +180,7 @@ module _ (s ranges range : ℕ) (inside : range < ranges) where
 
         by : HasPage w.pages → ⊥
         by (IsStarted p past regular) = room_not_full w s range (placeholder_length w range) w.pages.limit p (past, regular, room p) (NoTarget none)
-        by (IsNext p past next limit) = none p (OnNew (λ q has_room. room_not_full w s range (placeholder_length w range) w.pages.limit q has_room (NoTarget none)) next limit)
+        by (MayStart p past next limit) = none p (OnNew (λ q has_room. room_not_full w s range (placeholder_length w range) w.pages.limit q has_room (NoTarget none)) next limit)
 
     -- no step of it lacks a page
     pub never_full : (phase : Phase) (number : ℕ) → Before phase → IsPhaseFull w s range phase number → ⊥

@@ -4,7 +4,7 @@ use Rattle.block_model.specs.declared.limits.TheConstants.{PAGE_ROOM}
 use Rattle.block_model.specs.declared.place.Spot.{Spot}
 use Rattle.block_model.specs.declared.schema.Class.TheVariants as classes
 use Rattle.block_model.specs.declared.value.Kind.TheVariants as kinds
-use Rattle.coverage.specs.IndexView.{map_page_of}
+use Rattle.coverage.specs.IndexView.{Pages, Regular, map_page_of}
 use Rattle.coverage.specs.PageOrder.{AreNewPages}
 use Rattle.coverage.specs.Statements.{AreLawful}
 use Rattle.coverage.specs.Table.{TableState}
@@ -18,18 +18,20 @@ use Rattle.script_semantics.specs.Place.{Place}
 use Rattle.store_layout.specs.declared.statement.Statement.TheVariants as statements
 use Rattle.script_laws.specs.Finds.{IsCalm}
 
--- The table has so many ranges in this index, which has no tuple and no entry. Its map has a page for each of them; its lowest page that isn't
--- started lies behind the map and below the limit; and a page has room for the longest tuple of each range.
+-- behind its map an index has a page for tuples; or its lowest page that isn't started lies there, below the limit
+pub data HasPage (pages : Pages) : Type 0 where
+  IsStarted : (page : ℕ) → pages.map_pages < page → pages.kind page ≡ Regular → HasPage pages
+  MayStart : (page : ℕ) → pages.map_pages < page → IsLowestNumber (IsPageUnstarted pages) page → page < pages.limit → HasPage pages
+
+-- The table has so many ranges in this index, which has no tuple and no entry, and has a page. Its map has a page for each of the ranges, and one page
+-- for tuples has room for the longest tuple of each of them.
 pub record HasRoomForRanges (w : TableState) (at ranges : ℕ) : Type 0 where
   pub has : (range : ℕ) → (first_block w at range < w.blocks) ↔ (range < ranges)
   pub entry : (range : ℕ) → (w.index at).entry range ≡ None
   pub tuple : (x : Spot) → (w.index at).tuple x ≡ None
   pub lawful : AreLawful (w.index at).contents
   pub mapped : (range : ℕ) → range < ranges → map_page_of range ≤ (w.index at).pages.map_pages
-  pub page : ℕ
-  pub lowest : IsLowestNumber (IsPageUnstarted (w.index at).pages) page
-  pub behind : (w.index at).pages.map_pages < page
-  pub below : page < (w.index at).pages.limit
+  pub page : HasPage (w.index at).pages
   pub fits : ranges * ((w.index at).contents.greatest + 4) ≤ PAGE_ROOM
 
 -- a plain line that summarizes such a table, at which nobody is at work, is told the number of its ranges, or that memory is short, and no other text
