@@ -4,7 +4,6 @@ use Rattle.std.specs.Prelude.{codes, decimal}
 use Rattle.std.proofs.lemmas.Bool.{cases_eq}
 use Rattle.std.proofs.lemmas.Option.{none-some, same_Some}
 use Rattle.block_model.specs.declared.reply.Point.{Point}
-use Rattle.block_model.specs.declared.reply.Refusal.{Refusal}
 use Rattle.block_model.specs.declared.reply.Reply.TheVariants as replies
 use Rattle.block_model.specs.RequestEffect.{Answer}
 use Rattle.coverage.specs.Accounts.{Account, AccountsStep}
@@ -18,11 +17,9 @@ use Rattle.index_steps.specs.IndexTuples.{IndexShape, contents_of, index_at}
 use Rattle.index_steps.specs.LawfulShapes.{IsLawfulShape}
 use Rattle.index_steps.proofs.SeenTuples.{greatest_is}
 use Rattle.index_steps.proofs.TableIndexes.{apart_numbers}
-use Rattle.query_words.specs.declared.line.Order.TheVariants as orders
-use Rattle.reply_texts.specs.Texts.{reply_text}
 use Rattle.script_semantics.specs.Beginnings.{Begins, StandsAt}
 use Rattle.script_semantics.specs.LineTexts as texts
-use Rattle.script_semantics.specs.LineTexts.{Does, Finishes, LastStep, NotTaken, Plain, RefusesPlain, Submits, Taken, WantsMemory, dropped_at, outcome_text, submit_refusal, with_statement}
+use Rattle.script_semantics.specs.LineTexts.{Finishes, LastStep, dropped_at, outcome_text, with_statement}
 use Rattle.script_semantics.specs.Names.{dropped_of}
 use Rattle.script_semantics.specs.Place.{Hand, Place, accounts_at, new_hand}
 use Rattle.script_semantics.specs.StatementSteps as steps
@@ -34,9 +31,10 @@ use Rattle.script_laws.specs.Finds.{IsCalm}
 use Rattle.script_laws.specs.FullIndexes.{AnIndexWithRoomIsNeverFull, HasRoomForRanges, HasThreeBlocks, MayStart, ThreeBlocksAreSummarized, int8_minmax}
 use Rattle.script_laws.proofs.FirstRow.{from_two}
 use Rattle.script_laws.proofs.Maintained.{counted}
+use Rattle.script_laws.proofs.PlainLines.{plain_told}
 use Rattle.script_laws.proofs.RoomInPlace.{empty_within}
 use Rattle.script_laws.proofs.RoomyTable.{IsAtWork, IsDone, IsRoomyBefore, StillAt, works_first, works_on, works_unblocked}
-use Rattle.script_laws.proofs.Said.{said_count, said_memory, said_three}
+use Rattle.script_laws.proofs.Said.{said_count, said_three}
 use Rattle.script_laws.proofs.Summarized.{summarize_allowed}
 
 not_past : (a b : ℕ) → a ≤ b → b < a → ⊥
@@ -197,34 +195,16 @@ module _ (p : Place) (n index at ranges : ℕ) (name : List ℕ) (stands : Stand
     is = inl (record { rests = calm.rests; free = calm.free; blocks = refl; before = before_first n at ranges w has calm.unlocked });
   }
 
-  allowed : submit_refusal p n (statements.Summarize index None) ≡ None
-  allowed = summarize_allowed p n index None calm.idle refl
-
-  finishes_so : (outcome : Outcome) (u v : Place) → u ≡ q → Finishes n u outcome v → outcome_text name (dropped_at v n) outcome ≡ name ++ codes " summarized " ++ decimal ranges ++ codes "\n"
-  finishes_so outcome u v is finishes =
+  finishes_so : (u : Place) (outcome : Outcome) (v : Place) → u ≡ q → Finishes n u outcome v → outcome_text name (dropped_at v n) outcome ≡ name ++ codes " summarized " ++ decimal ranges ++ codes "\n"
+  finishes_so u outcome v is finishes =
       let ends = ends_so n index t at ranges w.blocks (w.index at).pages_per_range has.has q [] outcome v begun (subst (λ (x : Place). Finishes n x outcome v) is finishes) in
       ap (λ (o : Outcome). outcome_text name (dropped_at v n) o) ends.told
       ∙ ap (λ (a : Account). outcome_text name (dropped_of v.layout a.dropped) (Ended (replies.Summarized ranges))) ends.counts
       ∙ said_count name ranges
 
-  submitted_so : (told : Option Refusal) (u : Place) → Submits p n (statements.Summarize index None) told u → told ≡ None → u ≡ q
-  submitted_so _ _ (Taken none) is = refl
-  submitted_so _ _ (NotTaken refusal refused) is = absurd (none-some _ (sym is))
-  submitted_so _ _ (WantsMemory none may) is = absurd (none-some _ (sym is))
-
-  refused_so : (refusal : Refusal) (told : Option Refusal) (u : Place) → Submits p n (statements.Summarize index None) told u → told ≡ Some refusal
-      → reply_text name (replies.Refused refusal) ≡ name ++ codes " error 13\n"
-  refused_so refusal _ _ (Taken none) is = absurd (none-some _ is)
-  refused_so refusal _ _ (NotTaken other refused) is = absurd (none-some _ (sym allowed ∙ refused))
-  refused_so refusal _ _ (WantsMemory none may) is = ap (λ (x : Refusal). reply_text name (replies.Refused x)) (sym (same_Some _ _ is)) ∙ said_memory name
-
-  told_so : (text : List ℕ) (v : Place) → Does p n name (orders.Whole (statements.Summarize index None)) text v
-      → (text ≡ name ++ codes " summarized " ++ decimal ranges ++ codes "\n") ⊎ (text ≡ name ++ codes " error 13\n")
-  told_so _ _ (Plain statement outcome u v submits finishes) = inl (finishes_so outcome u v (submitted_so None u submits refl) finishes)
-  told_so _ _ (RefusesPlain statement refusal u submits) = inr (refused_so refusal (Some refusal) u submits refl)
-
 pub never_full : AnIndexWithRoomIsNeverFull
-never_full p q n index at ranges name text stands calm has line = told_so p n index at ranges name stands calm has text q line
+never_full p q n index at ranges name text stands calm has line =
+    plain_told p n name (statements.Summarize index None) (summarize_allowed p n index None calm.idle refl) _ (finishes_so p n index at ranges name stands calm has) text q line
 
 -- ---- three blocks
 

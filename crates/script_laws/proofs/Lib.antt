@@ -22,6 +22,7 @@ pub mod FullIndexes
 pub mod Summarized
 pub mod Desummarized
 pub mod Waits
+pub mod PlainLines
 pub mod Works
 pub mod RowSteps
 pub mod AskSteps

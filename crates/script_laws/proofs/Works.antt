@@ -3,19 +3,17 @@ use Rattle.std.proofs.Common.{◌≡◌, ◌⊎◌, inl, inr, ℕ, ◌≤◌, Li
 use Rattle.std.specs.Prelude.{codes}
 use Rattle.std.specs.FinMap as map
 use Rattle.std.proofs.lemmas.Option.{none-some, same_Some}
-use Rattle.block_model.specs.declared.reply.Refusal.{Refusal}
 use Rattle.block_model.specs.declared.reply.Reply.TheVariants as replies
 use Rattle.block_model.specs.DatabaseState.{OpenTransaction}
 use Rattle.script_semantics.specs.Beginnings.{IsAtRest, IsWorkIn}
 use Rattle.script_semantics.specs.LineTexts as texts
-use Rattle.script_semantics.specs.LineTexts.{Does, Finishes, LastStep, NotTaken, Plain, RefusesPlain, Submits, Taken, WantsMemory, dropped_at, outcome_text, submit_refusal, with_statement}
+use Rattle.script_semantics.specs.LineTexts.{Finishes, LastStep, Taken, dropped_at, outcome_text, submit_refusal, with_statement}
 use Rattle.script_semantics.specs.Names.{dropped_of}
 use Rattle.script_semantics.specs.Place.{Hand, Place, database_at, new_hand, updated}
 use Rattle.script_semantics.specs.StatementSteps as line
 use Rattle.script_semantics.specs.StatementSteps.{AtOnce, Ended, IsRefused, IsWaiting, LacksMemoryAtOnce, MeetsConflict, Moved, NoNumber, NothingAsked, Outcome, Replies, Steps, StepsTo}
 use Rattle.script_semantics.proofs.Bare.{no_move}
 use Rattle.script_semantics.proofs.Orders.{refusal_by_block, updated_here}
-use Rattle.query_words.specs.declared.line.Order.TheVariants as orders
 use Rattle.reply_texts.specs.Texts.{reply_text}
 use Rattle.store_layout.specs.declared.limits.TheConstants.{MAX_ENTRIES}
 use Rattle.store_layout.specs.declared.statement.Statement.TheVariants as statements
@@ -24,7 +22,8 @@ use Rattle.coverage.specs.Accounts.{Account, Asked, no_account}
 use Rattle.script_laws.specs.Answered.{IsAnswered}
 use Rattle.script_laws.specs.RowLaws.{WorkFindsNone}
 use Rattle.script_laws.proofs.Places.{RunEnds, answered, updated_both}
-use Rattle.script_laws.proofs.Said.{said_memory, said_none}
+use Rattle.script_laws.proofs.PlainLines.{plain_told}
+use Rattle.script_laws.proofs.Said.{said_none}
 
 module _ (p : Place) (n : ℕ) (idle : p.hands n ≡ None) (fits : length p.journal ≤ MAX_ENTRIES) (still : IsAtRest p n) (empty : p.queue ≡ []) (name : List ℕ) where
   abbrev q : Place
@@ -94,23 +93,9 @@ module _ (p : Place) (n : ℕ) (idle : p.hands n ≡ None) (fits : length p.jour
   finishes_so _ _ _ is (texts.Further u v w point outcome steps more) =
       absurd (no_move replies.Idle point (sym (steps_so (Moved point) v (subst (λ (x : Place). Steps x n (Moved point) v) is steps)).0))
 
-  submitted_so : (told : Option Refusal) (u : Place) → Submits p n statements.Work told u → told ≡ None → u ≡ q
-  submitted_so _ _ (Taken none) is = refl
-  submitted_so _ _ (NotTaken refusal refused) is = absurd (none-some _ (sym is))
-  submitted_so _ _ (WantsMemory none may) is = absurd (none-some _ (sym is))
-
-  refused_so : (refusal : Refusal) (told : Option Refusal) (u : Place) → Submits p n statements.Work told u → told ≡ Some refusal
-      → reply_text name (replies.Refused refusal) ≡ name ++ codes " error 13\n"
-  refused_so refusal _ _ (Taken none) is = absurd (none-some _ is)
-  refused_so refusal _ _ (NotTaken other refused) is = absurd (none-some _ (sym allowed ∙ refused))
-  refused_so refusal _ _ (WantsMemory none may) is = ap (λ (x : Refusal). reply_text name (replies.Refused x)) (sym (same_Some _ _ is)) ∙ said_memory name
-
-  told_so : (text : List ℕ) (v : Place) → Does p n name (orders.Whole statements.Work) text v → (text ≡ name ++ codes " worked none\n") ⊎ (text ≡ name ++ codes " error 13\n")
-  told_so _ _ (Plain statement outcome u v submits finishes) = inl (finishes_so u outcome v (submitted_so None u submits refl) finishes ∙ said_none name)
-  told_so _ _ (RefusesPlain statement refusal u submits) = inr (refused_so refusal (Some refusal) u submits refl)
-
 pub work_finds_none : WorkFindsNone
 work_finds_none p n name idle fits still empty = (
   subst (λ text. IsAnswered p n name statements.Work [] text []) (said_none name) (is_answered p n idle fits still empty name),
-  told_so p n idle fits still empty name,
+  λ text q line. subst (λ (said : List ℕ). (text ≡ said) ⊎ (text ≡ name ++ codes " error 13\n")) (said_none name)
+      (plain_told p n name statements.Work (allowed p n idle fits still empty name) (reply_text name replies.Idle) (finishes_so p n idle fits still empty name) text q line),
 )
