@@ -155,10 +155,8 @@ module _ (r q : Row) where
   one_more (suc c) j = inr refl
 
   two_more : (c j : ℕ) → ((c ≡ 1) × (j ≡ 0)) ⊎ (two_rows r q c j ≡ one_row r c j)
-  two_more zero j = inr refl
   two_more (suc zero) zero = inl (refl, refl)
-  two_more (suc zero) (suc j) = inr refl
-  two_more (suc (suc c)) j = inr refl
+  two_more _ _ = inr refl
 
   first_place : (c j : ℕ) → (0 < c) ⊎ ((0 ≡ c) × (0 ≤ j))
   first_place zero j = inr (refl, omega arith)

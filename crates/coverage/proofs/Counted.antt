@@ -63,39 +63,18 @@ count_at phase point = 0
 on_index_counts_none : (s range : ℕ) (w v : IndexView) (p : Progress) (old new : OnIndex) (step : OnIndexStep s range w v old new)
     → 0 ≡ count_at (IsAt p old) (on_index_point step)
 on_index_counts_none s range w v p _ _ (Maps x named reads) = refl
-on_index_counts_none s range w v p _ _ (Gone x gone reads) = refl
-on_index_counts_none s range w v p _ _ (Again x old new verdict reads) = refl
-on_index_counts_none s range w v p _ _ (MovePut x y old new verdict puts these) = refl
+on_index_counts_none s range w v p _ _ _ = refl
 
 growth_counts_none : (s range : ℕ) (w v : IndexView) (old new : Phase) (step : GrowthStep s range w v old new) → 0 ≡ count_at old (growth_point step)
 growth_counts_none s range w v _ _ (Grow grows free meta turns) = refl
-growth_counts_none s range w v _ _ (CountLeftOver grows meta counts) = refl
-growth_counts_none s range w v _ _ (Count counts) = refl
-growth_counts_none s range w v _ _ (Flag grows free turns) = refl
-growth_counts_none s range w v _ _ (EvacuatePut x y t grows next named free verdict puts these) = refl
-growth_counts_none s range w v _ _ (EvacuateSet m x y t u sets same) = refl
-growth_counts_none s range w v _ _ (EvacuateDrop m x drops) = refl
-growth_counts_none s range w v _ _ (EvacuateSweep x t grows next unnamed sweeps) = refl
-growth_counts_none s range w v _ _ (Turn grows empty free meta turns) = refl
+growth_counts_none s range w v _ _ _ = refl
 
 summarise_counts : (s range : ℕ) (w v : IndexView) (phase : Phase) (e : Statement) (step : SummariseStep s range w v phase e)
     → summarise_count step ≡ count_at phase (summarise_point step)
-summarise_counts s range w v _ _ (LookMap x named reads) = refl
-summarise_counts s range w v _ _ (LookGone x gone reads) = refl
-summarise_counts s range w v _ _ (IsFinal x t stands final reads) = refl
-summarise_counts s range w v _ _ (Found x t stands flag reads) = refl
-summarise_counts s range w v _ _ (ReadNoEntry none of reads) = refl
 summarise_counts s range w v _ _ (GrowMap old new step) = growth_counts_none s range w v old new step
-summarise_counts s range w v _ _ (Put x t is long verdict puts these) = refl
-summarise_counts s range w v _ _ (Set x sets none) = refl
-summarise_counts s range w v _ _ (Extent extent result start is reads) = refl
-summarise_counts s range w v _ _ (Pass extent next slots result wider below none made reads) = refl
 summarise_counts s range w v _ _ (Unite extent next result old new all step) =
     on_index_counts_none s range w v (Passing extent next result) old new step
-summarise_counts s range w v _ _ (UniteCopies extent next result x old new all stands united reads) = refl
-summarise_counts s range w v _ _ (SwapFinal p x old new verdict swap) = refl
-summarise_counts s range w v _ _ (SetFinal p x y old new sets same) = refl
-summarise_counts s range w v _ _ (DropOld x drops) = refl
+summarise_counts s range w v _ _ _ = refl
 
 pub summarise_one_count : (s range : ℕ) (w v u : IndexView) (phase : Phase) (e f : Statement)
     → (one : SummariseStep s range w v phase e) → (two : SummariseStep s range w u phase f) → summarise_count one ≡ summarise_count two
@@ -111,10 +90,7 @@ clear_count point = 0
 desummarise_counts : (s range : ℕ) (w v : IndexView) (phase : Phase) (e : Statement) (step : DesummariseStep s range w v phase e)
     → desummarise_count step ≡ clear_count (desummarise_point step)
 desummarise_counts s range w v _ _ (ClearMap x named reads) = refl
-desummarise_counts s range w v _ _ (ClearNone none reads) = refl
-desummarise_counts s range w v _ _ (Clear x verdict clears these) = refl
-desummarise_counts s range w v _ _ (ClearAgain x verdict reads) = refl
-desummarise_counts s range w v _ _ (DropCleared x drops) = refl
+desummarise_counts s range w v _ _ _ = refl
 
 pub desummarise_one_count : (s range : ℕ) (w v u : IndexView) (phase : Phase) (e f : Statement)
     → (one : DesummariseStep s range w v phase e) → (two : DesummariseStep s range w u phase f) → desummarise_count one ≡ desummarise_count two

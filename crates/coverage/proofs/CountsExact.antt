@@ -40,10 +40,8 @@ phase_not_final : (w : IndexView) (s range : ℕ) (phase : Phase) → KnowsPhase
     → ((on_index : OnIndex) → phase ≢ NotBuilding on_index) → NamesFinal w range → ⊥
 phase_not_final w s range (NotBuilding on_index) known pages working final = working on_index refl
 phase_not_final w s range Vacant known pages working final = none_not_final w range known.1 final
-phase_not_final w s range Growing known pages working final = none_not_final w range known.0 final
-phase_not_final w s range (Evacuating m on_index) known pages working final = none_not_final w range known.0 final
-phase_not_final w s range (Placing x) known pages working final = none_not_final w range known.0 final
 phase_not_final w s range (IsAt p on_index) known pages working final = placeholder_not_final w range pages.1 final
+phase_not_final w s range _ known pages working final = none_not_final w range known.0 final
 
 abbrev is_building : Phase → ℕ
 is_building (NotBuilding on_index) = 0
@@ -93,14 +91,7 @@ module _ (s range : ℕ) (w v : IndexState) (before : IsIndexKept w) (after : Is
   -- a growth of the map leaves the range at work
   grown : (old new : Phase) → GrowthStep s range (index_view w) (index_view v) old new → is_building new ≡ 1
   grown _ _ (Grow grows free meta turns) = refl
-  grown _ _ (CountLeftOver grows meta counts) = refl
-  grown _ _ (Count counts) = refl
-  grown _ _ (Flag grows free turns) = refl
-  grown _ _ (EvacuatePut x y t grows next named free verdict puts these) = refl
-  grown _ _ (EvacuateSet m x y t u sets same) = refl
-  grown _ _ (EvacuateDrop m x drops) = refl
-  grown _ _ (EvacuateSweep x t grows next unnamed sweeps) = refl
-  grown _ _ (Turn grows empty free meta turns) = refl
+  grown _ _ _ = refl
 
   pub summarise_exact : (old : Phase) (new : Statement) (step : SummariseStep s range (index_view w) (index_view v) old new)
       → w.statement s ≡ Maintaining range old → v.statement s ≡ new → (summarise_count step ≡ 1) ↔ GetsFinal

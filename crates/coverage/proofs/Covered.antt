@@ -15,19 +15,15 @@ use Rattle.coverage.proofs.Formed.{named_formed, held_formed}
 
 on_index_held : (w : IndexView) (s m : ℕ) (Makes : IndexTuple → IndexTuple → Type 0) (on_index : OnIndex) → KnowsOnIndex w s m Makes on_index
     → (range : ℕ) (x : Spot) → OnIndexHolds m on_index range x → IsHeld w range x
-on_index_held w s m Makes Empty known range x holds = absurd holds
 on_index_held w s m Makes (Held y) known range x holds = subst (λ n. IsHeld w n x) holds.0 (subst (λ z. IsHeld w m z) holds.1 known.1)
 on_index_held w s m Makes (Copied y old new) known range x holds = subst (λ n. IsHeld w n x) holds.0 (subst (λ z. IsHeld w m z) holds.1 known.1)
-on_index_held w s m Makes (Moving y z old new) known range x holds = absurd holds
-on_index_held w s m Makes (Dropping y) known range x holds = absurd holds
+on_index_held w s m Makes _ known range x holds = absurd holds
 
 phase_held : (w : IndexView) (s m : ℕ) (phase : Phase) → KnowsPhase w s m phase → (range : ℕ) (x : Spot) → PhaseHolds m phase range x → IsHeld w range x
 phase_held w s m (NotBuilding on_index) known range x holds = on_index_held w s m MakesNone on_index known range x holds
-phase_held w s m Vacant known range x holds = absurd holds
-phase_held w s m Growing known range x holds = absurd holds
 phase_held w s m (Evacuating n on_index) known range x holds = on_index_held w s n MakesSame on_index known.1 range x holds
-phase_held w s m (Placing y) known range x holds = absurd holds
 phase_held w s m (IsAt p on_index) known range x holds = on_index_held w s m (MakesUnited p) on_index known.0 range x holds
+phase_held w s m _ known range x holds = absurd holds
 
 statement_held : (w : IndexView) (s : ℕ) (d : Statement) → Knows w s d → (range : ℕ) (x : Spot) → StatementHolds w d range x → IsHeld w range x
 statement_held w s Idle known range x holds = absurd holds

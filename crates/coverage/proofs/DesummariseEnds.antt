@@ -69,9 +69,6 @@ module _ (s : ℕ) where
 
     goes : (job : Job) (at range : ℕ) (old new : Phase) → JobStep job s range (index_view_at at w) (index_view_at at u) old (Maintaining range new)
         → u.task s ≡ Maintains job at range new → JobWithin (suc n) w job at range old
-    goes (EachRange extent) at range old new does now = tt
-    goes (OneRange extent only) at range old new does now = tt
-    goes (WholeRanges extent) at range old new does now = tt
     goes (Desummarising only) at range old new does now =
         clear_within s range n (index_view_at at w) (index_view_at at u) old (Maintaining range new) does (⊎_elim
         (λ (on : Onward u (Maintains (Desummarising only) at range new) (v.task s) × OnlyTurns u v).
@@ -79,6 +76,7 @@ module _ (s : ℕ) where
         (λ (done : IsMaintained u (Maintains (Desummarising only) at range new) × (v.task s ≡ Resting)).
         absurd (unmaintained (Desummarising only) at range new done.0))
         (step_settles s u v step.settles (Maintains (Desummarising only) at range new) now))
+    goes _ at range old new does now = tt
 
     no_other : (only at range : ℕ) (t : Task) → Onward u (Considers (Desummarising only) at (suc range)) t → range ≡ only → ⊥
     no_other only at range _ (Stays _ has) is = has
@@ -89,34 +87,20 @@ module _ (s : ℕ) where
 
     ranges : (job : Job) (at range : ℕ) (old : Phase) → JobStep job s range (index_view_at at w) (index_view_at at u) old Holding
         → u.task s ≡ Considers job at (suc range) → IsInTable w (Maintains job at range old) → JobWithin (suc n) w job at range old
-    ranges (EachRange extent) at range old does now inside = tt
-    ranges (OneRange extent only) at range old does now inside = tt
-    ranges (WholeRanges extent) at range old does now inside = tt
     ranges (Desummarising only) at range old does now inside =
         clear_within s range n (index_view_at at w) (index_view_at at u) old Holding does (⊎_elim
         (λ (on : Onward u (Considers (Desummarising only) at (suc range)) (v.task s) × OnlyTurns u v).
         absurd (no_other only at range (v.task s) on.0 inside.2))
         (λ (done : IsMaintained u (Considers (Desummarising only) at (suc range)) × (v.task s ≡ Resting)). ends done.1)
         (step_settles s u v step.settles (Considers (Desummarising only) at (suc range)) now))
+    ranges _ at range old does now inside = tt
 
     step_within : (task new : Task) → Did s w u task new → w.task s ≡ task → u.task s ≡ new → Within (suc n) w task
     step_within _ _ (DidMaintain job at range old new stepped does) was now = goes job at range old new does now
     step_within _ _ (DidRange job at range old stepped does) was now = ranges job at range old does now (subst (IsInTable w) was (kept.inside s))
-    step_within _ _ (DidBegin new) was now = tt
-    step_within _ _ (DidAsk b k r at) was now = tt
-    step_within _ _ (DidInsert b k r at old new does) was now = tt
-    step_within _ _ (DidComplete b k r at old does) was now = tt
-    step_within _ _ (DidPrune extent next dropped inside drops) was now = tt
-    step_within _ _ (DidSweep at page stepped sweeps) was now = tt
-    step_within _ _ (DidRestart at only) was now = tt
-    step_within _ _ (DidJudge old new inside low judge only) was now = tt
-    step_within _ _ (DidRead scan next found reads only) was now = tt
-    step_within _ _ (DidMark scan id rest only) was now = tt
+    step_within _ _ _ was now = tt
 
   none_job : (z : TableState) (job : Job) (at range : ℕ) (phase : Phase) → JobWithin 0 z job at range phase
-  none_job z (EachRange extent) at range phase = tt
-  none_job z (OneRange extent only) at range phase = tt
-  none_job z (WholeRanges extent) at range phase = tt
   none_job z (Desummarising only) at range phase = none_clear ((z.index at).entry range) phase
     where
       least : (m : ℕ) → 0 ≤ m
@@ -125,6 +109,7 @@ module _ (s : ℕ) where
       none_clear : (entry : Option Spot) (phase : Phase) → ClearWithin 0 entry phase
       none_clear entry (NotBuilding (Held x)) = ((λ _. least 2), least 4)
       none_clear entry phase = least (desummarise_steps phase)
+  none_job z _ at range phase = tt
 
   none_left : (z : TableState) (task : Task) → Within 0 z task
   none_left z (Maintains job at range phase) = none_job z job at range phase

@@ -96,6 +96,4 @@ ended_loose w s b _ (EndsFull number x old new full) = refl
 
 pub full_loose : (w : IndexView) (s range number : ℕ) (phase : Phase) → IsPhaseFull w s range phase number → loose_at phase ≡ None
 full_loose w s range number _ (FinalFull _ p x old new full) = refl
-full_loose w s range number _ (PlaceFull _ long full) = refl
-full_loose w s range _ _ (MapFull past limit) = refl
-full_loose w s range number _ (EvacuateFull _ x t grows next named free full) = refl
+full_loose w s range _ _ _ = refl

@@ -100,45 +100,28 @@ considers_on u (WholeRanges extent) at range below none no_last = ⊎_elim
 insert_leads : (s b k : ℕ) (r : Row) (w v : IndexView) (g : OnIndex) (e : Statement) → InsertStep s b k r w v g e
     → (e ≡ Idle) ⊎ ((h : OnIndex) × (e ≡ Inserting b k r h))
 insert_leads s b k r w v _ _ (InsertOnIndex old new step) = inr (new, refl)
-insert_leads s b k r w v _ _ (InsertNoEntry none reads) = inl refl
 insert_leads s b k r w v _ _ (InsertCopies x old new stands added changes reads) = inr (_, refl)
-insert_leads s b k r w v _ _ (InsertUnchanged x t stands added free reads) = inl refl
-insert_leads s b k r w v _ _ (InsertSwap x old new verdict swap) = inl refl
 insert_leads s b k r w v _ _ (InsertSet x y old new sets same) = inr (_, refl)
-insert_leads s b k r w v _ _ (InsertDrop x drops) = inl refl
+insert_leads s b k r w v _ _ _ = inl refl
 
 abbrev LeadsTo : ℕ → Statement → Type 0
 LeadsTo range e = (e ≡ Holding) ⊎ ((h : Phase) × (e ≡ Maintaining range h))
 
 summarise_leads : (s range : ℕ) (w v : IndexView) (g : Phase) (e : Statement) → SummariseStep s range w v g e → LeadsTo range e
-summarise_leads s range w v _ _ (LookMap x named reads) = inr (_, refl)
-summarise_leads s range w v _ _ (LookGone x gone reads) = inr (_, refl)
 summarise_leads s range w v _ _ (IsFinal x t stands final reads) = inl refl
-summarise_leads s range w v _ _ (Found x t stands flag reads) = inr (_, refl)
-summarise_leads s range w v _ _ (ReadNoEntry none of reads) = inr (_, refl)
 summarise_leads s range w v _ _ (GrowMap old new step) = inr (new, refl)
-summarise_leads s range w v _ _ (Put x t is long verdict puts these) = inr (_, refl)
-summarise_leads s range w v _ _ (Set x sets none) = inr (_, refl)
-summarise_leads s range w v _ _ (Extent extent result start is reads) = inr (_, refl)
-summarise_leads s range w v _ _ (Pass extent next slots result wider below none made reads) = inr (_, refl)
-summarise_leads s range w v _ _ (Unite extent next result old new all step) = inr (_, refl)
-summarise_leads s range w v _ _ (UniteCopies extent next result x old new all stands united reads) = inr (_, refl)
 summarise_leads s range w v _ _ (SwapFinal p x old new verdict swap) = inl refl
-summarise_leads s range w v _ _ (SetFinal p x y old new sets same) = inr (_, refl)
 summarise_leads s range w v _ _ (DropOld x drops) = inl refl
+summarise_leads s range w v _ _ _ = inr (_, refl)
 
 desummarise_leads : (s range : ℕ) (w v : IndexView) (g : Phase) (e : Statement) → DesummariseStep s range w v g e → LeadsTo range e
-desummarise_leads s range w v _ _ (ClearMap x named reads) = inr (_, refl)
 desummarise_leads s range w v _ _ (ClearNone none reads) = inl refl
-desummarise_leads s range w v _ _ (Clear x verdict clears these) = inr (_, refl)
-desummarise_leads s range w v _ _ (ClearAgain x verdict reads) = inr (_, refl)
 desummarise_leads s range w v _ _ (DropCleared x drops) = inl refl
+desummarise_leads s range w v _ _ _ = inr (_, refl)
 
 job_leads : (job : Job) (s range : ℕ) (w v : IndexView) (g : Phase) (e : Statement) → JobStep job s range w v g e → LeadsTo range e
-job_leads (EachRange extent) s range w v g e step = summarise_leads s range w v g e step
-job_leads (OneRange extent only) s range w v g e step = summarise_leads s range w v g e step
-job_leads (WholeRanges extent) s range w v g e step = summarise_leads s range w v g e step
 job_leads (Desummarising only) s range w v g e step = desummarise_leads s range w v g e step
+job_leads _ s range w v g e step = summarise_leads s range w v g e step
 
 module _ (w : TableState) (s : ℕ) (stuck : IsTableStuck w s) (at : ℕ) (below : at < w.indexes) where
   abbrev view : IndexView
@@ -212,10 +195,8 @@ module _ (w : TableState) (s : ℕ) (stuck : IsTableStuck w s) (at : ℕ) (below
           building = building;
           loose = loose;
         }) g e
-    job_on (EachRange extent) v building loose e step = summarise_on s view v building loose range g e step
-    job_on (OneRange extent only) v building loose e step = summarise_on s view v building loose range g e step
-    job_on (WholeRanges extent) v building loose e step = summarise_on s view v building loose range g e step
     job_on (Desummarising only) v building loose e step = desummarise_on s view v building loose range g e step
+    job_on _ v building loose e step = summarise_on s view v building loose range g e step
 
     pub maintain_no_step : (e : Statement) (v : IndexView) → JobStep job s range view v g e → ⊥
     maintain_no_step e v step = ⊎_elim

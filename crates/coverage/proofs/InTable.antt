@@ -39,33 +39,26 @@ module _ (w v : TableState) (same : SameRanges w v) (more : w.blocks ≤ v.block
   range_on (Desummarising only) at range has = has
 
   in_table_on : (task : Task) → IsInTable w task → IsInTable v task
-  in_table_on Resting is = tt
   in_table_on (Reaches b k r at) is = subst (λ n. at ≤ n) (sym same.0) is
   in_table_on (Asks b k r at) is = below_on at is
   in_table_on (Inserts b k r at on_index) is = below_on at is
   in_table_on (Considers job at range) is = (below_on at is.0, extent_on job is.1)
   in_table_on (Maintains job at range phase) is = (below_on at is.0, extent_on job is.1, range_on job at range is.2, is.3)
   in_table_on (Prunes extent next) is = through extent is
-  in_table_on (SweepsFrom at from) is = tt
   in_table_on (Sweeps at page) is = below_on at is
   in_table_on (Restarts at) is = below_on at is
   in_table_on (Scans scan) is = subst (λ n. scan.at ≤ n) (sym same.0) is
-  in_table_on (Marks scan ids) is = tt
+  in_table_on _ is = tt
 
 -- a judgement stays at its index
 pub judge_at : (w : IndexView) (old new : TableScan) → JudgeStep w old new → new.at ≡ old.at
 judge_at w old _ (JudgeMap x empty named) = λ i. old.at
-judge_at w old _ (JudgeNoEntry empty none) = λ i. old.at
-judge_at w old _ (JudgeGone x held gone) = λ i. old.at
-judge_at w old _ (JudgeKeeps x t held stands keeps) = λ i. old.at
-judge_at w old _ (JudgeDrops x t candidate held stands drops excludes others) = λ i. old.at
+judge_at w old _ _ = λ i. old.at
 
 -- a statement of this sort stays at its phases
 phase_begins : (job : Job) → IsPhaseOf job (NotBuilding Empty)
 phase_begins (EachRange extent) = tt
-phase_begins (OneRange extent only) = tt
-phase_begins (WholeRanges extent) = tt
-phase_begins (Desummarising only) = tt
+phase_begins _ = tt
 
 abbrev IsPhaseIn : Job → Statement → Type 0
 IsPhaseIn job (Maintaining range phase) = IsPhaseOf job phase
@@ -73,25 +66,13 @@ IsPhaseIn job statement = Unit
 
 phase_on : (job : Job) (s range : ℕ) (w v : IndexView) (old : Phase) (new : Statement) → JobStep job s range w v old new → IsPhaseIn job new
 phase_on (EachRange extent) s range w v old (Maintaining m phase) step = tt
-phase_on (EachRange extent) s range w v old Idle step = tt
-phase_on (EachRange extent) s range w v old (Inserting b k r on_index) step = tt
-phase_on (EachRange extent) s range w v old Holding step = tt
-phase_on (EachRange extent) s range w v old (Scanning scan) step = tt
+phase_on (EachRange extent) s range w v old _ step = tt
 phase_on (OneRange extent only) s range w v old (Maintaining m phase) step = tt
-phase_on (OneRange extent only) s range w v old Idle step = tt
-phase_on (OneRange extent only) s range w v old (Inserting b k r on_index) step = tt
-phase_on (OneRange extent only) s range w v old Holding step = tt
-phase_on (OneRange extent only) s range w v old (Scanning scan) step = tt
+phase_on (OneRange extent only) s range w v old _ step = tt
 phase_on (WholeRanges extent) s range w v old (Maintaining m phase) step = tt
-phase_on (WholeRanges extent) s range w v old Idle step = tt
-phase_on (WholeRanges extent) s range w v old (Inserting b k r on_index) step = tt
-phase_on (WholeRanges extent) s range w v old Holding step = tt
-phase_on (WholeRanges extent) s range w v old (Scanning scan) step = tt
+phase_on (WholeRanges extent) s range w v old _ step = tt
 phase_on (Desummarising only) s range w v _ _ (ClearMap x named reads) = tt
-phase_on (Desummarising only) s range w v _ _ (ClearNone none reads) = tt
-phase_on (Desummarising only) s range w v _ _ (Clear x verdict clears these) = tt
-phase_on (Desummarising only) s range w v _ _ (ClearAgain x verdict reads) = tt
-phase_on (Desummarising only) s range w v _ _ (DropCleared x drops) = tt
+phase_on (Desummarising only) s range w v _ _ _ = tt
 
 self : (n : ℕ) → n ≤ n
 self n = omega arith
@@ -166,7 +147,6 @@ module _ (s : ℕ) (w v : TableState) (kept : AllInside w) where
   onward_inside _ _ (Stays task has) is = is
   onward_inside _ _ (ToAsk b k r at inside asks) is = inside
   onward_inside _ _ (ToIndex b k r at inside not) is = inside
-  onward_inside _ _ (Inserted b k r at all) is = tt
   onward_inside _ _ (ToRange job at range has) is = (is.0, is.1, has, phase_begins job)
   onward_inside _ _ (NextIndex extent at range done inside) is = inside
   onward_inside _ _ (Pruned extent next new all more) is = onward_inside (SweepsFrom 0 0) new more tt
@@ -174,9 +154,7 @@ module _ (s : ℕ) (w v : TableState) (kept : AllInside w) where
   onward_inside _ _ (Swept at from none some) is = some
   onward_inside _ _ (JudgesNext scan new inside all empty more) is =
       onward_inside (Scans (record scan { at = suc scan.at; range = 0 })) new more (below_suc scan.at w.indexes inside)
-  onward_inside _ _ (Scanned scan read nothing) is = tt
-  onward_inside _ _ (ToMarks scan id rest read reads deletes lists) is = tt
-  onward_inside _ _ (Marked scan) is = tt
+  onward_inside _ _ _ is = tt
 
   pub settles_inside : Settles s w v → AllInside v
   settles_inside settles = by settles

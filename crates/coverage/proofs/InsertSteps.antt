@@ -21,11 +21,8 @@ use Rattle.coverage.proofs.OnIndexSteps.{never, Both, may_end, looks_both, drop_
 
 -- an insert that is done has its row settled, if that still counts
 abbrev pub SettledOrOn : IndexView → (ℕ → Bool) → Statement → Statement → Type 0
-SettledOrOn v counts Idle new = Unit
 SettledOrOn v counts (Inserting b k r on_index) new = IsTrue (counts r.id.t) → IsAccounted v b r ⊎ ((g : OnIndex) × (new ≡ Inserting b k r g))
-SettledOrOn v counts (Maintaining range phase) new = Unit
-SettledOrOn v counts Holding new = Unit
-SettledOrOn v counts (Scanning scan) new = Unit
+SettledOrOn v counts _ new = Unit
 
 pub record Outcome (s : ℕ) (dropped : ℕ → ℕ → Bool) (w v : IndexState) (old new : Statement) : Type 0 where
   pub sound : IsSound (index_view v)
@@ -35,9 +32,7 @@ pub record Outcome (s : ℕ) (dropped : ℕ → ℕ → Bool) (w v : IndexState)
 
 on_index_unsettled : (s range b : ℕ) (r : Row) (w v u : IndexView) (h g : OnIndex) → OnIndexStep s range w v h g → SettledBy u b r g
 on_index_unsettled s range b r w v u _ _ (Maps x named reads) = tt
-on_index_unsettled s range b r w v u _ _ (Gone x gone reads) = tt
-on_index_unsettled s range b r w v u _ _ (Again x old new verdict reads) = tt
-on_index_unsettled s range b r w v u _ _ (MovePut x y old new verdict puts these) = tt
+on_index_unsettled s range b r w v u _ _ _ = tt
 
 -- no row and not the holder of the summarise lock changes
 abbrev pub KeepsHeapAndLock : IndexView → IndexView → Type 0

@@ -105,15 +105,7 @@ module _ (s : ℕ) where
         (1, 0, LastStep (index_view_at at w) (index_view_at at u) g (Inserting b k r h) done, refl, none_left at w.indexes below)
     last_within _ _ (DidComplete b k r at g done) below =
         (1, 0, LastStep (index_view_at at w) (index_view_at at u) g Idle done, refl, none_left at w.indexes below)
-    last_within _ _ (DidBegin new) below = tt
-    last_within _ _ (DidMaintain job at range old new stepped done) below = tt
-    last_within _ _ (DidRange job at range old stepped done) below = tt
-    last_within _ _ (DidPrune extent next dropped inside drops) below = tt
-    last_within _ _ (DidSweep at page stepped sweeps) below = tt
-    last_within _ _ (DidRestart at only) below = tt
-    last_within _ _ (DidJudge old new inside low judge only) below = tt
-    last_within _ _ (DidRead scan next found reads only) below = tt
-    last_within _ _ (DidMark scan id rest only) below = tt
+    last_within _ _ _ below = tt
 
     same_indexes : v.indexes ≡ w.indexes
     same_indexes = settles_layout s u v step.settles ∙ does_layout s w u step.does
@@ -169,15 +161,7 @@ module _ (s : ℕ) where
           other)
           (settle_reaches s u v b k r (suc at) step.settles is),
     )
-    next_within n kept_v going more _ _ (DidBegin new) is below = tt
-    next_within n kept_v going more _ _ (DidMaintain job at range old new stepped done) is below = tt
-    next_within n kept_v going more _ _ (DidRange job at range old stepped done) is below = tt
-    next_within n kept_v going more _ _ (DidPrune extent next dropped inside drops) is below = tt
-    next_within n kept_v going more _ _ (DidSweep at page stepped sweeps) is below = tt
-    next_within n kept_v going more _ _ (DidRestart at only) is below = tt
-    next_within n kept_v going more _ _ (DidJudge old new inside low judge only) is below = tt
-    next_within n kept_v going more _ _ (DidRead scan next found reads only) is below = tt
-    next_within n kept_v going more _ _ (DidMark scan id rest only) is below = tt
+    next_within n kept_v going more _ _ _ is below = tt
 
   within : (n : ℕ) (w : TableState) → StepsAlone s n w → IsTableKept w → Within s n w (w.task s)
   within _ _ (LastAlone w v step p point) kept =
@@ -202,16 +186,7 @@ module _ (s : ℕ) where
           let below : at < w.indexes = subst (IsInTable w) is (kept.inside s) in
           index_bound n left.0 left.1 at w.indexes left.3
           (insert_bound s b k r left.0 (index_view_at at w) g (named_at w at kept below) left.2) left.4
-      by Resting is it left = absurd it
-      by (Reaches b k r at) is it left = absurd it
-      by (Considers job at range) is it left = absurd it
-      by (Maintains job at range phase) is it left = absurd it
-      by (Prunes extent next) is it left = absurd it
-      by (SweepsFrom at from) is it left = absurd it
-      by (Sweeps at page) is it left = absurd it
-      by (Restarts at) is it left = absurd it
-      by (Scans scan) is it left = absurd it
-      by (Marks scan ids) is it left = absurd it
+      by _ is it left = absurd it
 
   -- with the step that puts its row it is one more
   pub begun_within : (n : ℕ) (w v : TableState) → TableStep s w v → IsTableKept w → IsInserting (v.task s) → StepsAlone s n v → suc n ≤ 1 + 6 * w.indexes

@@ -116,17 +116,15 @@ data EmptyingPoint (w : IndexView) (s : ℕ) : Point → Type 0 where
       → EmptyingPoint w s points.Turn
 
 emptying_once : (w : IndexView) (s : ℕ) (p q : Point) → EmptyingPoint w s p → EmptyingPoint w s q → p ≡ q
-emptying_once w s _ _ (NamedNext x y t next named free verdict) (NamedNext x' y' t' next' named' free' verdict') = refl
 emptying_once w s _ _ (NamedNext x y t next named free verdict) (UnnamedNext x' t' next' unnamed free') =
     absurd (named_or_not w (next_map_page w.pages) x x' t t' next next' named unnamed)
 emptying_once w s _ _ (NamedNext x y t next named free verdict) (NoneNext none free' meta) = absurd (none x t next)
 emptying_once w s _ _ (UnnamedNext x t next unnamed free) (NamedNext x' y t' next' named free' verdict) =
     absurd (named_or_not w (next_map_page w.pages) x' x t' t next' next named unnamed)
-emptying_once w s _ _ (UnnamedNext x t next unnamed free) (UnnamedNext x' t' next' unnamed' free') = refl
 emptying_once w s _ _ (UnnamedNext x t next unnamed free) (NoneNext none free' meta) = absurd (none x t next)
 emptying_once w s _ _ (NoneNext none free meta) (NamedNext x y t next named free' verdict) = absurd (none x t next)
 emptying_once w s _ _ (NoneNext none free meta) (UnnamedNext x t next unnamed free') = absurd (none x t next)
-emptying_once w s _ _ (NoneNext none free meta) (NoneNext none' free' meta') = refl
+emptying_once w s _ _ _ _ = refl
 
 -- the points of the map's growth, by the kind of its next page
 abbrev KindPoint : IndexView → ℕ → PageKind → Point → Type 0
@@ -136,10 +134,8 @@ KindPoint w s Regular p = (p ≡ points.Flag) × IsFree w.lock s (next_map_page 
 KindPoint w s Emptying p = EmptyingPoint w s p
 
 kind_once : (w : IndexView) (s : ℕ) (kind : PageKind) (p q : Point) → KindPoint w s kind p → KindPoint w s kind q → p ≡ q
-kind_once w s Unstarted p q one two = one.0 ∙ sym two.0
-kind_once w s Mapping p q one two = one.0 ∙ sym two.0
-kind_once w s Regular p q one two = one.0 ∙ sym two.0
 kind_once w s Emptying p q one two = emptying_once w s p q one two
+kind_once w s _ p q one two = one.0 ∙ sym two.0
 
 -- the points of a summariser that read that the map has no entry
 data VacantPoint (w : IndexView) (s range : ℕ) : Point → Type 0 where
@@ -208,10 +204,7 @@ growth_fact s range w v _ _ (Turn grows empty free meta turns) = WantsEntry poin
 
 uniting : (on_index : OnIndex) (extent next : ℕ) (result : IndexTuple) → extent ≤ next → IsUniting on_index (Passing extent next result)
 uniting Empty extent next result all = all
-uniting (Held x) extent next result all = tt
-uniting (Copied x old new) extent next result all = tt
-uniting (Moving x y old new) extent next result all = tt
-uniting (Dropping x) extent next result all = tt
+uniting _ extent next result all = tt
 
 summarise_fact : (s range : ℕ) (w v : IndexView) (phase : Phase) (e : Statement) (step : SummariseStep s range w v phase e)
     → SummarisePoint w s range phase (summarise_point step)

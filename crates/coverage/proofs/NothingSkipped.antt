@@ -109,32 +109,16 @@ begins_first w u _ (Desummarize at only below) same = λ i. only
 begins_first w u _ Vacuum same = (sym same, λ i. 0)
 
 begun_first : (u : TableState) (t : Task) → IsBegunOther t → FirstOf u t
-begun_first u Resting is = absurd is
 begun_first u (Reaches b k r at) is = tt
-begun_first u (Asks b k r at) is = absurd is
-begun_first u (Inserts b k r at on_index) is = absurd is
-begun_first u (Considers job at range) is = absurd is
-begun_first u (Maintains job at range phase) is = absurd is
-begun_first u (Prunes extent next) is = absurd is
-begun_first u (SweepsFrom at from) is = absurd is
-begun_first u (Sweeps at page) is = absurd is
-begun_first u (Restarts at) is = absurd is
 begun_first u (Scans scan) is = tt
-begun_first u (Marks scan ids) is = absurd is
+begun_first u _ is = absurd is
 
 stays_first : (u : TableState) (t : Task) → FirstOf u t → AtFirst u t
-stays_first u Resting first = tt
-stays_first u (Reaches b k r at) first = tt
-stays_first u (Asks b k r at) first = tt
-stays_first u (Inserts b k r at on_index) first = tt
-stays_first u (Considers job at range) first = tt
 stays_first u (Maintains job at range phase) first = absurd first
 stays_first u (Prunes extent next) first = first
-stays_first u (SweepsFrom at from) first = tt
 stays_first u (Sweeps at page) first = absurd first
 stays_first u (Restarts at) first = absurd first
-stays_first u (Scans scan) first = tt
-stays_first u (Marks scan ids) first = tt
+stays_first u _ first = tt
 
 only_one : (range m only : ℕ) → range ≡ only → m ≡ only → range ≤ m
 only_one range m only first has = omega arith
@@ -150,9 +134,6 @@ lowest_range u (Desummarising only) at range m first has = only_one range m only
 
 onward_first : (u : TableState) (old new : Task) → Onward u old new → FirstOf u old → AtFirst u new
 onward_first u _ _ (Stays task has) first = stays_first u task first
-onward_first u _ _ (ToAsk b k r at below asks) first = tt
-onward_first u _ _ (ToIndex b k r at below none) first = tt
-onward_first u _ _ (Inserted b k r at all) first = tt
 onward_first u _ _ (ToRange job at range has) first = λ m has'. lowest_range u job at range m first has'
 onward_first u _ _ (NextIndex extent at range none more) first = absurd first
 onward_first u _ _ (Pruned extent next new all onward) first = onward_first u _ _ onward ((λ i. 0), λ i. 0)
@@ -163,9 +144,7 @@ onward_first u _ _ (Swept at from none some) first = (
   λ m p has. none m p has (subst (λ a. IsFrom a from m p) (sym first.0) (subst (λ f. IsFrom 0 f m p) (sym first.1) (first_of_all m p))),
 )
 onward_first u _ _ (JudgesNext scan new inside low held onward) first = onward_first u _ _ onward tt
-onward_first u _ _ (Scanned scan read none) first = tt
-onward_first u _ _ (ToMarks scan id rest read not is lists) first = tt
-onward_first u _ _ (Marked scan) first = tt
+onward_first u _ _ _ first = tt
 
 lands_first : (u : TableState) (m t : Task) → Lands u m t → FirstOf u m → AtFirst u t
 lands_first u _ _ (Comes old new onward) first = onward_first u old new onward first

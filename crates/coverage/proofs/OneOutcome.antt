@@ -120,7 +120,6 @@ module _ (w : IndexView) (s b k : ℕ) (r : Row) where
   insert_same _ _ _ (GoesOn _ h one) (SetNew x y old new) = absurd (none_moving w s (range_of_block w b) x y old new h one)
   insert_same _ _ _ (GoesOn _ h one) (DropsOld x) = absurd (none_dropping w s (range_of_block w b) x h one)
   insert_same _ _ _ (Unsummarised none) (GoesOn _ h two) = absurd (named_entry w s (range_of_block w b) h two none)
-  insert_same _ _ _ (Unsummarised none) (Unsummarised none') = refl
   insert_same _ _ _ (Copies x old new stands added changes) (GoesOn _ h two) = absurd (lost_stands w s (range_of_block w b) x old h two stands)
   insert_same _ _ _ (Copies x old new stands added changes) (Copies x' old' new' stands' added' changes') =
       let one : old ≡ old' = there_same w s (range_of_block w b) x old old' stands stands' in
@@ -131,13 +130,10 @@ module _ (w : IndexView) (s b k : ℕ) (r : Row) where
   insert_same _ _ _ (Unchanged x t stands same free) (GoesOn _ h two) = absurd (lost_stands w s (range_of_block w b) x t h two stands)
   insert_same _ _ _ (Unchanged x t stands same free) (Copies x' old new stands' added changes) =
       absurd (copies_or_not x old new t stands' added changes stands same free)
-  insert_same _ _ _ (Unchanged x t stands same free) (Unchanged x' t' stands' same' free') = refl
   insert_same _ _ _ (Swapped x old new verdict) (GoesOn _ h two) = absurd (judged_fits w s (range_of_block w b) x old new h two verdict)
-  insert_same _ _ _ (Swapped x old new verdict) (Swapped x' old' new' verdict') = refl
   insert_same _ _ _ (SetNew x y old new) (GoesOn _ h two) = absurd (none_moving w s (range_of_block w b) x y old new h two)
-  insert_same _ _ _ (SetNew x y old new) (SetNew x' y' old' new') = refl
   insert_same _ _ _ (DropsOld x) (GoesOn _ h two) = absurd (none_dropping w s (range_of_block w b) x h two)
-  insert_same _ _ _ (DropsOld x) (DropsOld x') = refl
+  insert_same _ _ _ _ _ = refl
 
 pub insert_one_outcome : (s b k : ℕ) (r : Row) (w v u : IndexView) (g : OnIndex) (e f : Statement) → InsertStep s b k r w v g e → InsertStep s b k r w u g f → e ≡ f
 insert_one_outcome s b k r w v u g e f one two = insert_same w s b k r g e f (insert_next s b k r w v g e one) (insert_next s b k r w u g f two)

@@ -79,42 +79,29 @@ module _ (w : TableState) where
   -- a statement whose next step is there stays at it
   stays : (old q : Task) → HasStep w old → Onward w old q → q ≡ old
   stays _ _ has (Stays task has') = refl
-  stays _ _ has (ToAsk b k r at inside asks) = absurd has
-  stays _ _ has (ToIndex b k r at inside asks) = absurd has
-  stays _ _ has (Inserted b k r at all) = absurd has
-  stays _ _ has (ToRange job at range holds) = absurd has
-  stays _ _ has (NextIndex extent at range done inside) = absurd has
   stays _ _ has (Pruned extent next new all more) = absurd (less_not_more next extent has all)
-  stays _ _ has (ToPage at from m p next) = absurd has
-  stays _ _ has (Swept at from none some) = absurd has
   stays _ _ has (JudgesNext scan new inside all empty more) = absurd (scan_stays w scan has inside all)
   stays _ _ has (Scanned scan read nothing) = absurd (scan_reads w scan has read.0 read.1)
   stays _ _ has (ToMarks scan id rest read reads deletes lists) = absurd (scan_reads w scan has read.0 read.1)
-  stays _ _ has (Marked scan) = absurd has
+  stays _ _ has _ = absurd has
 
   pub onward_once : (old p q : Task) → Onward w old p → Onward w old q → p ≡ q
   onward_once _ _ q (Stays task has) other = sym (stays task q has other)
   onward_once _ p _ one (Stays task has) = stays task p has one
-  onward_once _ _ _ (ToAsk b k r at inside asks) (ToAsk b' k' r' at' inside' asks') = refl
   onward_once _ _ _ (ToAsk b k r at inside asks) (ToIndex b' k' r' at' inside' not) = absurd (not asks)
   onward_once _ _ _ (ToAsk b k r at inside asks) (Inserted b' k' r' at' all) = absurd (less_not_equal at w.indexes inside all)
   onward_once _ _ _ (ToIndex b k r at inside not) (ToAsk b' k' r' at' inside' asks) = absurd (not asks)
-  onward_once _ _ _ (ToIndex b k r at inside not) (ToIndex b' k' r' at' inside' not') = refl
   onward_once _ _ _ (ToIndex b k r at inside not) (Inserted b' k' r' at' all) = absurd (less_not_equal at w.indexes inside all)
   onward_once _ _ _ (Inserted b k r at all) (ToAsk b' k' r' at' inside asks) = absurd (less_not_equal at w.indexes inside all)
   onward_once _ _ _ (Inserted b k r at all) (ToIndex b' k' r' at' inside not) = absurd (less_not_equal at w.indexes inside all)
-  onward_once _ _ _ (Inserted b k r at all) (Inserted b' k' r' at' all') = refl
-  onward_once _ _ _ (ToRange job at range has) (ToRange job' at' range' has') = refl
   onward_once _ _ _ (ToRange _ at range has) (NextIndex extent at' range' done inside) = absurd (done has)
   onward_once _ _ _ (NextIndex extent at range done inside) (ToRange _ at' range' has) = absurd (done has)
-  onward_once _ _ _ (NextIndex extent at range done inside) (NextIndex extent' at' range' done' inside') = refl
   onward_once _ p q (Pruned extent next new all more) (Pruned extent' next' new' all' more') = onward_once (SweepsFrom 0 0) p q more more'
   onward_once _ _ _ (ToPage at from m p next) (ToPage at' from' n q next') =
       let same = from_once m p n q (next.first n q next'.has next'.after) (next'.first m p next.has next.after) in
       λ i. Sweeps (same.0 i) (same.1 i)
   onward_once _ _ _ (ToPage at from m p next) (Swept at' from' none some) = absurd (none m p next.has next.after)
   onward_once _ _ _ (Swept at from none some) (ToPage at' from' m p next) = absurd (none m p next.has next.after)
-  onward_once _ _ _ (Swept at from none some) (Swept at' from' none' some') = refl
   onward_once _ p q (JudgesNext scan new inside all empty more) (JudgesNext scan' new' inside' all' empty' more') =
       onward_once (Scans (record scan { at = suc scan.at; range = 0 })) p q more more'
   onward_once _ _ _ (JudgesNext scan new inside all empty more) (Scanned scan' read nothing) = absurd (less_not_equal scan.at w.indexes inside read.0)
@@ -122,7 +109,6 @@ module _ (w : TableState) where
       absurd (less_not_equal scan.at w.indexes inside read.0)
   onward_once _ _ _ (Scanned scan read nothing) (JudgesNext scan' new inside all' empty more) =
       absurd (less_not_equal scan.at w.indexes inside read.0)
-  onward_once _ _ _ (Scanned scan read nothing) (Scanned scan' read' nothing') = refl
   onward_once _ _ _ (Scanned scan read nothing) (ToMarks scan' id rest read' reads deletes lists) =
       absurd (nothing_or_some w scan id rest nothing reads deletes lists)
   onward_once _ _ _ (ToMarks scan id rest read reads deletes lists) (JudgesNext scan' new inside all' empty more) =
@@ -131,7 +117,7 @@ module _ (w : TableState) where
       absurd (nothing_or_some w scan id rest nothing reads deletes lists)
   onward_once _ _ _ (ToMarks scan id rest read reads deletes lists) (ToMarks scan' id' rest' read' reads' deletes' lists') =
       ap (Marks scan) (one_list w scan (id ∷ rest) (id' ∷ rest') lists lists')
-  onward_once _ _ _ (Marked scan) (Marked scan') = refl
+  onward_once _ _ _ _ _ = refl
 
   -- nothing is swept in a table without indexes
   none_swept : (q : Task) → w.indexes ≡ 0 → Onward w (SweepsFrom 0 0) q → ⊥
@@ -155,18 +141,9 @@ module _ (w : TableState) where
 -- where a statement comes to, there is a step for it, or it rests
 lands : (w : TableState) (old new : Task) → Onward w old new → HasStep w new
 lands w _ _ (Stays task has) = has
-lands w _ _ (ToAsk b k r at inside asks) = tt
-lands w _ _ (ToIndex b k r at inside not) = tt
-lands w _ _ (Inserted b k r at all) = tt
-lands w _ _ (ToRange job at range has) = tt
-lands w _ _ (NextIndex extent at range done inside) = tt
 lands w _ _ (Pruned extent next new all more) = lands w (SweepsFrom 0 0) new more
-lands w _ _ (ToPage at from m p next) = tt
-lands w _ _ (Swept at from none some) = tt
 lands w _ _ (JudgesNext scan new inside all empty more) = lands w (Scans (record scan { at = suc scan.at; range = 0 })) new more
-lands w _ _ (Scanned scan read nothing) = tt
-lands w _ _ (ToMarks scan id rest read reads deletes lists) = tt
-lands w _ _ (Marked scan) = tt
+lands w _ _ _ = tt
 
 scan_step_on : (w v : TableState) → OnlyTurns w v → (scan : TableScan) → ScanHasStep w scan → ScanHasStep v scan
 scan_step_on w v only scan has = ⊎_elim
@@ -179,19 +156,8 @@ scan_step_on w v only scan has = ⊎_elim
     has
 
 step_on : (w v : TableState) → OnlyTurns w v → (task : Task) → HasStep w task → HasStep v task
-step_on w v only Resting has = has
-step_on w v only (Reaches b k r at) has = has
-step_on w v only (Asks b k r at) has = has
-step_on w v only (Inserts b k r at on_index) has = has
-step_on w v only (Considers job at range) has = has
-step_on w v only (Maintains job at range phase) has = has
-step_on w v only (Prunes extent next) has = has
-step_on w v only (SweepsFrom at from) has = has
-step_on w v only (Sweeps at page) has = has
-step_on w v only (Restarts at) has = has
 step_on w v only (Scans scan) has = scan_step_on w v only scan has
-step_on w v only (Marks scan []) has = has
-step_on w v only (Marks scan (id ∷ rest)) has = has
+step_on w v only _ has = has
 
 settles_at_step : (s : ℕ) (w v : TableState) → Settles s w v → HasStep v (v.task s)
 settles_at_step s w v (GoesOn old new onward turns only) = subst (HasStep v) (sym turns.now) (step_on w v only new (lands w old new onward))

@@ -172,22 +172,17 @@ module _ (s : ℕ) (d : ℕ → ℕ → Bool) (w v : IndexView) (sound : IsSound
   }
 
   locks_on : (range : ℕ) (on_index : OnIndex) → LocksOnIndex w.lock n range on_index → LocksOnIndex v.lock n range on_index
-  locks_on range Empty locks = tt
-  locks_on range (Held x) locks = tt
-  locks_on range (Copied x old new) locks = tt
   locks_on range (Moving x y old new) locks = these_on (x.block ∷ y.block ∷ map_page_of range ∷ []) locks
   locks_on range (Dropping x) locks = (locks.0, these_on (x.block ∷ locks.0 ∷ map_page_of range ∷ []) locks.1)
+  locks_on range _ locks = tt
 
   quiet_on : w.summarise_lock ≡ Some n → Quiet w v
   quiet_on held =
       ⊎_elim (λ (is : w.summarise_lock ≡ Some s). absurd (other (same_Some _ _ (sym held ∙ is)))) (λ (q : Quiet w v). q) pages.quiet
 
   sort_on : w.summarise_lock ≡ Some n → (range : ℕ) (on_index : OnIndex) → KnowsSort w range on_index → KnowsSort v range on_index
-  sort_on held range Empty known = tt
   sort_on held range (Held x) known = (quiet_on held).sorts range x known
-  sort_on held range (Copied x old new) known = tt
-  sort_on held range (Moving x y old new) known = tt
-  sort_on held range (Dropping x) known = tt
+  sort_on held range _ known = tt
 
   within_on : (range : ℕ) (p : Progress) → IsPassWithin w range p → IsPassWithin v range p
   within_on range ExtentUnread known = tt
@@ -219,9 +214,7 @@ module _ (s : ℕ) (d : ℕ → ℕ → Bool) (w v : IndexView) (sound : IsSound
       (locks_on range on_index known.0, placeholder_on s d w v sound on n other held range known.1, within_on range p known.2, known.3)
 
   pub pages_on : (e : Statement) → Knows w n e → KnowsPages w n e → KnowsPages v n e
-  pages_on Idle known pages_known = tt
   pages_on (Inserting b k r on_index) known pages_known =
       subst (λ m. LocksOnIndex v.lock n (b / m) on_index) (sym pages.pages_per_range) (locks_on (range_of_block w b) on_index pages_known)
   pages_on (Maintaining range phase) known pages_known = phase_pages_on known.0 range phase pages_known
-  pages_on Holding known pages_known = tt
-  pages_on (Scanning scan) known pages_known = tt
+  pages_on _ known pages_known = tt

@@ -59,31 +59,15 @@ onto n = omega arith
 module _ (s range : ℕ) (w v : IndexView) where
   growth_counts : (old new : Phase) → GrowthStep s range w v old new → next_uncounted range old ≤ next_uncounted range new
   growth_counts _ _ (Grow grows free meta turns) = self range
-  growth_counts _ _ (CountLeftOver grows meta counts) = self range
-  growth_counts _ _ (Count counts) = self range
-  growth_counts _ _ (Flag grows free turns) = self range
-  growth_counts _ _ (EvacuatePut x y t grows next named free verdict puts these) = self range
-  growth_counts _ _ (EvacuateSet m x y t u sets same) = self range
-  growth_counts _ _ (EvacuateDrop m x drops) = self range
-  growth_counts _ _ (EvacuateSweep x t grows next unnamed sweeps) = self range
-  growth_counts _ _ (Turn grows empty free meta turns) = self range
+  growth_counts _ _ _ = self range
 
   step_counts : (old : Phase) (new : Statement) (step : SummariseStep s range w v old new) → Counts range (summarise_count step) old new
-  step_counts _ _ (LookMap x named reads) = inl (refl, self range)
-  step_counts _ _ (LookGone x gone reads) = inl (refl, self range)
   step_counts _ _ (IsFinal x t stands final reads) = inl (refl, onto range)
-  step_counts _ _ (Found x t stands flag reads) = inl (refl, self range)
-  step_counts _ _ (ReadNoEntry none of reads) = inl (refl, self range)
   step_counts _ _ (GrowMap old new step) = inl (refl, growth_counts old new step)
-  step_counts _ _ (Put x t is long verdict puts these) = inl (refl, self range)
-  step_counts _ _ (Set x sets none) = inl (refl, self range)
-  step_counts _ _ (Extent extent result start is reads) = inl (refl, self range)
-  step_counts _ _ (Pass extent next slots result wider below none made reads) = inl (refl, self range)
-  step_counts _ _ (Unite extent next result old new all step) = inl (refl, self range)
-  step_counts _ _ (UniteCopies extent next result x old new all stands united reads) = inl (refl, self range)
   step_counts _ _ (SwapFinal p x old new verdict swap) = inr (refl, refl, refl)
   step_counts _ _ (SetFinal p x y old new sets same) = inr (refl, refl, refl)
   step_counts _ _ (DropOld x drops) = inl (refl, self (suc range))
+  step_counts _ _ _ = inl (refl, self range)
 
 from_mono : (at a b i m : ℕ) → a ≤ b → IsFrom at b i m → IsFrom at a i m
 from_mono at a b i m le from = ⊎_elim
@@ -128,10 +112,8 @@ GoesOnGiving t = GivesFinals t ⊎ (t ≡ Resting)
 
 count_of : (job : Job) (is : IsBuilder job) (s range : ℕ) (w v : IndexView) (old : Phase) (e : Statement) (step : JobStep job s range w v old e)
     → job_count job s range w v old e step ≡ summarise_count (job_summarises job is s range w v old e step)
-count_of (EachRange extent) is s range w v old e step = refl
-count_of (OneRange extent only) is s range w v old e step = refl
-count_of (WholeRanges extent) is s range w v old e step = refl
 count_of (Desummarising only) is s range w v old e step = absurd is
+count_of _ is s range w v old e step = refl
 
 module _ (s : ℕ) (w u : TableState) (a b : Accounts) where
   abbrev Makes : Task → Task → Type 0
@@ -297,11 +279,6 @@ fails : (t : Task) → (GivesFinals t → ⊥) → Acts t → GoesOnGiving t →
 fails t none acts gives = ⊎_elim none (λ (is : t ≡ Resting). subst Acts is acts) gives
 
 onward_ahead : (u : TableState) (old new : Task) → Onward u old new → (i m : ℕ) → AheadOf new i m → AheadOf old i m
-onward_ahead u _ _ (Stays task has) i m ahead = ahead
-onward_ahead u _ _ (ToAsk b k r at inside asks) i m ahead = ahead
-onward_ahead u _ _ (ToIndex b k r at inside none) i m ahead = ahead
-onward_ahead u _ _ (Inserted b k r at all) i m ahead = ahead
-onward_ahead u _ _ (ToRange job at range has) i m ahead = ahead
 onward_ahead u _ _ (NextIndex extent at range none more) i m ahead = ⊎_elim
     (λ (later : suc at < i). inl (lower at i later))
     (λ (same : (suc at ≡ i) × (0 ≤ m)). inl (here at i same.0))
@@ -316,15 +293,12 @@ onward_ahead u _ _ (Pruned extent next new all onward) i m ahead = tt
 onward_ahead u _ _ (ToPage at from n p page) i m ahead = tt
 onward_ahead u _ _ (Swept at from none some) i m ahead = tt
 onward_ahead u _ _ (JudgesNext scan new inside low held onward) i m ahead = absurd (onward_ahead u _ _ onward i m ahead)
-onward_ahead u _ _ (Scanned scan read none) i m ahead = ahead
-onward_ahead u _ _ (ToMarks scan id rest read not is lists) i m ahead = ahead
-onward_ahead u _ _ (Marked scan) i m ahead = ahead
+onward_ahead u _ _ _ i m ahead = ahead
 
 onward_gives : (u : TableState) (old new : Task) → Onward u old new → GoesOnGiving old → GoesOnGiving new
 onward_gives u _ _ (Stays task has) gives = gives
 onward_gives u _ _ (ToAsk b k r at inside asks) gives = absurd (fails (Reaches b k r at) (λ x. x) tt gives)
 onward_gives u _ _ (ToIndex b k r at inside none) gives = absurd (fails (Reaches b k r at) (λ x. x) tt gives)
-onward_gives u _ _ (Inserted b k r at all) gives = inr refl
 onward_gives u _ _ (ToRange job at range has) gives = ⊎_elim
     (λ (is : IsBuilder job). inl is)
     (λ (is : Considers job at range ≡ Resting). absurd (subst Acts is tt))
@@ -334,9 +308,8 @@ onward_gives u _ _ (Pruned extent next new all onward) gives = onward_gives u _ 
 onward_gives u _ _ (ToPage at from n p page) gives = inl tt
 onward_gives u _ _ (Swept at from none some) gives = inl tt
 onward_gives u _ _ (JudgesNext scan new inside low held onward) gives = absurd (fails (Scans scan) (λ x. x) tt gives)
-onward_gives u _ _ (Scanned scan read none) gives = inr refl
 onward_gives u _ _ (ToMarks scan id rest read not is lists) gives = absurd (fails (Scans scan) (λ x. x) tt gives)
-onward_gives u _ _ (Marked scan) gives = inr refl
+onward_gives u _ _ _ gives = inr refl
 
 abbrev SettlesTo : (s : ℕ) (u v : TableState) → Type 0
 SettlesTo s u v = GoesOnGiving (v.task s) × ((i m : ℕ) → AheadOf (v.task s) i m → AheadOf (u.task s) i m) × ((i : ℕ) → v.index i ≡ u.index i)
@@ -480,11 +453,8 @@ abbrev Begun : (s : ℕ) (w u : TableState) (b : Accounts) → Type 0
 Begun s w u b = ((b.of s).ranges ≡ 0) × ((i : ℕ) → u.index i ≡ w.index i)
 
 begins_empty : (s : ℕ) (w : TableState) (first : Task) (begins : BeginsWith w first) (a b : Accounts) → Begins s w first begins a b → (b.of s).ranges ≡ 0
-begins_empty s w _ (Summarize at inside) a b one = ap (λ (x : Account). x.ranges) one.account
-begins_empty s w _ (SummarizeOne at only inside) a b one = ap (λ (x : Account). x.ranges) one.account
 begins_empty s w _ (Work at only inside) a b one = ap (λ (x : Account). x.ranges) one.0
-begins_empty s w _ (Desummarize at only inside) a b one = ap (λ (x : Account). x.ranges) one.account
-begins_empty s w _ Vacuum a b one = ap (λ (x : Account). x.ranges) one.account
+begins_empty s w _ _ a b one = ap (λ (x : Account). x.ranges) one.account
 
 module _ (s : ℕ) (w u : TableState) (a b : Accounts) (rested : w.task s ≡ Resting) (gives : GivesFinals (u.task s)) where
   was_not : (old new : Task) → TaskTurns s w u old new → Acts old → ⊥

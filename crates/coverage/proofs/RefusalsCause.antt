@@ -20,17 +20,11 @@ use Rattle.coverage.specs.Refusals.{does_refusal, MayLackMemory, IsTaskFull, Ins
 
 vacuuming_may : (task : Task) → IsVacuuming task → MayLackMemory task
 vacuuming_may Resting is = tt
-vacuuming_may (Reaches b k r at) is = absurd is
-vacuuming_may (Asks b k r at) is = absurd is
-vacuuming_may (Inserts b k r at on_index) is = absurd is
-vacuuming_may (Considers job at range) is = absurd is
-vacuuming_may (Maintains job at range phase) is = absurd is
 vacuuming_may (Prunes extent next) is = tt
-vacuuming_may (SweepsFrom at from) is = absurd is
 vacuuming_may (Sweeps at page) is = tt
 vacuuming_may (Restarts at) is = tt
 vacuuming_may (Scans scan) is = tt
-vacuuming_may (Marks scan ids) is = absurd is
+vacuuming_may _ is = absurd is
 
 full_no_memory : (w : TableState) (s b k : ℕ) (r : Row) (task : Task) (refused : IsInsertRefused w s b k r task) → insert_refusal refused ≡ LacksMemory → ⊥
 full_no_memory w s b k r _ (IndexFull number at x old new verdict) is = cc
@@ -44,32 +38,17 @@ module _ (s : ℕ) (w v : TableState) where
   may task was is = subst MayLackMemory (sym was) is
 
   pub lacks_memory : (does : Does s w v) → does_refusal s w v does ≡ Some LacksMemory → MayLackMemory (w.task s)
-  lacks_memory (PutsRow b k r place turns takes) is = absurd (none-some _ is)
   lacks_memory (RefusesRow t refused turns fails) is = may Resting turns.was tt
-  lacks_memory (AsksSummary b k r at turns only) is = absurd (none-some _ is)
-  lacks_memory (InsertGoes b k r at old new turns stepped step) is = absurd (none-some _ is)
-  lacks_memory (InsertCompletes b k r at old turns stepped step) is = absurd (none-some _ is)
   lacks_memory (RefusesInsert b k r old refused turns fails) is = absurd (full_no_memory w s b k r old refused (same_Some _ _ is))
-  lacks_memory (TakesLock first begins turns free held rows indexes) is = absurd (none-some _ is)
-  lacks_memory (MaintainGoes job at range old new turns stepped step) is = absurd (none-some _ is)
-  lacks_memory (MaintainCompletes job at range old turns stepped step) is = absurd (none-some _ is)
   lacks_memory (RefusesMaintain job at range phase refused turns stepped passes) is =
       absurd (page_no_memory at (index_view_at at w) s range phase refused (same_Some _ _ is))
   lacks_memory (RefusesVacuum old vacuuming turns given rows indexes) is = may old turns.was (vacuuming_may old vacuuming)
-  lacks_memory (PrunesBlock extent next dropped inside spared turns drops) is = absurd (none-some _ is)
-  lacks_memory (SweepsPage at page turns stepped sweeps) is = absurd (none-some _ is)
-  lacks_memory (RestartsIndex at turns only) is = absurd (none-some _ is)
-  lacks_memory (BeginsScan scan begins turns only) is = absurd (none-some _ is)
-  lacks_memory (Judges old new inside low step turns only) is = absurd (none-some _ is)
-  lacks_memory (ReadsBlock scan next found reads turns only) is = absurd (none-some _ is)
   lacks_memory (RefusesScan scan t turns how) is = may (Scans scan) turns.was tt
-  lacks_memory (MarksRow scan id rest turns only) is = absurd (none-some _ is)
   lacks_memory (Conflicts scan id rest t turns fails) is = absurd (is_conflict (same_Some _ _ is))
     where
       is_conflict : HasConflict id ≡ LacksMemory → ⊥
       is_conflict e = cc
-  lacks_memory (Blocked task blocked turns only) is = absurd (none-some _ is)
-  lacks_memory (Transacts counts resting few same) is = absurd (none-some _ is)
+  lacks_memory _ is = absurd (none-some _ is)
 
 -- what is told as full is full, and the number is its size
 data TellsFull (w : TableState) (s : ℕ) : Task → Refusal → Type 0 where
@@ -101,29 +80,14 @@ module _ (s : ℕ) (w v : TableState) where
   other refusal apart said is = subst (TellsFull w s (w.task s)) (same_Some _ _ is) (TellsOther (w.task s) refusal apart)
 
   does_tell : (does : Does s w v) (said : Refusal) → does_refusal s w v does ≡ Some said → TellsFull w s (w.task s) said
-  does_tell (PutsRow b k r place turns takes) said is = absurd (none-some _ is)
   does_tell (RefusesRow t refused turns fails) said is = tells_at Resting _ said turns.was (row_tells refused) is
-  does_tell (AsksSummary b k r at turns only) said is = absurd (none-some _ is)
-  does_tell (InsertGoes b k r at old new turns stepped step) said is = absurd (none-some _ is)
-  does_tell (InsertCompletes b k r at old turns stepped step) said is = absurd (none-some _ is)
   does_tell (RefusesInsert b k r old refused turns fails) said is = tells_at old _ said turns.was (insert_tells b k r old refused) is
-  does_tell (TakesLock first begins turns free held rows indexes) said is = absurd (none-some _ is)
-  does_tell (MaintainGoes job at range old new turns stepped step) said is = absurd (none-some _ is)
-  does_tell (MaintainCompletes job at range old turns stepped step) said is = absurd (none-some _ is)
   does_tell (RefusesMaintain job at range phase refused turns stepped passes) said is =
       tells_at (Maintains job at range phase) _ said turns.was (maintain_tells job at range phase refused) is
   does_tell (RefusesVacuum old vacuuming turns given rows indexes) said is = other LacksMemory (λ relation number e. cc) said is
-  does_tell (PrunesBlock extent next dropped inside spared turns drops) said is = absurd (none-some _ is)
-  does_tell (SweepsPage at page turns stepped sweeps) said is = absurd (none-some _ is)
-  does_tell (RestartsIndex at turns only) said is = absurd (none-some _ is)
-  does_tell (BeginsScan scan begins turns only) said is = absurd (none-some _ is)
-  does_tell (Judges old new inside low step turns only) said is = absurd (none-some _ is)
-  does_tell (ReadsBlock scan next found reads turns only) said is = absurd (none-some _ is)
   does_tell (RefusesScan scan t turns how) said is = other LacksMemory (λ relation number e. cc) said is
-  does_tell (MarksRow scan id rest turns only) said is = absurd (none-some _ is)
   does_tell (Conflicts scan id rest t turns fails) said is = other (HasConflict id) (λ relation number e. cc) said is
-  does_tell (Blocked task blocked turns only) said is = absurd (none-some _ is)
-  does_tell (Transacts counts resting few same) said is = absurd (none-some _ is)
+  does_tell _ said is = absurd (none-some _ is)
 
 abbrev number_of : Refusal → ℕ
 number_of (IsFull relation number) = number
@@ -144,18 +108,14 @@ IsIndex refusal = ⊥
 heap_told : (w : TableState) (s : ℕ) (task : Task) (said : Refusal) → TellsFull w s task said → IsHeap said
     → IsHeapFull w × (number_of said ≡ w.heap_limit * w.rows_per_page)
 heap_told w s _ _ (TellsHeap full) is = (full, refl)
-heap_told w s _ _ (TellsIndex task at number full size) is = absurd is
-heap_told w s _ _ (TellsOther task LacksMemory apart) is = absurd is
-heap_told w s _ _ (TellsOther task (HasConflict id) apart) is = absurd is
 heap_told w s _ _ (TellsOther task (IsFull relation number) apart) is = absurd (apart relation number refl)
+heap_told w s _ _ _ is = absurd is
 
 index_told : (w : TableState) (s : ℕ) (task : Task) (said : Refusal) → TellsFull w s task said → IsIndex said
     → IsTaskFull w s task (at_of said) (number_of said) × (number_of said ≡ (w.index (at_of said)).pages.limit)
-index_told w s _ _ (TellsHeap full) is = absurd is
 index_told w s _ _ (TellsIndex task at number full size) is = (full, size)
-index_told w s _ _ (TellsOther task LacksMemory apart) is = absurd is
-index_told w s _ _ (TellsOther task (HasConflict id) apart) is = absurd is
 index_told w s _ _ (TellsOther task (IsFull relation number) apart) is = absurd (apart relation number refl)
+index_told w s _ _ _ is = absurd is
 
 pub heap_full : (s : ℕ) (w v : TableState) (does : Does s w v) (number : ℕ) → does_refusal s w v does ≡ Some (IsFull Heap number)
     → IsHeapFull w × (number ≡ w.heap_limit * w.rows_per_page)
@@ -248,20 +208,16 @@ module _ (s : ℕ) (w v : TableState) (busy : w.task s ≡ Resting → ⊥) (res
   refused_ends (AsksSummary b k r at turns only) = absurd (goes _ turns.now (λ e. cc))
   refused_ends (InsertGoes b k r at old new turns stepped step) = absurd (goes _ turns.now (λ e. cc))
   refused_ends (InsertCompletes b k r at old turns stepped step) = absurd (goes _ turns.now (λ e. cc))
-  refused_ends (RefusesInsert b k r old refused turns fails) = λ is. none-some _ (sym is)
   refused_ends (TakesLock first begins turns free held rows indexes) = absurd (busy turns.was)
   refused_ends (MaintainGoes job at range old new turns stepped step) = absurd (goes _ turns.now (λ e. cc))
   refused_ends (MaintainCompletes job at range old turns stepped step) = absurd (goes _ turns.now (λ e. cc))
-  refused_ends (RefusesMaintain job at range phase refused turns stepped passes) = λ is. none-some _ (sym is)
-  refused_ends (RefusesVacuum old vacuuming turns given rows indexes) = λ is. none-some _ (sym is)
   refused_ends (PrunesBlock extent next dropped inside spared turns drops) = absurd (goes _ turns.now (λ e. cc))
   refused_ends (SweepsPage at page turns stepped sweeps) = absurd (goes _ turns.now (λ e. cc))
   refused_ends (RestartsIndex at turns only) = absurd (goes _ turns.now (λ e. cc))
   refused_ends (BeginsScan scan begins turns only) = absurd (busy turns.was)
   refused_ends (Judges old new inside low step turns only) = absurd (goes _ turns.now (λ e. cc))
   refused_ends (ReadsBlock scan next found reads turns only) = absurd (goes _ turns.now (λ e. cc))
-  refused_ends (RefusesScan scan t turns how) = λ is. none-some _ (sym is)
   refused_ends (MarksRow scan id rest turns only) = absurd (goes _ turns.now (λ e. cc))
-  refused_ends (Conflicts scan id rest t turns fails) = λ is. none-some _ (sym is)
   refused_ends (Blocked task blocked turns only) = absurd (busy (turns.was ∙ sym turns.now ∙ rests))
   refused_ends (Transacts counts resting few same) = absurd (busy resting)
+  refused_ends _ = λ is. none-some _ (sym is)

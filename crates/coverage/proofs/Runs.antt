@@ -84,11 +84,9 @@ maintain_keeps s range w v old new (Summarises step) = summarise_keeps s range w
 maintain_keeps s range w v old new (Desummarises step) = desummarise_keeps s range w v old new step
 
 spares_never : (d : Statement) → Spares never d
-spares_never Idle = tt
 spares_never (Inserting b k r on_index) = λ dead. false≢true dead
-spares_never (Maintaining range phase) = tt
-spares_never Holding = tt
 spares_never (Scanning scan) = λ b k sees dead. false≢true dead
+spares_never _ = tt
 
 module _ (s : ℕ) (dropped : ℕ → ℕ → Bool) (w v : IndexState) (old new : Statement) (kept : IsIndexKept w) (turned : Turned s w v old new)
     (out : Outcome s dropped w v old new) (after : PagesAfter s (index_view w) (index_view v) new)
@@ -170,18 +168,6 @@ module _ (w : IndexView) (b k : ℕ) (r : Row) where
     kept = known.kept;
   }
   scan_row old _ (ScanNoEntry range empty none) sees known = known
-  scan_row old _ (ScanGone range x held gone) sees known = record {
-    there = known.there;
-    settled = known.settled;
-    shown = λ y none. absurd (none-some _ none);
-    kept = known.kept;
-  }
-  scan_row old _ (ScanKeeps range x t held stands keeps) sees known = record {
-    there = known.there;
-    settled = known.settled;
-    shown = λ y none. absurd (none-some _ none);
-    kept = known.kept;
-  }
   scan_row old _ (ScanDrops range x t candidate held stands keeps excludes others) sees known = record {
     there = known.there;
     settled = known.settled;
@@ -220,27 +206,26 @@ module _ (w : IndexView) (b k : ℕ) (r : Row) where
     where
       after : (m n : ℕ) → m ≤ n → m ≢ n → m + 1 ≤ n
       after m n le other = omega arith
+  scan_row old _ _ sees known = record {
+    there = known.there;
+    settled = known.settled;
+    shown = λ y none. absurd (none-some _ none);
+    kept = known.kept;
+  }
 
 scan_sees : (w : IndexView) (old new : Scan) → ScanStep w old new → (b k : ℕ) → IsTrue (new.sees b k) → IsTrue (old.sees b k)
 scan_sees w old _ (ScanMap range x empty named) b k sees = sees
-scan_sees w old _ (ScanNoEntry range empty none) b k sees = sees
-scan_sees w old _ (ScanGone range x held gone) b k sees = sees
-scan_sees w old _ (ScanKeeps range x t held stands keeps) b k sees = sees
-scan_sees w old _ (ScanDrops range x t candidate held stands keeps excludes others) b k sees = sees
-scan_sees w old _ (ScanElsewhere candidate others) b k sees = sees
-scan_sees w old _ (ScanPage next found given unread first keeps page only) b k sees = sees
+scan_sees w old _ _ b k sees = sees
 
 scan_held : (w : IndexView) (old new : Scan) → ScanStep w old new → ((range : ℕ) (x : Spot) → old.held ≡ Some (range, x) → IsHeld w range x)
     → (range : ℕ) (x : Spot) → new.held ≡ Some (range, x) → IsHeld w range x
 scan_held w old _ (ScanMap m y empty named) before range x held =
     let both : (m, y) ≡ (range, x) = same_Some _ _ held in
     λ t here of. inl (ap w.entry (sym (ap (λ (q : ℕ × Spot). q.0) both)) ∙ named ∙ ap Some (ap (λ (q : ℕ × Spot). q.1) both))
-scan_held w old _ (ScanNoEntry m empty none) before range x held = before range x held
 scan_held w old _ (ScanGone m y was gone) before range x held = absurd (none-some _ held)
 scan_held w old _ (ScanKeeps m y t was stands keeps) before range x held = absurd (none-some _ held)
 scan_held w old _ (ScanDrops m y t candidate was stands keeps excludes others) before range x held = absurd (none-some _ held)
-scan_held w old _ (ScanElsewhere candidate others) before range x held = before range x held
-scan_held w old _ (ScanPage next found given unread first keeps page only) before range x held = before range x held
+scan_held w old _ _ before range x held = before range x held
 
 -- what a scan knows of a row stays true while no row is dropped
 row_on : (s : ℕ) (w v : IndexView) → GoesOn s never w v → (scan : Scan) (b k : ℕ) (r : Row) → KnowsRow w scan b k r → KnowsRow v scan b k r

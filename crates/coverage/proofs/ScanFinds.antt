@@ -19,10 +19,7 @@ found_on w v rows scan finds b k has = let row = finds b k has in (row.0, rows b
 -- a judgement finds nothing
 judge_finds : (w : TableState) (old new : TableScan) → JudgeStep (index_view_at old.at w) old new → FindsOnly w old → FindsOnly w new
 judge_finds w old _ (JudgeMap x empty named) finds = finds
-judge_finds w old _ (JudgeNoEntry empty none) finds = finds
-judge_finds w old _ (JudgeGone x held gone) finds = finds
-judge_finds w old _ (JudgeKeeps x t held stands keeps) finds = finds
-judge_finds w old _ (JudgeDrops x t candidate held stands drops excludes others) finds = finds
+judge_finds w old _ _ finds = finds
 
 module _ (s : ℕ) (w v : TableState) (kept : OfScans FindsOnly w) where
   own_finds : (scan : TableScan) → ScanComes s w v scan → FindsOnly v scan

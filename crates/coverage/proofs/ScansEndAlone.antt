@@ -89,16 +89,7 @@ none_left rows z (Scans scan) = ((λ inside holds. least _), least _)
     least : (n : ℕ) → 0 ≤ n
     least n = omega arith
 none_left rows z (Marks scan ids) = omega arith
-none_left rows z Resting = tt
-none_left rows z (Reaches b k r at) = tt
-none_left rows z (Asks b k r at) = tt
-none_left rows z (Inserts b k r at on_index) = tt
-none_left rows z (Considers job at range) = tt
-none_left rows z (Maintains job at range phase) = tt
-none_left rows z (Prunes extent next) = tt
-none_left rows z (SweepsFrom at from) = tt
-none_left rows z (Sweeps at page) = tt
-none_left rows z (Restarts at) = tt
+none_left rows z _ = tt
 
 -- the sums of what is left: a range fewer, or the same, in steps
 module _ (all before range un rows n : ℕ) where
@@ -232,10 +223,7 @@ module _ (rows n : ℕ) (u : TableState) (ranged : (i : ℕ) → i < u.indexes �
 judge_marks : (rows : ℕ) (w : TableState) (old new : TableScan) → JudgeStep (index_view_at old.at w) old new → HasAtMostToMark w old rows
     → HasAtMostToMark w new rows
 judge_marks rows w old _ (JudgeMap x empty named) few = few
-judge_marks rows w old _ (JudgeNoEntry empty none) few = few
-judge_marks rows w old _ (JudgeGone x held gone) few = few
-judge_marks rows w old _ (JudgeKeeps x t held stands keeps) few = few
-judge_marks rows w old _ (JudgeDrops x t candidate held stands drops excludes others) few = few
+judge_marks rows w old _ _ few = few
 
 onward_marks : (rows : ℕ) (u : TableState) (scan : TableScan) (t : Task) → Onward u (Scans scan) t → HasAtMostToMark u scan rows → ToMark rows u t
 onward_marks rows u scan _ (Stays _ has) few = few
@@ -247,10 +235,8 @@ onward_marks rows u scan t (JudgesNext _ _ inside _ empty more) few = onward_mar
 judge_range : (Is : (extent at range : ℕ) → Type 0) (w : TableState) (old new : TableScan) → JudgeStep (index_view_at old.at w) old new
     → Is old.extent old.at old.range → Is old.extent old.at (suc old.range) → Is new.extent new.at new.range
 judge_range Is w old _ (JudgeMap x empty named) here there = here
-judge_range Is w old _ (JudgeNoEntry empty none) here there = there
 judge_range Is w old _ (JudgeGone x held gone) here there = here
-judge_range Is w old _ (JudgeKeeps x t held stands keeps) here there = there
-judge_range Is w old _ (JudgeDrops x t candidate held stands drops excludes others) here there = there
+judge_range Is w old _ _ here there = there
 
 unmaintained : (u : TableState) (task : Task) → IsMaintained u task → IsScanning task → ⊥
 unmaintained u _ (RangesDone job at range done last) is = is
@@ -319,15 +305,7 @@ module _ (s rows : ℕ) where
         to_mark : (scan : TableScan) (ids : List RowId) (t : Task) → Onward u (Marks scan ids) t → ToMark rows (table_of v) t
         to_mark scan ids _ (Stays _ has) = tt
         to_mark scan _ _ (Marked _) = tt
-    step_within _ _ (DidBegin new) was now few = tt
-    step_within _ _ (DidAsk b k r at) was now few = tt
-    step_within _ _ (DidInsert b k r at old new step) was now few = tt
-    step_within _ _ (DidComplete b k r at old step) was now few = tt
-    step_within _ _ (DidMaintain job at range old new stepped step) was now few = tt
-    step_within _ _ (DidRange job at range old stepped step) was now few = tt
-    step_within _ _ (DidPrune extent next dropped inside drops) was now few = tt
-    step_within _ _ (DidSweep at page stepped sweeps) was now few = tt
-    step_within _ _ (DidRestart at only) was now few = tt
+    step_within _ _ _ was now few = tt
 
   within : (n : ℕ) (w : TableState) → StepsAlone s n w → IsTableKept w → ToMark rows (table_of w) (w.task s) → Within rows n (table_of w) (w.task s)
   within _ _ (LastAlone w v step p point) kept few =

@@ -74,11 +74,8 @@ module _ (a : ℕ) (d : ℕ → ℕ → Bool) (w v : IndexView) (sound : IsSound
       (on.locks x.block s known.0 other, (known.1.0, on.tuples x s known.0 other ∙ known.1.1, known.1.2, known.1.3))
 
   settled_by_on : (b k : ℕ) (r : Row) (on_index : OnIndex) → w.row b k ≡ Some r → SettledBy w b r on_index → SettledBy v b r on_index
-  settled_by_on b k r Empty there known = tt
-  settled_by_on b k r (Held x) there known = tt
-  settled_by_on b k r (Copied x old new) there known = tt
-  settled_by_on b k r (Moving x y old new) there known = tt
   settled_by_on b k r (Dropping x) there known = on.settled b k r there known
+  settled_by_on b k r _ there known = tt
 
   its_range_on : (range : ℕ) → IsRangeOf w range → IsRangeOf v range
   its_range_on range is = range_of_on w v on.contents on.pages_per_range on.blocks range is

@@ -95,9 +95,7 @@ judged_next : (Low : ℕ → ℕ → ℕ → Type 0) (w : IndexView) (old new : 
     → (new.held ≡ None) ⊎ Low new.at new.range new.extent
 judged_next Low w old _ low (JudgeMap x empty named) = inr low
 judged_next Low w old _ low (JudgeNoEntry empty none) = inl empty
-judged_next Low w old _ low (JudgeGone x held gone) = inl refl
-judged_next Low w old _ low (JudgeKeeps x t held stands keeps) = inl refl
-judged_next Low w old _ low (JudgeDrops x t candidate held stands drops excludes others) = inl refl
+judged_next Low w old _ low _ = inl refl
 
 -- what is left of the indexes
 left_over : (a b : ℕ) → a ≤ b → (n : ℕ) × (a + n ≡ b)
@@ -248,11 +246,7 @@ module _ (w : TableState) (s : ℕ) (kept : IsTableKept w) (can : CanGoOn w) (ho
       (λ x p is verdict.
       unblocked (subst (IsBlocked w s) (sym (was ∙ ap (λ h. Maintains (Desummarising only) at range (NotBuilding h)) is))
       (DesummariseWaits p only at range x verdict)))
-  desummarise_goes_on only at range Vacant was of below = of
-  desummarise_goes_on only at range Growing was of below = of
-  desummarise_goes_on only at range (Evacuating m on_index) was of below = of
-  desummarise_goes_on only at range (Placing x) was of below = of
-  desummarise_goes_on only at range (IsAt p on_index) was of below = of
+  desummarise_goes_on only at range _ was of below = of
 
   maintain_goes_on : (job : Job) (at range : ℕ) (g : Phase) → w.task s ≡ Maintains job at range g → IsInTable w (Maintains job at range g) → ⊥
   maintain_goes_on (EachRange extent) at range g was mine =
@@ -282,14 +276,12 @@ module _ (w : TableState) (s : ℕ) (kept : IsTableKept w) (can : CanGoOn w) (ho
     where
       by : (task : Task) → w.task s ≡ task → HasStep w task → ⊥
       by Resting was has = busy was
-      by (Reaches b k r at) was has = has
       by (Asks b k r at) was has = ask_goes_on b k r at was
       by (Inserts b k r at g) was has = insert_goes_on b k r at g was
-      by (Considers job at range) was has = has
       by (Maintains job at range g) was has = maintain_goes_on job at range g was (subst (IsInTable w) was (kept.inside s))
       by (Prunes extent next) was has = prune_goes_on w s extent next was has stuck
-      by (SweepsFrom at from) was has = has
       by (Sweeps at page) was has = sweep_on at page was (subst (IsInTable w) was (kept.inside s))
       by (Restarts at) was has = restart_goes_on w s at was (subst (IsInTable w) was (kept.inside s)) stuck
       by (Scans scan) was has = scan_goes_on scan was has
       by (Marks scan ids) was has = mark_goes_on scan ids was has
+      by _ was has = has

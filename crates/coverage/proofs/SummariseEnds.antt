@@ -80,13 +80,11 @@ module _ (w : IndexView) (s range most later tail tuples : ℕ) (has : AreAtMost
 
   start_evacuating : (m : ℕ) (on_index : OnIndex) → KnowsPhase w s range (Evacuating m on_index) → KnowsPagesOfPhase w s range (Evacuating m on_index)
       → Starts (Evacuating m on_index)
-  start_evacuating m Empty known pages = absurd pages.1
-  start_evacuating m (Held x) known pages = absurd pages.1
-  start_evacuating m (Copied x old new) known pages = absurd pages.1
   start_evacuating m (Moving x y old new) known pages =
       starts (Evacuating m (Moving x y old new)) (per + 10) true true (within 10 10 (omega arith)) (OwnEvacuates m x y old new (taken_of x (old, known.1.3)))
   start_evacuating m (Dropping x) known pages =
       starts (Evacuating m (Dropping x)) (per + 9) true true (within 9 10 (omega arith)) (OwnVacates m x (taken_of x known.1.2))
+  start_evacuating m _ known pages = absurd pages.1
 
   start_at : (p : Progress) (on_index : OnIndex) → 6 ≤ range_steps per (IsAt p on_index) → KnowsPhase w s range (IsAt p on_index)
       → KnowsPagesOfPhase w s range (IsAt p on_index) → Starts (IsAt p on_index)
@@ -149,10 +147,8 @@ summarise_builds (Desummarising only) is = absurd is
 -- its step is a summariser's
 abbrev pub job_summarises : (job : Job) → IsBuilder job → (s range : ℕ) (w v : IndexView) (old : Phase) (e : Statement) → JobStep job s range w v old e
     → SummariseStep s range w v old e
-job_summarises (EachRange extent) is s range w v old e step = step
-job_summarises (OneRange extent only) is s range w v old e step = step
-job_summarises (WholeRanges extent) is s range w v old e step = step
 job_summarises (Desummarising only) is s range w v old e step = absurd is
+job_summarises _ is s range w v old e step = step
 
 -- where it comes by its step
 module _ (u : TableState) (job : Job) (at range : ℕ) where
@@ -175,10 +171,8 @@ IsOnly (OneRange extent only) range = range ≡ only
 IsOnly job range = Unit
 
 only_of : (w : TableState) (job : Job) (at range : ℕ) → HasRange w job at range → IsOnly job range
-only_of w (EachRange extent) at range has = tt
 only_of w (OneRange extent only) at range has = has.0
-only_of w (WholeRanges extent) at range has = tt
-only_of w (Desummarising only) at range has = tt
+only_of w _ at range has = tt
 
 -- of so many ranges, behind the next one come one fewer
 counts_later : (n later range : ℕ) → later ≡ n - suc range → suc range < n → later ≡ suc (n - suc (suc range))

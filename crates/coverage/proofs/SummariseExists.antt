@@ -362,26 +362,20 @@ module _ (s range : ℕ) (w : IndexView) (slots : HasFreeSlots w.tuple) (blocks 
   not_building (Dropping x) known pages stuck free = stuck Holding (drops_view s w x) (DropOld x (drops_here s w x))
 
   evacuating : (m : ℕ) (on_index : OnIndex) → HasNoStep (Evacuating m on_index)
-  evacuating m Empty known pages stuck free = pages.1
-  evacuating m (Held x) known pages stuck free = pages.1
-  evacuating m (Copied x old new) known pages stuck free = pages.1
   evacuating m (Moving x y old new) known pages stuck free = evacuates_set m x y old new stuck
   evacuating m (Dropping x) known pages stuck free =
       stuck (Maintaining range Vacant) (drops_view s w x) (GrowMap (Evacuating m (Dropping x)) Vacant (EvacuateDrop m x (drops_here s w x)))
+  evacuating m _ known pages stuck free = pages.1
 
   building : (p : Progress) (on_index : OnIndex) → HasNoStep (IsAt p on_index)
   building ExtentUnread Empty known pages stuck free =
       stuck (Maintaining range (IsAt (Passing (min w.blocks ((range + 1) * w.pages_per_range)) (range * w.pages_per_range) (w.contents.empty range)) Empty)) w
       (Extent (min w.blocks ((range + 1) * w.pages_per_range)) (w.contents.empty range) refl refl (reads_here s w known.1.0))
-  building ExtentUnread (Held x) known pages stuck free = pages.3
-  building ExtentUnread (Copied x old new) known pages stuck free = pages.3
-  building ExtentUnread (Moving x y old new) known pages stuck free = pages.3
-  building ExtentUnread (Dropping x) known pages stuck free = pages.3
   building (Passing extent next result) Empty known pages stuck free = passes extent next result known.1.0 pages.1 stuck
   building (Passing extent next result) (Held x) known pages stuck free = unites extent next result x known.1.0.0 pages.3 stuck
   building (Passing extent next result) (Copied x old new) known pages stuck free = finals extent next result x old new known.1.0.0 pages.3 stuck free
   building (Passing extent next result) (Moving x y old new) known pages stuck free = sets_final (Passing extent next result) x y old new stuck
-  building (Passing extent next result) (Dropping x) known pages stuck free = pages.3
+  building _ _ known pages stuck free = pages.3
 
   pub summarise_has_step : (phase : Phase) → HasNoStep phase
   summarise_has_step (NotBuilding on_index) known pages stuck free = not_building on_index known pages stuck free

@@ -141,16 +141,7 @@ module _ (s : ℕ) (w v : TableState) (step : TableStep s w v) (kept : IsTableKe
   step_fewer _ _ (DidSweep at page stepped sweeps) now was cleaning =
       left_of (Sweeps at page) (SweepsFrom at (suc page)) now stepped.rows.layout.indexes (swept_limits at stepped sweeps.page.limit)
       (λ on. page_on at page (v.task s) on cleaning) cleaning
-  step_fewer _ _ (DidBegin new) now was cleaning = absurd was
-  step_fewer _ _ (DidAsk b k r at) now was cleaning = absurd was
-  step_fewer _ _ (DidInsert b k r at old new done) now was cleaning = absurd was
-  step_fewer _ _ (DidComplete b k r at old done) now was cleaning = absurd was
-  step_fewer _ _ (DidMaintain job at range old new stepped done) now was cleaning = absurd was
-  step_fewer _ _ (DidRange job at range old stepped done) now was cleaning = absurd was
-  step_fewer _ _ (DidRestart at only) now was cleaning = absurd was
-  step_fewer _ _ (DidJudge old new inside low judge only) now was cleaning = absurd was
-  step_fewer _ _ (DidRead scan next found reads only) now was cleaning = absurd was
-  step_fewer _ _ (DidMark scan id rest only) now was cleaning = absurd was
+  step_fewer _ _ _ now was cleaning = absurd was
 
   pub cleaning_fewer : (p : Point) → does_point s w u step.does ≡ Some p → IsCleaning (w.task s) → IsCleaning (v.task s)
       → cleaning_steps v (v.task s) < cleaning_steps w (w.task s)

@@ -218,16 +218,14 @@ module _ (w : TableState) (old : TableScan) (exact : JudgesExactly w old) where
 
 judge_exact : (w : TableState) (old new : TableScan) → JudgesExactly w old → old.at < w.indexes → JudgeStep (index_view_at old.at w) old new → JudgesExactly w new
 judge_exact w old _ exact inside (JudgeMap x empty named) = record { candidate = exact.candidate; judged = exact.judged; behind = exact.behind }
-judge_exact w old _ exact inside (JudgeNoEntry empty none) =
-    record { candidate = kept_candidate w old exact; judged = next_judged w old exact true; behind = next_behind w old exact true }
 judge_exact w old _ exact inside (JudgeGone x held gone) = record { candidate = exact.candidate; judged = exact.judged; behind = exact.behind }
-judge_exact w old _ exact inside (JudgeKeeps x t held stands keeps) =
-    record { candidate = kept_candidate w old exact; judged = next_judged w old exact true; behind = next_behind w old exact true }
 judge_exact w old _ exact inside (JudgeDrops x t candidate held stands drops excludes others) = record {
   candidate = dropped_candidate w old exact inside candidate others;
   judged = next_judged w old exact false;
   behind = next_behind w old exact false;
 }
+judge_exact w old _ exact inside _ =
+    record { candidate = kept_candidate w old exact; judged = next_judged w old exact true; behind = next_behind w old exact true }
 
 -- where no range of an index is left below the extent, the scan goes to the next index
 next_exact : (w : TableState) (scan : TableScan) → JudgesExactly w scan → scan.extent ≤ first_block w scan.at scan.range

@@ -16,24 +16,16 @@ use Rattle.coverage.proofs.TableSettled.{job_lock_kept}
 
 begins_maintenance : (w : TableState) (first : Task) → BeginsWith w first → IsMaintenance first
 begins_maintenance w _ (Summarize at below) = tt
-begins_maintenance w _ (SummarizeOne at only below) = tt
-begins_maintenance w _ (Work at only below) = tt
-begins_maintenance w _ (Desummarize at only below) = tt
-begins_maintenance w _ Vacuum = tt
+begins_maintenance w _ _ = tt
 
 pub vacuuming_maintenance : (task : Task) → IsVacuuming task → IsMaintenance task
-vacuuming_maintenance Resting is = absurd is
-vacuuming_maintenance (Reaches b k r at) is = absurd is
-vacuuming_maintenance (Asks b k r at) is = absurd is
-vacuuming_maintenance (Inserts b k r at on_index) is = absurd is
 vacuuming_maintenance (Considers job at range) is = tt
 vacuuming_maintenance (Maintains job at range phase) is = tt
 vacuuming_maintenance (Prunes extent next) is = tt
 vacuuming_maintenance (SweepsFrom at from) is = tt
 vacuuming_maintenance (Sweeps at page) is = tt
 vacuuming_maintenance (Restarts at) is = tt
-vacuuming_maintenance (Scans scan) is = absurd is
-vacuuming_maintenance (Marks scan ids) is = absurd is
+vacuuming_maintenance _ is = absurd is
 
 refused_no_maintenance : (w : TableState) (s b k : ℕ) (r : Row) (old : Task) → IsInsertRefused w s b k r old → IsMaintenance old → ⊥
 refused_no_maintenance w s b k r _ (IndexFull number at x old new verdict) maintains = maintains
@@ -47,10 +39,6 @@ abbrev SameSort : Task → Task → Type 0
 SameSort old new = (IsMaintenance old → IsMaintenance new) × (IsMaintenance new → IsMaintenance old)
 
 onward_maintenance : (w : TableState) (old new : Task) → Onward w old new → SameSort old new
-onward_maintenance w _ _ (Stays task has) = ((λ m. m), λ m. m)
-onward_maintenance w _ _ (ToAsk b k r at inside asks) = ((λ m. m), λ m. m)
-onward_maintenance w _ _ (ToIndex b k r at inside not) = ((λ m. m), λ m. m)
-onward_maintenance w _ _ (Inserted b k r at all) = ((λ m. m), λ m. m)
 onward_maintenance w _ _ (ToRange job at range has) = ((λ m. tt), λ m. tt)
 onward_maintenance w _ _ (NextIndex extent at range done inside) = ((λ m. tt), λ m. tt)
 onward_maintenance w _ _ (Pruned extent next new all more) = let same = onward_maintenance w (SweepsFrom 0 0) new more in ((λ m. same.0 tt), λ m. tt)
@@ -58,9 +46,7 @@ onward_maintenance w _ _ (ToPage at from m p next) = ((λ m. tt), λ m. tt)
 onward_maintenance w _ _ (Swept at from none some) = ((λ m. tt), λ m. tt)
 onward_maintenance w _ _ (JudgesNext scan new inside all empty more) =
     let same = onward_maintenance w (Scans (record scan { at = suc scan.at; range = 0 })) new more in ((λ m. absurd m), λ m. same.1 m)
-onward_maintenance w _ _ (Scanned scan read nothing) = ((λ m. m), λ m. m)
-onward_maintenance w _ _ (ToMarks scan id rest read reads deletes lists) = ((λ m. m), λ m. m)
-onward_maintenance w _ _ (Marked scan) = ((λ m. m), λ m. m)
+onward_maintenance w _ _ _ = ((λ m. m), λ m. m)
 
 module _ (s : ℕ) (w v : TableState) (others : (n : ℕ) → (n ≡ s) ⊎ (v.task n ≡ w.task n)) (kept : IsHeldForMaintenance w) where
   -- the lock stays, and the session's statement is maintenance as before, or none as before

@@ -31,31 +31,18 @@ use Rattle.coverage.proofs.Views.{on_index_apart, seen_put, seen_spares, none_at
 
 -- the step of a maintenance statement in its index
 job_step : (job : Job) (s range : ℕ) (w v : IndexView) (old : Phase) (new : Statement) → JobStep job s range w v old new → MaintainStep s range w v old new
-job_step (EachRange extent) s range w v old new step = Summarises step
-job_step (OneRange extent only) s range w v old new step = Summarises step
-job_step (WholeRanges extent) s range w v old new step = Summarises step
 job_step (Desummarising only) s range w v old new step = Desummarises step
+job_step _ s range w v old new step = Summarises step
 
 begins_holding : (i : ℕ) (w : TableState) (first : Task) → BeginsWith w first → seen_by i first ≡ Holding
 begins_holding i w _ (Summarize at below) = refl
-begins_holding i w _ (SummarizeOne at only below) = refl
-begins_holding i w _ (Work at only below) = refl
-begins_holding i w _ (Desummarize at only below) = refl
-begins_holding i w _ Vacuum = refl
+begins_holding i w _ _ = refl
 
 pub vacuuming_holds : (i : ℕ) (task : Task) → IsVacuuming task → seen_by i task ≡ Holding
-vacuuming_holds i Resting is = absurd is
-vacuuming_holds i (Reaches b k r at) is = absurd is
-vacuuming_holds i (Asks b k r at) is = absurd is
-vacuuming_holds i (Inserts b k r at on_index) is = absurd is
-vacuuming_holds i (Considers job at range) is = absurd is
-vacuuming_holds i (Maintains job at range phase) is = absurd is
 vacuuming_holds i (Prunes extent next) is = refl
-vacuuming_holds i (SweepsFrom at from) is = absurd is
 vacuuming_holds i (Sweeps at page) is = refl
 vacuuming_holds i (Restarts at) is = refl
-vacuuming_holds i (Scans scan) is = absurd is
-vacuuming_holds i (Marks scan ids) is = absurd is
+vacuuming_holds i _ is = absurd is
 
 pub maintained_holds : (i : ℕ) (w : TableState) (task : Task) → IsMaintained w task → seen_by i task ≡ Holding
 maintained_holds i w _ (RangesDone job at range done last) = refl

@@ -85,19 +85,16 @@ module _ (w : IndexView) (old : TableScan) where
   judge_once _ _ (JudgeMap x empty named) (JudgeKeeps y t held stands keeps) = empty_held y empty held
   judge_once _ _ (JudgeMap x empty named) (JudgeDrops y t candidate held stands drops excludes others) = empty_held y empty held
   judge_once _ _ (JudgeNoEntry empty none) (JudgeMap y empty' named) = absurd (none-some _ (sym none ∙ named))
-  judge_once _ _ (JudgeNoEntry empty none) (JudgeNoEntry empty' none') = refl
   judge_once _ _ (JudgeNoEntry empty none) (JudgeGone y held gone) = empty_held y empty held
   judge_once _ _ (JudgeNoEntry empty none) (JudgeKeeps y t held stands keeps) = empty_held y empty held
   judge_once _ _ (JudgeNoEntry empty none) (JudgeDrops y t candidate held stands drops excludes others) = empty_held y empty held
   judge_once _ _ (JudgeGone x held gone) (JudgeMap y empty named) = empty_held x empty held
   judge_once _ _ (JudgeGone x held gone) (JudgeNoEntry empty none) = empty_held x empty held
-  judge_once _ _ (JudgeGone x held gone) (JudgeGone y held' gone') = refl
   judge_once _ _ (JudgeGone x held gone) (JudgeKeeps y t held' stands keeps) = gone_or_there x y t held held' gone stands.0 stands.1
   judge_once _ _ (JudgeGone x held gone) (JudgeDrops y t candidate held' stands drops excludes others) = gone_or_there x y t held held' gone stands.0 stands.1
   judge_once _ _ (JudgeKeeps x t held stands keeps) (JudgeMap y empty named) = empty_held x empty held
   judge_once _ _ (JudgeKeeps x t held stands keeps) (JudgeNoEntry empty none) = empty_held x empty held
   judge_once _ _ (JudgeKeeps x t held stands keeps) (JudgeGone y held' gone) = gone_or_there y x t held' held gone stands.0 stands.1
-  judge_once _ _ (JudgeKeeps x t held stands keeps) (JudgeKeeps y u held' stands' keeps') = refl
   judge_once _ _ (JudgeKeeps x t held stands keeps) (JudgeDrops y u candidate held' stands' drops excludes others) =
       keeps_or_not x y t u held held' stands.0 stands'.0 keeps drops
   judge_once _ _ (JudgeDrops x t candidate held stands drops excludes others) (JudgeMap y empty named) = empty_held x empty held
@@ -107,6 +104,7 @@ module _ (w : IndexView) (old : TableScan) where
       keeps_or_not y x u t held' held stands'.0 stands.0 keeps drops
   judge_once _ _ (JudgeDrops x t candidate held stands drops excludes others) (JudgeDrops y u candidate' held' stands' drops' excludes' others') =
       λ i. record old { range = suc old.range; held = None; judged = judged_with old false; candidate = λ b. same_candidates w old candidate candidate' others others' b i }
+  judge_once _ _ _ _ = refl
 
 pub reads_once : (w : TableState) (scan : TableScan) (m n : ℕ) (f g : ℕ → ℕ → Bool) → ReadsPage w scan m f → ReadsPage w scan n g
     → (m ≡ n) × ((b k : ℕ) → f b k ≡ g b k)

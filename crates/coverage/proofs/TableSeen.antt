@@ -23,10 +23,6 @@ rows_same w v rows scan seen b k sees = let row = seen b k sees in (row.0, rows 
 module _ (s : ℕ) (w v : TableState) (kept : IsTableKept w) where
   -- a judgement leaves out only what doesn't match
   judged_seen : (old new : TableScan) → w.task s ≡ Scans old → old.at < w.indexes → JudgeStep (index_view_at old.at w) old new → SeesRows w new
-  judged_seen old _ was inside (JudgeMap x empty named) = kept.scans s old was
-  judged_seen old _ was inside (JudgeNoEntry empty none) = kept.scans s old was
-  judged_seen old _ was inside (JudgeGone x held gone) = kept.scans s old was
-  judged_seen old _ was inside (JudgeKeeps x t held stands keeps) = kept.scans s old was
   judged_seen old _ was inside (JudgeDrops x t candidate held stands drops excludes others) = λ b k sees.
       let row = kept.scans s old was b k sees in (
         row.0,
@@ -41,6 +37,7 @@ module _ (s : ℕ) (w v : TableState) (kept : IsTableKept w) where
             ))
             (row.2 matches),
       )
+  judged_seen old _ was inside _ = kept.scans s old was
 
   read_seen : (scan : TableScan) (next : ℕ) (found : ℕ → ℕ → Bool) → w.task s ≡ Scans scan → ReadsPage w scan next found
       → SeesRows w (record scan { read = next + 1; found = found })

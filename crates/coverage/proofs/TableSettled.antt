@@ -22,16 +22,12 @@ use Rattle.coverage.proofs.TableRuns.{judges, reads_block}
 
 pub job_lock_kept : (job : Job) (s range : ℕ) (w v : IndexView) (old : Phase) (new : Statement) → JobStep job s range w v old new
     → v.summarise_lock ≡ w.summarise_lock
-job_lock_kept (EachRange extent) s range w v old new step = (summarise_keeps s range w v old new step).1
-job_lock_kept (OneRange extent only) s range w v old new step = (summarise_keeps s range w v old new step).1
-job_lock_kept (WholeRanges extent) s range w v old new step = (summarise_keeps s range w v old new step).1
 job_lock_kept (Desummarising only) s range w v old new step = (desummarise_keeps s range w v old new step).1
+job_lock_kept _ s range w v old new step = (summarise_keeps s range w v old new step).1
 
 pub job_heap_kept : (job : Job) (s range : ℕ) (w v : IndexView) (old : Phase) (new : Statement) → JobStep job s range w v old new → SameHeap w v
-job_heap_kept (EachRange extent) s range w v old new step = (summarise_keeps s range w v old new step).0
-job_heap_kept (OneRange extent only) s range w v old new step = (summarise_keeps s range w v old new step).0
-job_heap_kept (WholeRanges extent) s range w v old new step = (summarise_keeps s range w v old new step).0
 job_heap_kept (Desummarising only) s range w v old new step = (desummarise_keeps s range w v old new step).0
+job_heap_kept _ s range w v old new step = (summarise_keeps s range w v old new step).0
 
 module _ (s : ℕ) (w v : TableState) (kept : AreIndexesKept w) (i : ℕ) (below : i < w.indexes) where
   -- want of memory ends a scan, and then its transaction fails
@@ -128,9 +124,6 @@ SeesOnward i old new = (seen_by i new ≡ seen_by i old)
 
 module _ (i : ℕ) (w : TableState) (below : i < w.indexes) where
   onward_view : (old new : Task) → Onward w old new → SeesOnward i old new
-  onward_view _ _ (Stays task has) = inl refl
-  onward_view _ _ (ToAsk b k r at inside asks) = inl refl
-  onward_view _ _ (ToIndex b k r at inside asks) = inl refl
   onward_view _ _ (Inserted b k r at all) = inl (sym (ap (inserting_of b k r) (on_index_below i at Empty (subst (λ n. i < n) (sym all) below))))
   onward_view _ _ (ToRange job at range has) = ⊎_elim
       (λ (is : i ≡ at).
@@ -142,10 +135,7 @@ module _ (i : ℕ) (w : TableState) (below : i < w.indexes) where
       )))
       (λ (apart : i ≢ at). inl (pick_other i at (Maintaining range (NotBuilding Empty)) Holding apart))
       (cases_eq i at)
-  onward_view _ _ (NextIndex extent at range done inside) = inl refl
   onward_view _ _ (Pruned extent next new all more) = onward_view (SweepsFrom 0 0) new more
-  onward_view _ _ (ToPage at from m p next) = inl refl
-  onward_view _ _ (Swept at from none some) = inl refl
   onward_view _ _ (JudgesNext scan new inside all empty more) = moved (onward_view (Scans (record scan { at = suc scan.at; range = 0 })) new more)
     where
       view : seen_by i (Scans (record scan { at = suc scan.at; range = 0 })) ≡ seen_by i (Scans scan)
@@ -168,7 +158,7 @@ module _ (i : ℕ) (w : TableState) (below : i < w.indexes) where
           sees
   onward_view _ _ (Scanned scan read nothing) = inr (inr (scan, refl, refl))
   onward_view _ _ (ToMarks scan id rest read reads deletes lists) = inr (inr (scan, refl, refl))
-  onward_view _ _ (Marked scan) = inl refl
+  onward_view _ _ _ = inl refl
 
 module _ (s : ℕ) (w v : TableState) (kept : AreIndexesKept w) (i : ℕ) (below : i < w.indexes) where
   goes_on : (old new : Task) → Onward w old new → TaskTurns s w v old new → OnlyTurns w v → IsIndexKept (index_state i v)

@@ -118,23 +118,21 @@ fits_or_moves w x new regular room must = ⊎_elim
 
 pub swap_once : (w : IndexView) (s range : ℕ) (x : Spot) (old new : IndexTuple) (p q : Verdict) → SwapVerdict w s range x old new p
     → SwapVerdict w s range x old new q → p ≡ q
-swap_once w s range x old new _ _ (SwapWaits locked) (SwapWaits locked') = refl
 swap_once w s range x old new _ _ (SwapWaits locked) (SwapDiffers free not) = absurd (free_not_locked w s x.block free locked)
 swap_once w s range x old new _ _ (SwapWaits locked) (SwapFits free here kind room) = absurd (free_not_locked w s x.block free locked)
 swap_once w s range x old new _ q (SwapWaits locked) (SwapMoves verdict free here must puts) = absurd (free_not_locked w s x.block free locked)
 swap_once w s range x old new _ _ (SwapDiffers free not) (SwapWaits locked) = absurd (free_not_locked w s x.block free locked)
-swap_once w s range x old new _ _ (SwapDiffers free not) (SwapDiffers free' not') = refl
 swap_once w s range x old new _ _ (SwapDiffers free not) (SwapFits free' here kind room) = absurd (not here)
 swap_once w s range x old new _ q (SwapDiffers free not) (SwapMoves verdict free' here must puts) = absurd (not here)
 swap_once w s range x old new _ _ (SwapFits free here kind room) (SwapWaits locked) = absurd (free_not_locked w s x.block free locked)
 swap_once w s range x old new _ _ (SwapFits free here kind room) (SwapDiffers free' not) = absurd (not here)
-swap_once w s range x old new _ _ (SwapFits free here kind room) (SwapFits free' here' kind' room') = refl
 swap_once w s range x old new _ q (SwapFits free here kind room) (SwapMoves verdict free' here' must puts) = absurd (fits_or_moves w x new kind room must)
 swap_once w s range x old new p _ (SwapMoves verdict free here must puts) (SwapWaits locked) = absurd (free_not_locked w s x.block free locked)
 swap_once w s range x old new p _ (SwapMoves verdict free here must puts) (SwapDiffers free' not) = absurd (not here)
 swap_once w s range x old new p _ (SwapMoves verdict free here must puts) (SwapFits free' here' kind room) = absurd (fits_or_moves w x new kind room must)
 swap_once w s range x old new p q (SwapMoves verdict free here must puts) (SwapMoves verdict' free' here' must' puts') =
     put_once w s range (length new.bytes) p q puts puts'
+swap_once w s range x old new _ _ _ _ = refl
 
 pub clear_once : (w : IndexView) (s range : ℕ) (x : Spot) (p q : Verdict) → ClearVerdict w s range x p → ClearVerdict w s range x q → p ≡ q
 clear_once w s range x _ _ (ClearWaits q locked) (ClearWaits q' locked') =
