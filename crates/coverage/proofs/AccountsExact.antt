@@ -1,6 +1,7 @@
 -- What a step adds to accounts and queue is one thing, and the queue keeps its order and its limit.
 use Rattle.std.proofs.Common.{◌≡◌, ◌⊎◌, inl, inr, ℕ, ◌+◌, ◌≤◌, ◌<◌, Option, Some, List, [], ◌∷◌, ◌++◌, length, sym, ◌∙◌, ap, subst, arith, suc, length-append}
 use Rattle.std.proofs.lemmas.Option.{none-some}
+use Rattle.std.proofs.Math.Nat.{not-le_of_lt}
 use Rattle.block_model.specs.declared.reply.Point.{Point}
 use Rattle.block_model.specs.declared.place.Spot.{Spot}
 use Rattle.coverage.specs.Counts.{HasGone}
@@ -22,14 +23,11 @@ module _ (s : ℕ) (a b c : Accounts) where
   is_once : (now : Account) → AccountIs s a b now → AccountIs s a c now → SameOwn s b c
   is_once now one two = (one.queue ∙ sym two.queue, one.account ∙ sym two.account)
 
-  less_not_more : (n m : ℕ) → n < m → m ≤ n → ⊥
-  less_not_more n m less more = omega arith
-
   asking_once : (asked : Asked) (entry : Option Spot) → Asking s a b asked entry → Asking s a c asked entry → SameOwn s b c
   asking_once asked _ (HasEntry x one) (HasEntry _ two) = is_once (a.of s) one two
   asking_once asked _ (Joins less queue account) (Joins less' queue' account') = (queue ∙ sym queue', account ∙ sym account')
-  asking_once asked _ (Joins less queue account) (IsDropped full two) = absurd (less_not_more (length a.queue) queue_limit less full)
-  asking_once asked _ (IsDropped full one) (Joins less queue account) = absurd (less_not_more (length a.queue) queue_limit less full)
+  asking_once asked _ (Joins less queue account) (IsDropped full two) = absurd (not-le_of_lt less full)
+  asking_once asked _ (IsDropped full one) (Joins less queue account) = absurd (not-le_of_lt less full)
   asking_once asked _ (IsDropped full one) (IsDropped full' two) = is_once _ one two
 
   rest_once : (first : Asked) (q : List Asked) → a.queue ≡ first ∷ q → (r : List Asked) → a.queue ≡ first ∷ r → q ≡ r

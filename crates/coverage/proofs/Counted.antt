@@ -1,6 +1,7 @@
 -- A count is one number, and so is what a step counts.
 use Rattle.std.proofs.Common.{◌≡◌, ⊎_elim, ℕ, ◌≤◌, ◌<◌, sym, ◌∙◌, ap, subst, arith, suc}
 use Rattle.std.specs.Prelude.{refl}
+use Rattle.std.proofs.Math.Nat.{le_of_lt}
 use Rattle.block_model.specs.declared.reply.Point.{Point}
 use Rattle.block_model.specs.declared.reply.Point.TheVariants as points
 use Rattle.coverage.specs.IndexView.{IndexView}
@@ -47,12 +48,9 @@ module _ (Is : ℕ → Type 0) where
   pub count_once : (c d : ℕ) → IsCountOf Is c → IsCountOf Is d → c ≡ d
   count_once c d one two = ⊎_elim
       (λ (less : one.below < two.below).
-      count_stays one.below c one.counted one.rest two.below d two.counted (weaker one.below two.below less))
+      count_stays one.below c one.counted one.rest two.below d two.counted (le_of_lt less))
       (λ (more : two.below ≤ one.below). sym (count_stays two.below d two.counted two.rest one.below c one.counted more))
       (lt_or_ge one.below two.below)
-    where
-      weaker : (a b : ℕ) → a < b → a ≤ b
-      weaker a b less = omega arith
 
 -- what a summariser's step counts, by its phase and its point
 abbrev count_at : Phase → Point → ℕ

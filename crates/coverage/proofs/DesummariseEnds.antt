@@ -103,12 +103,9 @@ module _ (s : ℕ) where
   none_job : (z : TableState) (job : Job) (at range : ℕ) (phase : Phase) → JobWithin 0 z job at range phase
   none_job z (Desummarising only) at range phase = none_clear ((z.index at).entry range) phase
     where
-      least : (m : ℕ) → 0 ≤ m
-      least m = omega arith
-
       none_clear : (entry : Option Spot) (phase : Phase) → ClearWithin 0 entry phase
-      none_clear entry (NotBuilding (Held x)) = ((λ _. least 2), least 4)
-      none_clear entry phase = least (desummarise_steps phase)
+      none_clear entry (NotBuilding (Held x)) = ((λ _. omega arith), omega arith)
+      none_clear entry phase = omega arith
   none_job z _ at range phase = tt
 
   none_left : (z : TableState) (task : Task) → Within 0 z task

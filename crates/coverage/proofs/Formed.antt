@@ -2,6 +2,7 @@
 use Rattle.std.proofs.Common.{◌≡◌, ◌⊎◌, inl, inr, ⊎_elim, ℕ, ◌*◌, ◌≤◌, ◌<◌, Option, Some, None, Bool, sym, ◌∙◌, ap, subst, arith}
 use Rattle.std.specs.Prelude.{IsTrue}
 use Rattle.std.proofs.lemmas.Option.{same_Some, none-some}
+use Rattle.std.proofs.Math.Nat.{lt_of_lt_of_le}
 use Rattle.block_model.specs.declared.row.Row.{Row}
 use Rattle.block_model.specs.declared.place.Spot.{Spot}
 use Rattle.coverage.specs.IndexView.{IndexTuple, Contents, IsFormed, Progress, IndexView, IsRangeOf, IsTupleOf}
@@ -14,9 +15,6 @@ use Rattle.coverage.specs.Changes.{IsSwept, Sweeps, Prunes, Takes, Ends, TurnsLo
 pub same_bytes : (contents : Contents) (t u : IndexTuple) → IsFormed contents t → IsFormed contents u → t.bytes ≡ u.bytes → t ≡ u
 same_bytes contents t u one two same = same_Some _ _ (sym one.says ∙ ap contents.read same ∙ two.says)
 
-below_more : (n m k : ℕ) → n < m → m ≤ k → n < k
-below_more n m k less le = omega arith
-
 pub no_less : (n m : ℕ) → n ≡ m → m ≤ n
 no_less n m same = omega arith
 
@@ -26,7 +24,7 @@ module _ (w v : IndexView) (contents : v.contents ≡ w.contents) (ranges : v.pa
   formed_on t formed = subst (λ c. IsFormed c t) (sym contents) formed
 
   in_blocks : (range : ℕ) → range * w.pages_per_range < w.blocks → range * v.pages_per_range < v.blocks
-  in_blocks range below = subst (λ n. range * n < v.blocks) (sym ranges) (below_more (range * w.pages_per_range) w.blocks v.blocks below blocks)
+  in_blocks range below = subst (λ n. range * n < v.blocks) (sym ranges) (lt_of_lt_of_le below blocks)
 
   pub tuple_of_on : (t : IndexTuple) → IsTupleOf w t → IsTupleOf v t
   tuple_of_on t is = (formed_on t is.0, in_blocks t.range is.1)

@@ -3,6 +3,7 @@ use Rattle.std.proofs.Common.{◌≡◌, ◌≢◌, ◌⊎◌, inl, inr, ⊎_eli
 use Rattle.std.specs.Prelude.{refl, IsTrue}
 use Rattle.std.proofs.lemmas.Option.{same_Some, none-some}
 use Rattle.std.proofs.lemmas.Bool.{cases_eq, false≢true}
+use Rattle.std.proofs.Math.Nat.{lt_trans, not-suc-le-zero}
 use Rattle.block_model.specs.declared.row.Row.{Row}
 use Rattle.block_model.specs.declared.row.RowId.{RowId}
 use Rattle.coverage.specs.Statements.{HasNoMoreRows}
@@ -14,17 +15,14 @@ use Rattle.coverage.specs.TableSteps.{ListsFound}
 before_through : (a b c : RowId) → IsBefore a b → IsBefore b c → IsBefore a c
 before_through a b c one two = ⊎_elim
     (λ (less : a.t < b.t). ⊎_elim
-    (λ (more : b.t < c.t). inl (through a.t b.t c.t less more))
+    (λ (more : b.t < c.t). inl (lt_trans less more))
     (λ (same : (b.t ≡ c.t) × (b.k < c.k)). inl (subst (λ n. a.t < n) same.0 less))
     two)
     (λ (same : (a.t ≡ b.t) × (a.k < b.k)). ⊎_elim
     (λ (more : b.t < c.t). inl (subst (λ n. n < c.t) (sym same.0) more))
-    (λ (same' : (b.t ≡ c.t) × (b.k < c.k)). inr (same.0 ∙ same'.0, through a.k b.k c.k same.1 same'.1))
+    (λ (same' : (b.t ≡ c.t) × (b.k < c.k)). inr (same.0 ∙ same'.0, lt_trans same.1 same'.1))
     two)
     one
-  where
-    through : (a b c : ℕ) → a < b → b < c → a < c
-    through a b c less more = omega arith
 
 -- of two ids one comes first, or they are one
 ids_compare : (a b : RowId) → IsBefore a b ⊎ (a ≡ b) ⊎ IsBefore b a
@@ -170,16 +168,13 @@ module _ (w : TableState) (scan : TableScan) where
     only = lists.only;
   }
 
-  none_below : (n : ℕ) → n < zero → ⊥
-  none_below n less = omega arith
-
   slots_listed : (b n : ℕ) → Lists (Below b) → Lists (Before b n)
   slots_listed b zero lists = record {
     ids = lists.ids;
     ordered = lists.ordered;
     all = λ c j q has is here. ⊎_elim
         (λ (low : c < b). lists.all c j q low is here)
-        (λ (at : (c ≡ b) × (j < zero)). absurd (none_below j at.1))
+        (λ (at : (c ≡ b) × (j < zero)). absurd (not-suc-le-zero at.1))
         has;
     only = lists.only;
   }
@@ -189,7 +184,7 @@ module _ (w : TableState) (scan : TableScan) where
   blocks_listed ends zero = record {
     ids = [];
     ordered = tt;
-    all = λ c j q low is here. absurd (none_below c low);
+    all = λ c j q low is here. absurd (not-suc-le-zero low);
     only = λ id among. absurd among;
   }
   blocks_listed ends (suc b) =

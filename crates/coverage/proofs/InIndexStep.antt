@@ -1,6 +1,7 @@
 -- A step in one index, as a step of the table that the statement's session makes.
 use Rattle.std.proofs.Common.{◌≡◌, ◌⊎◌, inl, inr, ⊎_elim, ℕ, ◌≤◌, ◌<◌, Option, sym, ◌∙◌, ap, subst, arith, suc}
 use Rattle.std.specs.Prelude.{refl}
+use Rattle.std.proofs.Math.Nat.{le_antisymm}
 use Rattle.block_model.specs.declared.row.Row.{Row}
 use Rattle.block_model.specs.declared.place.Spot.{Spot}
 use Rattle.coverage.specs.IndexView.{Building, IndexView}
@@ -66,18 +67,12 @@ module _ (w : TableState) (s at : ℕ) (x : Index) (new : Task) where
 abbrev showing : Index → IndexView → Index
 showing x v = record x { entry = v.entry; tuple = v.tuple; pages = v.pages; lock = v.lock; unnamed = v.unnamed }
 
-both : (a b : ℕ) → a ≤ b → b ≤ a → a ≡ b
-both a b le ge = omega arith
-
-below_suc : (a b : ℕ) → a < b → suc a ≤ b
-below_suc a b less = omega arith
-
 -- an insert before an index, or behind the last one, goes on
 reaches_on : (u : TableState) (b k : ℕ) (r : Row) (at : ℕ) → at ≤ u.indexes → ((new : Task) → Onward u (Reaches b k r at) new → ⊥) → ⊥
 reaches_on u b k r at le none = ⊎_elim
     (λ (inside : at < u.indexes).
     none (Inserts b k r at Empty) (ToIndex b k r at inside (λ asks. none (Asks b k r at) (ToAsk b k r at inside asks))))
-    (λ (all : u.indexes ≤ at). none Resting (Inserted b k r at (both at u.indexes le all)))
+    (λ (all : u.indexes ≤ at). none Resting (Inserted b k r at (le_antisymm le all)))
     (lt_or_ge at u.indexes)
 
 -- maintenance before a range of an index goes on, or is done
@@ -93,7 +88,7 @@ considers_on u (WholeRanges extent) at range below none no_last = ⊎_elim
     (λ (more : suc at < u.indexes). none (Restarts (suc at)) (NextIndex extent at range (λ has. none _ (ToRange (WholeRanges extent) at range has)) more))
     (λ (last : u.indexes ≤ suc at).
     no_last (RangesDone (WholeRanges extent) at range (λ has. none _ (ToRange (WholeRanges extent) at range has))
-    (both (suc at) u.indexes (below_suc at u.indexes below) last)))
+    (le_antisymm below last)))
     (lt_or_ge (suc at) u.indexes)
 
 -- what the step of an insert, or of a maintenance statement, leads to in the index
@@ -132,7 +127,7 @@ module _ (w : TableState) (s : ℕ) (stuck : IsTableStuck w s) (at : ℕ) (below
     insert_completes : (x : Index) → x.autosummarize ≡ (w.index at).autosummarize
         → InsertStep s b k r view (index_view_at at (in_index w s at x (Reaches b k r (suc at)))) g Idle → ⊥
     insert_completes x same step =
-        reaches_on (in_index w s at x (Reaches b k r (suc at))) b k r (suc at) (below_suc at w.indexes below)
+        reaches_on (in_index w s at x (Reaches b k r (suc at))) b k r (suc at) below
         (no_onward w s stuck (in_index w s at x (Reaches b k r (suc at))) (Reaches b k r (suc at)) (now w s at x (Reaches b k r (suc at)))
         (InsertCompletes b k r at g (turns_in w s at x (Reaches b k r (suc at)) (Inserts b k r at g) was)
         (steps_in w s at x (Reaches b k r (suc at)) below same) step)

@@ -1,5 +1,6 @@
 -- A table's statements are at its indexes, and at ranges of their jobs.
 use Rattle.std.proofs.Common.{◌≡◌, ◌⊎◌, ⊎_elim, ℕ, ◌+◌, ◌*◌, ◌≤◌, ◌<◌, sym, ap, subst, arith, suc}
+use Rattle.std.proofs.Math.Nat.{le_of_lt, le_refl, le_trans}
 use Rattle.coverage.specs.IndexView.{IndexView}
 use Rattle.coverage.specs.Statements.{Empty, Phase, NotBuilding, Statement, Idle, Inserting, Maintaining, Holding, Scanning}
 use Rattle.coverage.specs.Steps.{ClearMap, ClearNone, Clear, ClearAgain, DropCleared}
@@ -18,10 +19,7 @@ use Rattle.coverage.proofs.TableJudged.{SameRanges, indexes_ranges, does_ranges}
 
 module _ (w v : TableState) (same : SameRanges w v) (more : w.blocks ≤ v.blocks) where
   through : (a : ℕ) → a ≤ w.blocks → a ≤ v.blocks
-  through a le = by a w.blocks v.blocks le more
-    where
-      by : (a b c : ℕ) → a ≤ b → b ≤ c → a ≤ c
-      by a b c one two = omega arith
+  through a le = le_trans le more
 
   below_on : (at : ℕ) → at < w.indexes → at < v.indexes
   below_on at below = subst (λ n. at < n) (sym same.0) below
@@ -74,18 +72,12 @@ phase_on (WholeRanges extent) s range w v old _ step = tt
 phase_on (Desummarising only) s range w v _ _ (ClearMap x named reads) = tt
 phase_on (Desummarising only) s range w v _ _ _ = tt
 
-self : (n : ℕ) → n ≤ n
-self n = omega arith
-
-least : (n : ℕ) → 0 ≤ n
-least n = omega arith
-
 begins_inside : (w : TableState) (first : Task) → BeginsWith w first → IsInTable w first
-begins_inside w _ (Summarize at below) = (below, self w.blocks)
-begins_inside w _ (SummarizeOne at only below) = (below, self w.blocks)
-begins_inside w _ (Work at only below) = (below, self w.blocks)
+begins_inside w _ (Summarize at below) = (below, le_refl w.blocks)
+begins_inside w _ (SummarizeOne at only below) = (below, le_refl w.blocks)
+begins_inside w _ (Work at only below) = (below, le_refl w.blocks)
 begins_inside w _ (Desummarize at only below) = (below, tt)
-begins_inside w _ Vacuum = self w.blocks
+begins_inside w _ Vacuum = le_refl w.blocks
 
 abbrev AllInside : TableState → Type 0
 AllInside w = (s : ℕ) → IsInTable w (w.task s)
@@ -97,18 +89,12 @@ module _ (s : ℕ) (w v : TableState) (kept : AllInside w) where
   now_in : (task : Task) → v.task s ≡ task → IsInTable w task → IsInTable w (v.task s)
   now_in task is inside = subst (IsInTable w) (sym is) inside
 
-  below_suc : (a b : ℕ) → a < b → suc a ≤ b
-  below_suc a b less = omega arith
-
-  weaker : (a b : ℕ) → a < b → a ≤ b
-  weaker a b less = omega arith
-
   own_inside : Does s w v → IsInTable w (v.task s)
-  own_inside (PutsRow b k r place turns takes) = now_in _ turns.now (least w.indexes)
+  own_inside (PutsRow b k r place turns takes) = now_in _ turns.now (omega arith)
   own_inside (RefusesRow t refused turns fails) = now_in Resting turns.now tt
   own_inside (AsksSummary b k r at turns only) = now_in _ turns.now (was_in _ turns.was)
   own_inside (InsertGoes b k r at old new turns stepped step) = now_in _ turns.now (was_in _ turns.was)
-  own_inside (InsertCompletes b k r at old turns stepped step) = now_in _ turns.now (below_suc at w.indexes (was_in _ turns.was))
+  own_inside (InsertCompletes b k r at old turns stepped step) = now_in _ turns.now (was_in _ turns.was)
   own_inside (RefusesInsert b k r old refused turns fails) = now_in Resting turns.now tt
   own_inside (TakesLock first begins turns free held rows indexes) = now_in first turns.now (begins_inside w first begins)
   own_inside (MaintainGoes job at range old new turns stepped step) =
@@ -121,10 +107,10 @@ module _ (s : ℕ) (w v : TableState) (kept : AllInside w) where
   own_inside (RefusesVacuum old vacuuming turns given rows indexes) = now_in Resting turns.now tt
   own_inside (PrunesBlock extent next dropped inside spared turns drops) = now_in _ turns.now (was_in _ turns.was)
   own_inside (SweepsPage at page turns stepped sweeps) = now_in _ turns.now tt
-  own_inside (RestartsIndex at turns only) = now_in _ turns.now (was_in (Restarts at) turns.was, self w.blocks)
-  own_inside (BeginsScan scan begins turns only) = now_in (Scans scan) turns.now (subst (λ n. n ≤ w.indexes) (sym begins.at) (least w.indexes))
+  own_inside (RestartsIndex at turns only) = now_in _ turns.now (was_in (Restarts at) turns.was, le_refl w.blocks)
+  own_inside (BeginsScan scan begins turns only) = now_in (Scans scan) turns.now (subst (λ n. n ≤ w.indexes) (sym begins.at) (omega arith))
   own_inside (Judges old new inside low step turns only) =
-      now_in (Scans new) turns.now (subst (λ n. n ≤ w.indexes) (sym (judge_at (index_view_at old.at w) old new step)) (weaker old.at w.indexes inside))
+      now_in (Scans new) turns.now (subst (λ n. n ≤ w.indexes) (sym (judge_at (index_view_at old.at w) old new step)) (le_of_lt inside))
   own_inside (ReadsBlock scan next found reads turns only) = now_in _ turns.now (was_in (Scans scan) turns.was)
   own_inside (RefusesScan scan t turns how) = now_in Resting turns.now tt
   own_inside (MarksRow scan id rest turns only) = now_in _ turns.now tt
@@ -153,7 +139,7 @@ module _ (s : ℕ) (w v : TableState) (kept : AllInside w) where
   onward_inside _ _ (ToPage at from m p next) is = next.has.0
   onward_inside _ _ (Swept at from none some) is = some
   onward_inside _ _ (JudgesNext scan new inside all empty more) is =
-      onward_inside (Scans (record scan { at = suc scan.at; range = 0 })) new more (below_suc scan.at w.indexes inside)
+      onward_inside (Scans (record scan { at = suc scan.at; range = 0 })) new more inside
   onward_inside _ _ _ is = tt
 
   pub settles_inside : Settles s w v → AllInside v

@@ -1,5 +1,6 @@
 -- What a table's step leaves to other sessions.
 use Rattle.std.proofs.Common.{◌≡◌, ◌≢◌, ◌⊎◌, inl, inr, ⊎_elim, ℕ, ◌+◌, ◌≤◌, ◌<◌, max, Some, true, false, sym, ◌∙◌, ap, subst, arith, rules}
+use Rattle.std.proofs.Math.Nat.{le_refl}
 use Rattle.block_model.specs.declared.row.Row.{Row}
 use Rattle.coverage.specs.Table.{Task, Resting, TableState}
 use Rattle.coverage.specs.TableSteps.{TaskTurns, OnlyTurns, SeesPlace, Fails, Does, PutsRow, RefusesRow, AsksSummary, InsertGoes}
@@ -18,12 +19,9 @@ same_leaves : (s : ℕ) (w v : TableState) (old new : Task) → TaskTurns s w v 
 same_leaves s w v old new turns rows blocks = record {
   others = turns.others;
   rows = λ n b k r other there sees. rows b k ∙ there;
-  blocks = subst (λ m. w.blocks ≤ m) (sym blocks) (self w.blocks);
+  blocks = subst (λ m. w.blocks ≤ m) (sym blocks) (le_refl w.blocks);
   from = λ b k r there. inl (sym (rows b k) ∙ there);
 }
-  where
-    self : (n : ℕ) → n ≤ n
-    self n = omega arith
 
 pub does_leaves : (s : ℕ) (w v : TableState) → Does s w v → Leaves s w v
 does_leaves s w v (PutsRow b k r place turns takes) = record {
@@ -54,12 +52,9 @@ does_leaves s w v (RefusesVacuum old vacuuming turns given rows indexes) = same_
 does_leaves s w v (PrunesBlock extent next dropped inside spared turns drops) = record {
   others = turns.others;
   rows = search rules;
-  blocks = subst (λ m. w.blocks ≤ m) (sym drops.blocks) (self w.blocks);
+  blocks = subst (λ m. w.blocks ≤ m) (sym drops.blocks) (le_refl w.blocks);
   from = search rules;
 }
-  where
-    self : (n : ℕ) → n ≤ n
-    self n = omega arith
 does_leaves s w v (SweepsPage at page turns stepped sweeps) = same_leaves s w v _ _ turns stepped.rows.row stepped.rows.blocks
 does_leaves s w v (RestartsIndex at turns only) = same_leaves s w v _ _ turns only.rows.row only.rows.blocks
 does_leaves s w v (BeginsScan scan begins turns only) = same_leaves s w v _ _ turns only.rows.row only.rows.blocks

@@ -3,6 +3,7 @@
 use Rattle.std.proofs.Common.{◌≡◌, ℕ, ◌≤◌, ◌<◌, Some, sym, ◌∙◌, ap, subst, arith}
 use Rattle.std.specs.Prelude.{refl, length}
 use Rattle.std.proofs.lemmas.Option.{same_Some}
+use Rattle.std.proofs.Math.Nat.{le_antisymm, not-le_of_lt}
 use Rattle.block_model.specs.declared.reply.Point.{Point}
 use Rattle.block_model.specs.declared.reply.Point.TheVariants as points
 use Rattle.block_model.specs.declared.row.Row.{Row}
@@ -41,14 +42,11 @@ clear_point verdict = points.Clear
 pub next_once : (w : IndexView) (page : ℕ) (x y : Spot) (t u : IndexTuple) → IsNextTuple w.tuple page x t → IsNextTuple w.tuple page y u → (x ≡ y) × (t ≡ u)
 next_once w page x y t u one two = (place, same_Some _ _ (sym one.stands ∙ ap w.tuple place ∙ two.stands))
   where
-    both : (a b : ℕ) → a ≤ b → b ≤ a → a ≡ b
-    both a b le ge = omega arith
-
     block : x.block ≡ y.block
     block = one.on ∙ sym two.on
 
     slot : x.slot ≡ y.slot
-    slot = both x.slot y.slot (one.first y u two.on two.stands) (two.first x t one.on one.stands)
+    slot = le_antisymm (one.first y u two.on two.stands) (two.first x t one.on one.stands)
 
     place : x ≡ y
     place = λ i. record { block = block i; slot = slot i }
@@ -169,9 +167,6 @@ data SummarisePoint (w : IndexView) (s range : ℕ) : Phase → Point → Type 0
   MakesFinal : (progress : Progress) (on_index : OnIndex) (p : Point) → IsUniting on_index progress → OnIndexPoint w s range on_index p
       → SummarisePoint w s range (IsAt progress on_index) p
 
-passed : (next extent : ℕ) → next < extent → extent ≤ next → ⊥
-passed next extent below all = omega arith
-
 summarise_once : (w : IndexView) (s range : ℕ) (phase : Phase) (p q : Point) → SummarisePoint w s range phase p → SummarisePoint w s range phase q → p ≡ q
 summarise_once w s range _ _ _ LooksAtMap LooksAtMap = refl
 summarise_once w s range _ _ _ (LooksAtTuple x) (LooksAtTuple x') = refl
@@ -183,9 +178,9 @@ summarise_once w s range _ _ _ (SetsPlaceholder x) (SetsPlaceholder x') = refl
 summarise_once w s range _ _ _ ToExtent ToExtent = refl
 summarise_once w s range _ _ _ ToExtent (MakesFinal _ _ q none two) = absurd none
 summarise_once w s range _ _ _ (PassesNext extent next result below) (PassesNext extent' next' result' below') = refl
-summarise_once w s range _ _ _ (PassesNext extent next result below) (MakesFinal _ _ q all two) = absurd (passed next extent below all)
+summarise_once w s range _ _ _ (PassesNext extent next result below) (MakesFinal _ _ q all two) = absurd (not-le_of_lt below all)
 summarise_once w s range _ _ _ (MakesFinal _ _ p none one) ToExtent = absurd none
-summarise_once w s range _ _ _ (MakesFinal _ _ p all one) (PassesNext extent next result below) = absurd (passed next extent below all)
+summarise_once w s range _ _ _ (MakesFinal _ _ p all one) (PassesNext extent next result below) = absurd (not-le_of_lt below all)
 summarise_once w s range _ _ _ (MakesFinal progress on_index p all one) (MakesFinal progress' on_index' q all' two) =
     on_index_once w s range on_index p q one two
 

@@ -79,10 +79,7 @@ settles_lands s u v (GivesLock old done turns given rows indexes) =
 
 -- 0 0 comes first
 first_of_all : (n q : ℕ) → IsFrom 0 0 n q
-first_of_all zero q = inr ((λ i. 0), least q)
-  where
-    least : (q : ℕ) → 0 ≤ q
-    least q = omega arith
+first_of_all zero q = inr ((λ i. 0), omega arith)
 first_of_all (suc n) q = inl (some n)
   where
     some : (n : ℕ) → 0 < suc n

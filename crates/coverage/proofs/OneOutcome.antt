@@ -3,6 +3,7 @@ use Rattle.std.proofs.Common.{◌≡◌, ◌≢◌, ◌⊎◌, ⊎_elim, ℕ, �
 use Rattle.std.specs.Prelude.{refl}
 use Rattle.std.proofs.lemmas.Option.{same_Some, none-some}
 use Rattle.std.proofs.lemmas.Bool.{cases_eq, false≢true}
+use Rattle.std.proofs.Math.Nat.{le_of_lt, not-le_of_lt}
 use Rattle.block_model.specs.declared.row.Row.{Row}
 use Rattle.block_model.specs.declared.place.Spot.{Spot}
 use Rattle.coverage.specs.IndexView.{IndexTuple, Contents, Progress, ExtentUnread, Passing, PageKind, Unstarted, Mapping, Regular, Emptying, placeholder_length}
@@ -158,12 +159,9 @@ rows_until contents row t n none (suc m) le = ⊎_elim
 rows_same : (contents : Contents) (row : ℕ → Option Row) (n m : ℕ) (t : IndexTuple) → HasNoMoreRows row n → HasNoMoreRows row m
     → rows_added contents row n t ≡ rows_added contents row m t
 rows_same contents row n m t none none' = ⊎_elim
-    (λ (less : n < m). sym (rows_until contents row t n none m (before n m less)))
+    (λ (less : n < m). sym (rows_until contents row t n none m (le_of_lt less)))
     (λ (more : m ≤ n). rows_until contents row t m none' n more)
     (lt_or_ge n m)
-  where
-    before : (a c : ℕ) → a < c → a ≤ c
-    before a c less = omega arith
 
 -- A summariser's next state, and what decides it.
 pub data NextGrowth (w : IndexView) (s : ℕ) : PageKind → Phase → Type 0 where
@@ -261,9 +259,6 @@ module _ (w : IndexView) (s range : ℕ) where
   final_or_not x t u stands final stands' flag =
       false≢true (sym final ∙ ap (λ (q : IndexTuple). q.placeholder) (there_same w s range x t u stands stands') ∙ flag)
 
-  passed_or_not : (next extent : ℕ) → next < extent → extent ≤ next → ⊥
-  passed_or_not next extent below all = omega arith
-
   phase_same : (phase : Phase) (e f : Statement) → NextPhase w s range phase e → NextPhase w s range phase f → e ≡ f
   phase_same _ _ _ (LooksNamed x named) (LooksNamed y named') =
       ap (λ z. Maintaining range (NotBuilding (Held z))) (same_Some _ _ (sym named ∙ named'))
@@ -297,8 +292,8 @@ module _ (w : IndexView) (s range : ℕ) where
   phase_same _ _ _ (Passes extent next slots result wider below none made) (Passes extent' next' slots' result' wider' below' none' made') =
       ap (λ q. Maintaining range (IsAt (Passing extent (next + 1) q) Empty))
       (made ∙ rows_same w.contents (w.row next) slots slots' result none none' ∙ sym made')
-  phase_same _ _ _ (Passes extent next slots result wider below none made) (Unites _ _ _ _ h all two) = absurd (passed_or_not next extent below all)
-  phase_same _ _ _ (Unites _ _ _ _ h all one) (Passes extent next slots result wider below none made) = absurd (passed_or_not next extent below all)
+  phase_same _ _ _ (Passes extent next slots result wider below none made) (Unites _ _ _ _ h all two) = absurd (not-le_of_lt below all)
+  phase_same _ _ _ (Unites _ _ _ _ h all one) (Passes extent next slots result wider below none made) = absurd (not-le_of_lt below all)
   phase_same _ _ _ (Unites extent next result g h all one) (Unites _ _ _ _ k all' two) =
       ap (λ q. Maintaining range (IsAt (Passing extent next result) q)) (on_index_same w s range g h k one two)
   phase_same _ _ _ (Unites _ _ _ _ h all one) (CopiesUnited extent next result x old new stands united) =

@@ -2,6 +2,7 @@
 use Rattle.std.proofs.Common.{◌≡◌, ◌⊎◌, inl, inr, ⊎_elim, ℕ, ◌*◌, ◌≤◌, ◌<◌, true, false, List, [], ◌∷◌, sym, ◌∙◌, ap, subst, arith, suc}
 use Rattle.std.specs.Prelude.{refl, IsTrue}
 use Rattle.std.proofs.lemmas.Bool.{false≢true}
+use Rattle.std.proofs.Math.Nat.{le_antisymm, le_of_lt, ne_of_lt, not-le_of_lt}
 use Rattle.coverage.specs.Table.{Index, TableScan, Task, Resting, Reaches, Asks, Inserts, Considers, Maintains, Prunes, SweepsFrom, Sweeps, Restarts}
 use Rattle.block_model.specs.declared.row.RowId.{RowId}
 use Rattle.coverage.specs.RowOrder.{IsAmong}
@@ -11,47 +12,35 @@ use Rattle.coverage.specs.TableSteps.{first_block, IsFrom, ScanHasStep, HasStep,
 use Rattle.coverage.specs.TableSteps.{ToPage, Swept, JudgesNext, Scanned, ToMarks, Marked, HasNothingToMark, ListsFound, IsMaintained, RangesDone, NothingToSweep, OnlyTurns, Settles, GoesOn, GivesLock}
 use Rattle.coverage.specs.TableSteps.{TableStep}
 
-less_not_equal : (n m : ℕ) → n < m → n ≡ m → ⊥
-less_not_equal n m less is = omega arith
-
-less_not_more : (n m : ℕ) → n < m → m ≤ n → ⊥
-less_not_more n m less more = omega arith
-
 -- two places, each from the other on, are one
 from_once : (m p n q : ℕ) → IsFrom m p n q → IsFrom n q m p → (m ≡ n) × (p ≡ q)
 from_once m p n q one two = ⊎_elim
     (λ (less : m < n). ⊎_elim
-    (λ (more : n < m). absurd (less_not_more m n less (lt_le n m more)))
-    (λ (at : (n ≡ m) × (q ≤ p)). absurd (less_not_equal m n less (sym at.0)))
+    (λ (more : n < m). absurd (not-le_of_lt less (le_of_lt more)))
+    (λ (at : (n ≡ m) × (q ≤ p)). absurd (ne_of_lt less (sym at.0)))
     two)
     (λ (at : (m ≡ n) × (p ≤ q)). ⊎_elim
-    (λ (more : n < m). absurd (less_not_equal n m more (sym at.0)))
-    (λ (back : (n ≡ m) × (q ≤ p)). (at.0, both p q at.1 back.1))
+    (λ (more : n < m). absurd (ne_of_lt more (sym at.0)))
+    (λ (back : (n ≡ m) × (q ≤ p)). (at.0, le_antisymm at.1 back.1))
     two)
     one
-  where
-    lt_le : (a b : ℕ) → a < b → a ≤ b
-    lt_le a b less = omega arith
-
-    both : (a b : ℕ) → a ≤ b → b ≤ a → a ≡ b
-    both a b le ge = omega arith
 
 -- a scan with a step left neither goes to the next index nor is done
 scan_stays : (w : TableState) (scan : TableScan) → ScanHasStep w scan → scan.at < w.indexes → scan.extent ≤ first_block w scan.at scan.range → ⊥
 scan_stays w scan has inside all = ⊎_elim
     (λ (judges : (scan.at < w.indexes) × (first_block w scan.at scan.range < scan.extent)).
-    less_not_more (first_block w scan.at scan.range) scan.extent judges.1 all)
+    not-le_of_lt judges.1 all)
     (λ (reads : (scan.explains ≡ false) × (scan.at ≡ w.indexes) × ((b : ℕ) × IsTrue (scan.candidate b) × (scan.read ≤ b))).
-    less_not_equal scan.at w.indexes inside reads.1)
+    ne_of_lt inside reads.1)
     has
 
 scan_reads : (w : TableState) (scan : TableScan) → ScanHasStep w scan → scan.at ≡ w.indexes
     → (scan.explains ≡ true) ⊎ ((b : ℕ) → IsTrue (scan.candidate b) → b < scan.read) → ⊥
 scan_reads w scan has all done = ⊎_elim
-    (λ (judges : (scan.at < w.indexes) × (first_block w scan.at scan.range < scan.extent)). less_not_equal scan.at w.indexes judges.0 all)
+    (λ (judges : (scan.at < w.indexes) × (first_block w scan.at scan.range < scan.extent)). ne_of_lt judges.0 all)
     (λ (reads : (scan.explains ≡ false) × (scan.at ≡ w.indexes) × ((b : ℕ) × IsTrue (scan.candidate b) × (scan.read ≤ b))). ⊎_elim
     (λ (explains : scan.explains ≡ true). false≢true (sym reads.0 ∙ explains))
-    (λ (read : (b : ℕ) → IsTrue (scan.candidate b) → b < scan.read). less_not_more reads.2.0 scan.read (read reads.2.0 reads.2.1) reads.2.2)
+    (λ (read : (b : ℕ) → IsTrue (scan.candidate b) → b < scan.read). not-le_of_lt (read reads.2.0 reads.2.1) reads.2.2)
     done)
     has
 
@@ -79,7 +68,7 @@ module _ (w : TableState) where
   -- a statement whose next step is there stays at it
   stays : (old q : Task) → HasStep w old → Onward w old q → q ≡ old
   stays _ _ has (Stays task has') = refl
-  stays _ _ has (Pruned extent next new all more) = absurd (less_not_more next extent has all)
+  stays _ _ has (Pruned extent next new all more) = absurd (not-le_of_lt has all)
   stays _ _ has (JudgesNext scan new inside all empty more) = absurd (scan_stays w scan has inside all)
   stays _ _ has (Scanned scan read nothing) = absurd (scan_reads w scan has read.0 read.1)
   stays _ _ has (ToMarks scan id rest read reads deletes lists) = absurd (scan_reads w scan has read.0 read.1)
@@ -89,11 +78,11 @@ module _ (w : TableState) where
   onward_once _ _ q (Stays task has) other = sym (stays task q has other)
   onward_once _ p _ one (Stays task has) = stays task p has one
   onward_once _ _ _ (ToAsk b k r at inside asks) (ToIndex b' k' r' at' inside' not) = absurd (not asks)
-  onward_once _ _ _ (ToAsk b k r at inside asks) (Inserted b' k' r' at' all) = absurd (less_not_equal at w.indexes inside all)
+  onward_once _ _ _ (ToAsk b k r at inside asks) (Inserted b' k' r' at' all) = absurd (ne_of_lt inside all)
   onward_once _ _ _ (ToIndex b k r at inside not) (ToAsk b' k' r' at' inside' asks) = absurd (not asks)
-  onward_once _ _ _ (ToIndex b k r at inside not) (Inserted b' k' r' at' all) = absurd (less_not_equal at w.indexes inside all)
-  onward_once _ _ _ (Inserted b k r at all) (ToAsk b' k' r' at' inside asks) = absurd (less_not_equal at w.indexes inside all)
-  onward_once _ _ _ (Inserted b k r at all) (ToIndex b' k' r' at' inside not) = absurd (less_not_equal at w.indexes inside all)
+  onward_once _ _ _ (ToIndex b k r at inside not) (Inserted b' k' r' at' all) = absurd (ne_of_lt inside all)
+  onward_once _ _ _ (Inserted b k r at all) (ToAsk b' k' r' at' inside asks) = absurd (ne_of_lt inside all)
+  onward_once _ _ _ (Inserted b k r at all) (ToIndex b' k' r' at' inside not) = absurd (ne_of_lt inside all)
   onward_once _ _ _ (ToRange _ at range has) (NextIndex extent at' range' done inside) = absurd (done has)
   onward_once _ _ _ (NextIndex extent at range done inside) (ToRange _ at' range' has) = absurd (done has)
   onward_once _ p q (Pruned extent next new all more) (Pruned extent' next' new' all' more') = onward_once (SweepsFrom 0 0) p q more more'
@@ -104,15 +93,15 @@ module _ (w : TableState) where
   onward_once _ _ _ (Swept at from none some) (ToPage at' from' m p next) = absurd (none m p next.has next.after)
   onward_once _ p q (JudgesNext scan new inside all empty more) (JudgesNext scan' new' inside' all' empty' more') =
       onward_once (Scans (record scan { at = suc scan.at; range = 0 })) p q more more'
-  onward_once _ _ _ (JudgesNext scan new inside all empty more) (Scanned scan' read nothing) = absurd (less_not_equal scan.at w.indexes inside read.0)
+  onward_once _ _ _ (JudgesNext scan new inside all empty more) (Scanned scan' read nothing) = absurd (ne_of_lt inside read.0)
   onward_once _ _ _ (JudgesNext scan new inside all empty more) (ToMarks scan' id rest read reads deletes lists) =
-      absurd (less_not_equal scan.at w.indexes inside read.0)
+      absurd (ne_of_lt inside read.0)
   onward_once _ _ _ (Scanned scan read nothing) (JudgesNext scan' new inside all' empty more) =
-      absurd (less_not_equal scan.at w.indexes inside read.0)
+      absurd (ne_of_lt inside read.0)
   onward_once _ _ _ (Scanned scan read nothing) (ToMarks scan' id rest read' reads deletes lists) =
       absurd (nothing_or_some w scan id rest nothing reads deletes lists)
   onward_once _ _ _ (ToMarks scan id rest read reads deletes lists) (JudgesNext scan' new inside all' empty more) =
-      absurd (less_not_equal scan.at w.indexes inside read.0)
+      absurd (ne_of_lt inside read.0)
   onward_once _ _ _ (ToMarks scan id rest read reads deletes lists) (Scanned scan' read' nothing) =
       absurd (nothing_or_some w scan id rest nothing reads deletes lists)
   onward_once _ _ _ (ToMarks scan id rest read reads deletes lists) (ToMarks scan' id' rest' read' reads' deletes' lists') =
@@ -134,8 +123,8 @@ module _ (w : TableState) where
   pub onward_or_done : (old q : Task) → IsMaintained w old → Onward w old q → ⊥
   onward_or_done _ _ (RangesDone job at range done last) (Stays _ has) = has
   onward_or_done _ _ (RangesDone job at range done last) (ToRange job' at' range' has) = done has
-  onward_or_done _ _ (RangesDone _ at range done last) (NextIndex extent at' range' done' inside) = less_not_equal (suc at) w.indexes inside last
-  onward_or_done _ _ (NothingToSweep extent next all none) (Stays _ has) = less_not_more next extent has all
+  onward_or_done _ _ (RangesDone _ at range done last) (NextIndex extent at' range' done' inside) = ne_of_lt inside last
+  onward_or_done _ _ (NothingToSweep extent next all none) (Stays _ has) = not-le_of_lt has all
   onward_or_done _ q (NothingToSweep extent next all none) (Pruned extent' next' new all' more) = none_swept q none more
 
 -- where a statement comes to, there is a step for it, or it rests

@@ -2,6 +2,7 @@
 use Rattle.std.proofs.Common.{◌≡◌, ◌≢◌, ◌⊎◌, inl, inr, ⊎_elim, ℕ, ◌+◌, ◌*◌, ◌/◌, ◌≤◌, ◌<◌, Some, None, Bool, List, [], ◌∷◌, sym, ◌∙◌, ap, subst, arith}
 use Rattle.std.specs.Prelude.{refl}
 use Rattle.std.proofs.lemmas.Option.{same_Some, none-some}
+use Rattle.std.proofs.Math.Nat.{le_trans}
 use Rattle.block_model.specs.declared.place.Spot.{Spot}
 use Rattle.coverage.specs.IndexView.{IndexTuple, Progress, ExtentUnread, Passing, PageKind, Pages, IndexView, map_page_of, next_map_page}
 use Rattle.coverage.specs.IndexView.{range_of_block}
@@ -187,15 +188,12 @@ module _ (s : ℕ) (d : ℕ → ℕ → Bool) (w v : IndexView) (sound : IsSound
   within_on : (range : ℕ) (p : Progress) → IsPassWithin w range p → IsPassWithin v range p
   within_on range ExtentUnread known = tt
   within_on range (Passing extent next result) known = (
-    through extent w.blocks v.blocks known.0 pages.blocks,
+    le_trans known.0 pages.blocks,
     ⊎_elim
         (λ (le : next ≤ extent). inl le)
         (λ (is : next ≡ range * w.pages_per_range). inr (is ∙ ap (λ m. range * m) (sym pages.pages_per_range)))
         known.1,
   )
-    where
-      through : (a b c : ℕ) → a ≤ b → b ≤ c → a ≤ c
-      through a b c le le' = omega arith
 
   phase_pages_on : w.summarise_lock ≡ Some n → (range : ℕ) (phase : Phase) → KnowsPagesOfPhase w n range phase → KnowsPagesOfPhase v n range phase
   phase_pages_on held range (NotBuilding on_index) known = (locks_on range on_index known.0, sort_on held range on_index known.1)

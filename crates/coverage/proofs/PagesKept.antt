@@ -3,6 +3,7 @@ use Rattle.std.proofs.Common.{◌≡◌, ◌≢◌, ◌⊎◌, inl, inr, ⊎_eli
 use Rattle.std.specs.Prelude.{refl}
 use Rattle.std.proofs.lemmas.Option.{none-some}
 use Rattle.std.proofs.lemmas.Bool.{cases_eq}
+use Rattle.std.proofs.Math.Nat.{le_refl}
 use Rattle.block_model.specs.declared.row.Row.{Row}
 use Rattle.block_model.specs.declared.place.Spot.{Spot}
 use Rattle.coverage.specs.IndexView.{IndexTuple, Progress, ExtentUnread, Passing, PageKind, Unstarted, Mapping, Regular, Emptying, Pages, IndexView, placeholder_length}
@@ -250,7 +251,7 @@ module _ (s range : ℕ) (w v : IndexView) (ordered : AreOrdered w) (held : w.su
   turn_ordered : (kind : PageKind) (these : List ℕ) → TurnsKind s w v kind these → next_map_page w.pages < w.pages.limit → (kind ≡ Unstarted → ⊥)
       → ((x : Spot) (t : IndexTuple) → x.block ≡ next_map_page w.pages → w.tuple x ≡ Some t → (kind ≡ Regular) ⊎ (kind ≡ Emptying)) → AreOrdered v
   turn_ordered kind these turns low started holds =
-      order_turned w v ordered (next_map_page w.pages) kind turns.page (past w.pages.map_pages) low started (λ is. self (next_map_page w.pages)) first
+      order_turned w v ordered (next_map_page w.pages) kind turns.page (past w.pages.map_pages) low started (λ is. le_refl (next_map_page w.pages)) first
       (λ x t here.
       let was : w.tuple x ≡ Some t = sym (turns.frame.tuples.tuple x) ∙ here in
       ⊎_elim
@@ -261,9 +262,6 @@ module _ (s range : ℕ) (w v : IndexView) (ordered : AreOrdered w) (held : w.su
     where
       past : (n : ℕ) → n < n + 1
       past n = omega arith
-
-      self : (n : ℕ) → n ≤ n
-      self n = omega arith
 
       before : (p n : ℕ) → p < n + 1 → p ≤ n
       before p n less = omega arith

@@ -3,6 +3,7 @@ use Rattle.std.proofs.Common.{◌≡◌, ◌≢◌, ◌⊎◌, inl, inr, ⊎_eli
 use Rattle.std.specs.Prelude.{refl}
 use Rattle.std.proofs.lemmas.Option.{none-some}
 use Rattle.std.proofs.lemmas.Bool.{cases_eq}
+use Rattle.std.proofs.Math.Nat.{not-le_of_lt}
 use Rattle.block_model.specs.declared.place.Spot.{Spot}
 use Rattle.coverage.specs.IndexView.{IndexTuple, PageKind, Unstarted, Mapping, Regular, Emptying, Pages, IndexView, map_page_of, next_map_page}
 use Rattle.coverage.specs.Changes.{SameMap, SameTuples}
@@ -123,10 +124,7 @@ module _ (w v : IndexView) (ordered : AreOrdered w) where
         (lt_or_ge w.pages.map_pages page)
 
     none_before : (p : ℕ) → p < page → w.pages.kind p ≢ Unstarted
-    none_before p less is = cross p page less (lowest.1 p is)
-      where
-        cross : (a b : ℕ) → a < b → b ≤ a → ⊥
-        cross a b less more = omega arith
+    none_before p less is = not-le_of_lt less (lowest.1 p is)
 
     pub order_started : ((x : Spot) (t : IndexTuple) → v.tuple x ≡ Some t → (x.block ≡ page) ⊎ IsForTuples w.pages x.block) → EntriesWithin w v → AreOrdered v
     order_started tuples entries =

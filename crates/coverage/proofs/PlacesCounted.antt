@@ -1,6 +1,7 @@
 -- How many places are so at most, where one joins them or leaves them.
 use Rattle.std.proofs.Common.{◌≡◌, ◌≢◌, ◌⊎◌, inl, inr, ⊎_elim, ℕ, ◌≤◌, List, [], ◌∷◌, length, sym, ◌∙◌, subst, arith, zero, suc}
 use Rattle.std.specs.Prelude.{refl}
+use Rattle.std.proofs.Math.Nat.{le-suc, le_refl}
 use Rattle.block_model.specs.declared.place.Spot.{Spot}
 use Rattle.coverage.specs.StepsLeft.{IsIn, AreApart, AreAtMost}
 
@@ -28,10 +29,7 @@ one_less P Q x (suc m) is sub most = (
 module _ (P : Spot → Type 0) (x : Spot) where
   without : (xs : List Spot) → AreApart xs → ((y : Spot) → IsIn xs y → (y ≡ x) ⊎ P y)
       → (ys : List Spot) × AreApart ys × ((y : Spot) → IsIn ys y → P y × IsIn xs y) × (length xs ≤ suc (length ys))
-  without [] apart all = ([], tt, (λ y among. absurd among), least 0)
-    where
-      least : (n : ℕ) → n ≤ suc n
-      least n = omega arith
+  without [] apart all = ([], tt, (λ y among. absurd among), le-suc 0)
   without (z ∷ zs) apart all = ⊎_elim
       (λ (here : z ≡ x). (
         zs,
@@ -43,7 +41,7 @@ module _ (P : Spot → Type 0) (x : Spot) where
               (all y (inr among)),
           inr among,
         )),
-        self (suc (length zs)),
+        le_refl (suc (length zs)),
       ))
       (λ (is : P z).
       let rest = without zs apart.1 (λ y among. all y (inr among)) in (
@@ -57,9 +55,6 @@ module _ (P : Spot → Type 0) (x : Spot) where
       ))
       (all z (inl refl))
     where
-      self : (n : ℕ) → n ≤ n
-      self n = omega arith
-
       more : (m n : ℕ) → m ≤ suc n → suc m ≤ suc (suc n)
       more m n le = omega arith
 

@@ -2,6 +2,7 @@
 use Rattle.std.proofs.Common.{◌≡◌, ◌≢◌, ◌⊎◌, inl, inr, ⊎_elim, ℕ, ◌+◌, ◌≤◌, ◌<◌, List, [], ◌∷◌, length, sym, ◌∙◌, ap, subst, arith, suc}
 use Rattle.std.specs.Prelude.{refl, ◌↔◌}
 use Rattle.std.proofs.lemmas.Bool.{cases_eq}
+use Rattle.std.proofs.Math.Nat.{le-suc, le_refl, le_trans, lt_irrefl}
 use Rattle.coverage.specs.IndexView.{IndexView}
 use Rattle.coverage.specs.Statements.{Dropping, Phase, NotBuilding, Statement, Maintaining, Holding}
 use Rattle.coverage.specs.Knowing.{Knows}
@@ -50,43 +51,31 @@ abbrev Counts : (range count : ℕ) → Phase → Statement → Type 0
 Counts range count old new = ((count ≡ 0) × (next_uncounted range old ≤ uncounted_after range new))
     ⊎ ((count ≡ 1) × (next_uncounted range old ≡ range) × (uncounted_after range new ≡ suc range))
 
-self : (n : ℕ) → n ≤ n
-self n = omega arith
-
-onto : (n : ℕ) → n ≤ suc n
-onto n = omega arith
-
 module _ (s range : ℕ) (w v : IndexView) where
   growth_counts : (old new : Phase) → GrowthStep s range w v old new → next_uncounted range old ≤ next_uncounted range new
-  growth_counts _ _ (Grow grows free meta turns) = self range
-  growth_counts _ _ _ = self range
+  growth_counts _ _ (Grow grows free meta turns) = le_refl range
+  growth_counts _ _ _ = le_refl range
 
   step_counts : (old : Phase) (new : Statement) (step : SummariseStep s range w v old new) → Counts range (summarise_count step) old new
-  step_counts _ _ (IsFinal x t stands final reads) = inl (refl, onto range)
+  step_counts _ _ (IsFinal x t stands final reads) = inl (refl, le-suc range)
   step_counts _ _ (GrowMap old new step) = inl (refl, growth_counts old new step)
   step_counts _ _ (SwapFinal p x old new verdict swap) = inr (refl, refl, refl)
   step_counts _ _ (SetFinal p x y old new sets same) = inr (refl, refl, refl)
-  step_counts _ _ (DropOld x drops) = inl (refl, self (suc range))
-  step_counts _ _ _ = inl (refl, self range)
+  step_counts _ _ (DropOld x drops) = inl (refl, le_refl (suc range))
+  step_counts _ _ _ = inl (refl, le_refl range)
 
 from_mono : (at a b i m : ℕ) → a ≤ b → IsFrom at b i m → IsFrom at a i m
 from_mono at a b i m le from = ⊎_elim
     (λ (later : at < i). inl later)
-    (λ (same : (at ≡ i) × (b ≤ m)). inr (same.0, through a b m le same.1))
+    (λ (same : (at ≡ i) × (b ≤ m)). inr (same.0, le_trans le same.1))
     from
-  where
-    through : (a b m : ℕ) → a ≤ b → b ≤ m → a ≤ m
-    through a b m le le' = omega arith
 
 from_not : (at range n : ℕ) → n ≡ suc range → IsFrom at n at range → ⊥
 from_not at range n is from = ⊎_elim
-    (λ (later : at < at). apart at later)
+    (λ (later : at < at). lt_irrefl at later)
     (λ (same : (at ≡ at) × (n ≤ range)). past n range is same.1)
     from
   where
-    apart : (a : ℕ) → a < a → ⊥
-    apart a less = omega arith
-
     past : (n range : ℕ) → n ≡ suc range → n ≤ range → ⊥
     past n range is le = omega arith
 

@@ -3,6 +3,7 @@ use Rattle.std.proofs.Common.{◌≡◌, ◌≢◌, ◌⊎◌, inl, inr, ⊎_eli
 use Rattle.std.specs.Prelude.{refl, ◌↔◌}
 use Rattle.std.proofs.lemmas.Option.{same_Some, none-some}
 use Rattle.std.proofs.lemmas.Bool.{cases_eq}
+use Rattle.std.proofs.Math.Nat.{lt-suc_self, lt_of_le_of_lt, not-le_of_lt}
 use Rattle.block_model.specs.declared.row.Row.{Row}
 use Rattle.coverage.specs.IndexView.{IndexView}
 use Rattle.coverage.specs.Statements.{Phase}
@@ -130,12 +131,9 @@ index_full s w v does at number is =
 vacant_or_not : (w : TableState) (b k : ℕ) → IsVacantPlace w b k ⊎ (IsVacantPlace w b k → ⊥)
 vacant_or_not w b k = ⊎_elim
     (λ (low : k < w.rows_per_page). by low (w.row b k) refl)
-    (λ (high : w.rows_per_page ≤ k). inr (λ vacant. crosses k w.rows_per_page vacant.0 high))
+    (λ (high : w.rows_per_page ≤ k). inr (λ vacant. not-le_of_lt vacant.0 high))
     (lt_or_ge k w.rows_per_page)
   where
-    crosses : (n m : ℕ) → n < m → m ≤ n → ⊥
-    crosses n m less more = omega arith
-
     by : k < w.rows_per_page → (o : Option Row) → w.row b k ≡ o → IsVacantPlace w b k ⊎ (IsVacantPlace w b k → ⊥)
     by low None is = inl (low, is)
     by low (Some r) is = inr (λ vacant. none-some _ (sym vacant.1 ∙ is))
@@ -144,12 +142,9 @@ module _ (w : TableState) (no_place : (b k : ℕ) → IsFirstPlace w b k → ⊥
   abbrev HasVacant : ℕ → Type 0
   HasVacant b = (k : ℕ) × IsVacantPlace w b k × ((j : ℕ) → IsVacantPlace w b j → k ≤ j)
 
-  below_suc : (n : ℕ) → n < suc n
-  below_suc n = omega arith
-
   lowest_slot : (b k : ℕ) → IsVacantPlace w b k → HasVacant b
   lowest_slot b k vacant = ⊎_elim
-      (λ (none : (j : ℕ) → j < suc k → IsVacantPlace w b j → ⊥). absurd (none k (below_suc k) vacant))
+      (λ (none : (j : ℕ) → j < suc k → IsVacantPlace w b j → ⊥). absurd (none k (lt-suc_self k) vacant))
       (λ (one : (j : ℕ) × IsVacantPlace w b j × ((i : ℕ) → IsVacantPlace w b i → j ≤ i)). one)
       (lowest_below (IsVacantPlace w b) (vacant_or_not w b) (suc k))
 
@@ -177,21 +172,15 @@ module _ (w : TableState) (no_place : (b k : ℕ) → IsFirstPlace w b k → ⊥
   pub no_place_full : IsHeapFull w
   no_place_full b k vacant = ⊎_elim
       (λ (low : b < w.heap_limit). absurd (⊎_elim
-      (λ (none : (c : ℕ) → c < suc b → HasVacant c → ⊥). none b (below_suc b) (lowest_slot b k vacant))
+      (λ (none : (c : ℕ) → c < suc b → HasVacant c → ⊥). none b (lt-suc_self b) (lowest_slot b k vacant))
       (λ (one : (c : ℕ) × HasVacant c × ((i : ℕ) → HasVacant i → c ≤ i)).
-      no_block one.0 one.1 one.2 (through one.0 b w.heap_limit (one.2 b (lowest_slot b k vacant)) low))
+      no_block one.0 one.1 one.2 (lt_of_le_of_lt (one.2 b (lowest_slot b k vacant)) low))
       (lowest_below HasVacant block_or_not (suc b))))
       (λ (high : w.heap_limit ≤ b). high)
       (lt_or_ge b w.heap_limit)
-    where
-      through : (a b c : ℕ) → a ≤ b → b < c → a < c
-      through a b c le less = omega arith
 
 pub full_exactly : (w : TableState) → ((b k : ℕ) → IsFirstPlace w b k → ⊥) ↔ IsHeapFull w
-full_exactly w = ((λ none. no_place_full w none), λ full b k place. crosses b w.heap_limit place.below (full b k place.vacant))
-  where
-    crosses : (n m : ℕ) → n < m → m ≤ n → ⊥
-    crosses n m less more = omega arith
+full_exactly w = ((λ none. no_place_full w none), λ full b k place. not-le_of_lt place.below (full b k place.vacant))
 
 -- a statement that comes to rest by what its step does is refused
 abbrev IsRefused : Option Refusal → Type 0

@@ -3,6 +3,7 @@ use Rattle.std.proofs.Common.{◌≡◌, ◌≢◌, ◌⊎◌, inl, inr, ⊎_eli
 use Rattle.std.specs.Prelude.{refl, IsTrue, ◌↔◌}
 use Rattle.std.proofs.lemmas.Option.{same_Some, none-some}
 use Rattle.std.proofs.lemmas.Bool.{cases_eq, false≢true}
+use Rattle.std.proofs.Math.Nat.{le_refl, le_trans}
 use Rattle.block_model.specs.declared.row.Row.{Row}
 use Rattle.block_model.specs.declared.place.Spot.{Spot}
 use Rattle.coverage.specs.IndexView.{Pages, IndexView, range_of_block}
@@ -570,12 +571,6 @@ step_blocks s w v (EndScan scan turned reads counts) = same_blocks (index_view w
 step_blocks s w v (Elsewhere rests) = same_blocks (index_view w) (index_view v) rests.heap
 step_blocks s w v (Counts counts few same) = not_less v.blocks w.blocks (ap (λ (u : IndexState). u.blocks) same)
 
-through : (a b c : ℕ) → a ≤ b → b ≤ c → a ≤ c
-through a b c le le' = omega arith
-
-self : (n : ℕ) → n ≤ n
-self n = omega arith
-
 pub run_blocks : (steps : List ℕ) (w v : IndexState) → Run steps w v → w.blocks ≤ v.blocks
-run_blocks _ _ _ (Done w) = self w.blocks
-run_blocks _ _ _ (Next s rest w u v step more) = through w.blocks u.blocks v.blocks (step_blocks s w u step) (run_blocks rest u v more)
+run_blocks _ _ _ (Done w) = le_refl w.blocks
+run_blocks _ _ _ (Next s rest w u v step more) = le_trans (step_blocks s w u step) (run_blocks rest u v more)

@@ -3,6 +3,7 @@ use Rattle.std.proofs.Common.{◌≡◌, ⊎_elim, ℕ, ◌+◌, ◌-◌, ◌*�
 use Rattle.std.specs.Prelude.{refl}
 use Rattle.std.proofs.lemmas.Nat.{le-div}
 use Rattle.std.proofs.lemmas.Option.{same_Some, none-some}
+use Rattle.std.proofs.Math.Nat.{le_of_lt, ne_of_lt}
 use Rattle.block_model.specs.declared.row.Row.{Row}
 use Rattle.block_model.specs.declared.row.RowId.{RowId}
 use Rattle.block_model.specs.declared.place.Spot.{Spot}
@@ -84,10 +85,7 @@ ToMark rows z (Scans scan) = HasAtMostToMark z scan rows
 ToMark rows z task = Unit
 
 none_left : (rows : ℕ) (z : TableState) (task : Task) → Within rows 0 z task
-none_left rows z (Scans scan) = ((λ inside holds. least _), least _)
-  where
-    least : (n : ℕ) → 0 ≤ n
-    least n = omega arith
+none_left rows z (Scans scan) = ((λ inside holds. omega arith), omega arith)
 none_left rows z (Marks scan ids) = omega arith
 none_left rows z _ = tt
 
@@ -117,13 +115,10 @@ module _ (rows n : ℕ) (w : TableState) (old : TableScan) (inside : old.at < w.
   one_more : before + old.range < all
   one_more = through before old.range (ranges_below w old.extent old.at) all
       (one_of_ranges (w.index old.at).pages_per_range old.extent old.range ranged low)
-      (sum_grows (ranges_below w old.extent) (suc old.at) w.indexes (next_of old.at w.indexes inside))
+      (sum_grows (ranges_below w old.extent) (suc old.at) w.indexes inside)
     where
       through : (a b c d : ℕ) → b < c → a + c ≤ d → a + b < d
       through a b c d less le = omega arith
-
-      next_of : (a b : ℕ) → a < b → suc a ≤ b
-      next_of a b less = omega arith
 
   abbrev steps_held : ℕ → ℕ → Type 0
   steps_held held m = m ≤ held + 2 * (all - (before + old.range)) + unread old + rows
@@ -160,31 +155,22 @@ module _ (rows n : ℕ) (z w : TableState) (scan : TableScan) (next : ℕ) (foun
 
   read_within : Within rows n z (Scans (record scan { read = next + 1; found = found })) → Within rows (suc n) z (Scans scan)
   read_within left = (
-    (λ inside holds. absurd (crosses scan.at z.indexes inside all)),
+    (λ inside holds. absurd (ne_of_lt inside all)),
     subst (λ e. suc n ≤ held_steps scan.held + 2 * unjudged_ranges z scan + unread_blocks e scan.extent scan.read + rows) (sym reads.reads)
         (fewer (held_steps scan.held + 2 * unjudged_ranges z scan) scan.extent scan.read rows reads.unread below
         (subst (λ e. n ≤ held_steps scan.held + 2 * unjudged_ranges z scan + unread_blocks e scan.extent (next + 1) + rows) reads.reads left.1)),
   )
-    where
-      crosses : (a b : ℕ) → a < b → a ≡ b → ⊥
-      crosses a b less is = omega arith
 
 -- where a scan comes by its step: what is left there was left before it went on
 module _ (rows n : ℕ) (u : TableState) (ranged : (i : ℕ) → i < u.indexes → 0 < (u.index i).pages_per_range) where
   through_rows : (m a : ℕ) → n ≤ m → m ≤ rows → n ≤ a + rows
   through_rows m a le le' = omega arith
 
-  least : (m : ℕ) → 0 ≤ m
-  least m = omega arith
-
   no_range_left : (m k : ℕ) → m ≤ k → k ≤ m → k ≡ m
   no_range_left m k le ge = omega arith
 
   sums : (a b c : ℕ) → c ≡ b → a + c + 0 ≡ a + b
   sums a b c is = omega arith
-
-  crosses : (a b : ℕ) → a < b → a ≡ b → ⊥
-  crosses a b less is = omega arith
 
   found_to_mark : (scan : TableScan) (ids : List RowId) → FindsOnly u scan → ListsFound u scan ids → AreToMark u scan ids
   found_to_mark scan ids finds lists id among =
@@ -199,13 +185,13 @@ module _ (rows n : ℕ) (u : TableState) (ranged : (i : ℕ) → i < u.indexes �
   onward_within scan _ (Scanned _ read nothing) low finds few ends left =
       subst (λ m. Within rows m (table_of u) (Scans scan)) (sym (ends refl)) (none_left rows (table_of u) (Scans scan))
   onward_within scan _ (ToMarks _ id rest read reads deletes lists) low finds few ends left = (
-    (λ inside holds. absurd (crosses scan.at u.indexes inside read.0)),
+    (λ inside holds. absurd (ne_of_lt inside read.0)),
     through_rows (length (id ∷ rest)) (scan_steps u scan) left
         (few reads deletes (id ∷ rest) lists.ordered (found_to_mark scan (id ∷ rest) finds lists)),
   )
   onward_within scan t (JudgesNext _ _ inside all empty more) low finds few ends left =
       let next = record scan { at = suc scan.at; range = 0 } in
-      let on = onward_within next t more (λ _. least (ranges_below u scan.extent (suc scan.at))) finds few ends left in
+      let on = onward_within next t more (λ _. omega arith) finds few ends left in
       let f = ranges_below u scan.extent in
       let is = no_range_left scan.range (f scan.at) (low inside)
       (none_of_ranges (u.index scan.at).pages_per_range scan.extent scan.range (ranged scan.at inside) all) in (
@@ -217,7 +203,7 @@ module _ (rows n : ℕ) (u : TableState) (ranged : (i : ℕ) → i < u.indexes �
   marks_within : (scan : TableScan) (ids : List RowId) (t : Task) → Onward u (Marks scan ids) t → (t ≡ Resting → n ≡ 0) → Within rows n (table_of u) t
       → n ≤ length ids
   marks_within scan ids _ (Stays _ has) ends left = left
-  marks_within scan _ _ (Marked _) ends left = subst (λ m. m ≤ 0) (sym (ends refl)) (least 0)
+  marks_within scan _ _ (Marked _) ends left = subst (λ m. m ≤ 0) (sym (ends refl)) (omega arith)
 
 -- what a delete has to mark at most is the same all along
 judge_marks : (rows : ℕ) (w : TableState) (old new : TableScan) → JudgeStep (index_view_at old.at w) old new → HasAtMostToMark w old rows
@@ -258,12 +244,6 @@ module _ (s rows : ℕ) where
     kept_u : IsTableKept u
     kept_u = table_between_kept s w u kept step.does
 
-    least_of : (a b : ℕ) → a < b → a ≤ b
-    least_of a b less = omega arith
-
-    next_of : (a b : ℕ) → a < b → suc a ≤ b
-    next_of a b less = omega arith
-
     crossed : (a b c : ℕ) → a ≡ b → c ≡ b → a < c → ⊥
     crossed a b c is same less = omega arith
 
@@ -287,7 +267,7 @@ module _ (s rows : ℕ) where
         (scan_left new now only
         (λ _. subst (λ z. new.range ≤ ranges_below z new.extent new.at) (sym (same_table w u only))
         (judge_range (λ e a r. r ≤ ranges_below w e a) w old new judge
-        (least_of old.range (ranges_below w old.extent old.at) lower) (next_of old.range (ranges_below w old.extent old.at) lower)))
+        (le_of_lt lower) lower))
         (judge_marks rows w old new judge few))
     step_within _ _ (DidRead scan next found reads only) was now few =
         read_within rows n (table_of w) w scan next found reads reads.judged (((kept.exact s scan was).candidate next).0 reads.given).0

@@ -3,6 +3,7 @@ use Rattle.std.proofs.Common.{◌≡◌, ◌≢◌, ◌⊎◌, inl, inr, ⊎_eli
 use Rattle.std.specs.Prelude.{refl, IsTrue}
 use Rattle.std.proofs.lemmas.Option.{none-some}
 use Rattle.std.proofs.lemmas.Bool.{cases_eq}
+use Rattle.std.proofs.Math.Nat.{le_of_lt, lt_of_lt_of_le, not-le_of_lt}
 use Rattle.block_model.specs.declared.reply.Point.TheVariants as points
 use Rattle.block_model.specs.declared.row.Row.{Row}
 use Rattle.block_model.specs.declared.row.RowId.{RowId}
@@ -30,12 +31,6 @@ use Rattle.coverage.proofs.InTable.{judge_at}
 use Rattle.coverage.proofs.FoundListed.{found_listed}
 use Rattle.coverage.proofs.TableSeen.{table_between_kept}
 use Rattle.coverage.proofs.InIndexStep.{insert_no_step, maintain_no_step}
-
-crosses : (n m : ℕ) → n < m → m ≤ n → ⊥
-crosses n m less more = omega arith
-
-less_through : (a b c : ℕ) → a < b → b ≤ c → a < c
-less_through a b c less le = omega arith
 
 -- a scan that is through with its ranges and blocks replies, or marks what it found
 module _ (u : TableState) (scan : TableScan) (none : (new : Task) → Onward u (Scans scan) new → ⊥) (finds : FindsOnly u scan)
@@ -80,7 +75,7 @@ scan_on u (suc n) scan none finds ids lists is held = ⊎_elim
     scan_on u n (record scan { at = suc scan.at; range = 0 })
     (λ new onward. none new (JudgesNext scan new (inside scan.at u.indexes is) all empty onward)) finds ids
     (record { ordered = lists.ordered; all = lists.all; only = lists.only }) (next scan.at u.indexes is) (inl empty))
-    (λ (more : first_block u scan.at scan.range < scan.extent). crosses (first_block u scan.at scan.range) scan.extent more all)
+    (λ (more : first_block u scan.at scan.range < scan.extent). not-le_of_lt more all)
     held)
     (lt_or_ge (first_block u scan.at scan.range) scan.extent)
   where
@@ -119,9 +114,6 @@ module _ (w : TableState) (s : ℕ) (kept : IsTableKept w) (can : CanGoOn w) (ho
       let left = left_over q.at w.indexes le in
       scan_on u left.0 q none (kept_u.finds s q (pick_same s (Scans q) (w.task s))) listed.0 listed.1 left.1 held
 
-  weaker : (a b : ℕ) → a < b → a ≤ b
-  weaker a b less = omega arith
-
   same_le : (a b : ℕ) → a ≡ b → a ≤ b
   same_le a b is = omega arith
 
@@ -137,7 +129,7 @@ module _ (w : TableState) (s : ℕ) (kept : IsTableKept w) (can : CanGoOn w) (ho
           (no_onward w s stuck (turned w s (Scans q)) (Scans q) (pick_same s (Scans q) (w.task s))
           (Judges scan q inside low step (turns_here w s (Scans scan) (Scans q) was) (only_here w s (Scans q))) (judge_point step) refl)
           (judged_next (λ at range extent. first_block w at range < extent) (index_view_at scan.at w) scan q low step)
-          (subst (λ n. n ≤ w.indexes) (sym (judge_at (index_view_at scan.at w) scan q step)) (weaker scan.at w.indexes inside))
+          (subst (λ n. n ≤ w.indexes) (sym (judge_at (index_view_at scan.at w) scan q step)) (le_of_lt inside))
 
   read_goes_on : (scan : TableScan) → w.task s ≡ Scans scan → scan.explains ≡ false → scan.at ≡ w.indexes → (b : ℕ) → IsTrue (scan.candidate b)
       → scan.read ≤ b → ⊥
@@ -199,9 +191,9 @@ module _ (w : TableState) (s : ℕ) (kept : IsTableKept w) (can : CanGoOn w) (ho
   -- the range that a summariser is at has a block of the table
   range_of : (job : Job) (at range : ℕ) → at < w.indexes → IsExtentWithin w job → HasRange w job at range → ((only : ℕ) → job ≡ Desummarising only → ⊥)
       → first_block w at range < w.blocks
-  range_of (EachRange extent) at range below le has summarises = less_through (first_block w at range) extent w.blocks has le
+  range_of (EachRange extent) at range below le has summarises = lt_of_lt_of_le has le
   range_of (OneRange extent only) at range below le has summarises =
-      subst (λ m. first_block w at m < w.blocks) (sym has.0) (less_through (first_block w at only) extent w.blocks has.1 le)
+      subst (λ m. first_block w at m < w.blocks) (sym has.0) (lt_of_lt_of_le has.1 le)
   range_of (WholeRanges extent) at range below le has summarises =
       first_below range (w.index at).pages_per_range extent w.blocks (kept.indexes at below).sound.ranged has le
     where

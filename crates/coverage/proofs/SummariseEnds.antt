@@ -2,6 +2,7 @@
 use Rattle.std.proofs.Common.{◌≡◌, ◌⊎◌, inl, inr, ⊎_elim, ℕ, ◌+◌, ◌-◌, ◌*◌, ◌/◌, ◌≤◌, ◌<◌, Bool, true, false, Some, length, sym, ◌∙◌, ap, subst, arith, suc, suc-mul}
 use Rattle.std.specs.Prelude.{refl}
 use Rattle.std.proofs.lemmas.Option.{none-some}
+use Rattle.std.proofs.Math.Nat.{le_refl}
 use Rattle.block_model.specs.declared.place.Spot.{Spot}
 use Rattle.coverage.specs.IndexView.{IndexTuple, Progress, ExtentUnread, Passing, IndexView}
 use Rattle.coverage.specs.Statements.{OnIndex, Empty, Held, Copied, Moving, Dropping, Phase, NotBuilding, Vacant, Growing, Evacuating, Placing, IsAt, Statement, Maintaining, Holding}
@@ -120,7 +121,7 @@ module _ (w : IndexView) (s range most later tail tuples : ℕ) (has : AreAtMost
       fewer_pages : (g c : ℕ) → (g - 1) * c ≤ g * c
       fewer_pages g c = ⊎_elim
           (λ (some : 0 < g). below ((g - 1) * c) (g * c) c (one_page g c some))
-          (λ (none : g ≤ 0). subst (λ k. k * c ≤ g * c) (zeroth g none) (self (g * c)))
+          (λ (none : g ≤ 0). subst (λ k. k * c ≤ g * c) (zeroth g none) (le_refl (g * c)))
           (lt_or_ge 0 g)
         where
           below : (a b c : ℕ) → b ≡ a + c → a ≤ b
@@ -128,9 +129,6 @@ module _ (w : IndexView) (s range most later tail tuples : ℕ) (has : AreAtMost
 
           zeroth : (g : ℕ) → g ≤ 0 → g ≡ g - 1
           zeroth g none = omega arith
-
-          self : (n : ℕ) → n ≤ n
-          self n = omega arith
 
       enough : (a b : ℕ) → a ≤ b → (per + 9) + a + tail ≤ (per + 10) + b + tail
       enough a b le = omega arith
@@ -338,12 +336,9 @@ module _ (w0 : TableState) (s : ℕ) (job : Job) (is : IsBuilder job) (at per mo
       → (k : ℕ) (w : TableState) → StepsAlone s k w → IsTableKept w → (n range later : ℕ) (phase : Phase) → w.task s ≡ Maintains job at range phase
       → later ≡ later_ranges w job at range → LeftOf w n range later phase → k ≤ n
   alone_left behind _ _ (LastAlone w v step p point) kept n range later phase was same left =
-      next 0 w v step kept (λ _. refl) (λ m _ _ _ _ _ _. least m) (λ m _. least m) n range later phase (step.between.task s)
+      next 0 w v step kept (λ _. refl) (λ m _ _ _ _ _ _. omega arith) (λ m _. omega arith) n range later phase (step.between.task s)
       (subst (λ t. Did s w step.between t (step.between.task s)) was (step_did s w step.between p step.does point)) refl same
       (subst (IsInTable w) was (kept.inside s)) left
-    where
-      least : (m : ℕ) → 0 ≤ m
-      least m = omega arith
   alone_left behind _ _ (OneMoreAlone k w v step p point going more) kept n range later phase was same left =
       next k w v step kept (λ rests. absurd (going rests))
       (λ m range' later' phase' now same' left'. alone_left behind k v more (table_step_kept s w v kept step) m range' later' phase' now same' left')

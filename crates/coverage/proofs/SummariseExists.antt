@@ -3,6 +3,7 @@ use Rattle.std.proofs.Common.{◌≡◌, ◌≢◌, ◌⊎◌, inl, inr, ⊎_eli
 use Rattle.std.specs.Prelude.{refl, List, [], ◌∷◌, length}
 use Rattle.std.proofs.lemmas.Option.{same_Some, none-some}
 use Rattle.std.proofs.lemmas.Bool.{cases_eq}
+use Rattle.std.proofs.Math.Nat.{not-le_of_lt}
 use Rattle.block_model.specs.declared.place.Spot.{Spot}
 use Rattle.coverage.specs.IndexView.{IndexTuple, Progress, ExtentUnread, Passing, PageKind, Unstarted, Mapping, Regular, Emptying, IndexView, placeholder_length, IsRangeOf}
 use Rattle.coverage.specs.IndexView.{map_page_of, next_map_page, IsPastMap, NamesPlaceholder}
@@ -249,11 +250,8 @@ module _ (s range : ℕ) (w : IndexView) (slots : HasFreeSlots w.tuple) (blocks 
       grows_by (w.pages.kind (next_map_page w.pages)) (record { short = past; below = low; is = refl }) stuck free)
       (λ (full : w.pages.limit ≤ next_map_page w.pages). free.1 w.pages.limit (MapFull past full))
       (lt_or_ge (next_map_page w.pages) w.pages.limit))
-      (λ (long : map_page_of range ≤ w.pages.map_pages). places (λ past. cross w.pages.map_pages (map_page_of range) past long) stuck free)
+      (λ (long : map_page_of range ≤ w.pages.map_pages). places (λ past. not-le_of_lt past long) stuck free)
       (lt_or_ge w.pages.map_pages (map_page_of range))
-    where
-      cross : (a b : ℕ) → a < b → b ≤ a → ⊥
-      cross a b less le = omega arith
 
   -- the range's entry becomes a place, and the locks stay
   abbrev set_view : ℕ → Spot → IndexView

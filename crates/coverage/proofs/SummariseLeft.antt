@@ -2,6 +2,7 @@
 use Rattle.std.proofs.Common.{◌≡◌, ◌≢◌, ◌⊎◌, inl, inr, ⊎_elim, ℕ, ◌+◌, ◌-◌, ◌*◌, ◌≤◌, ◌<◌, min, List, [], ◌∷◌, length, Bool, true, false, Some, None, sym, ◌∙◌, ap, subst, arith, suc, suc-mul, add-one}
 use Rattle.std.specs.Prelude.{refl}
 use Rattle.std.proofs.lemmas.Option.{none-some}
+use Rattle.std.proofs.Math.Nat.{le_of_lt}
 use Rattle.block_model.specs.declared.place.Spot.{Spot}
 use Rattle.coverage.specs.IndexView.{IndexTuple, Progress, ExtentUnread, Passing, PageKind, Unstarted, Mapping, Regular, Emptying, Pages, IndexView, map_page_of, next_map_page, IsPastMap}
 use Rattle.coverage.specs.Changes.{IsUntouched}
@@ -269,11 +270,8 @@ module _ (s range per most later tail n : ℕ) (w v : IndexView) where
     base = base;
     emptying = begun g tuples base grows;
     enough = to_page tail n (per + 8) ((per + 8) + (3 * tuples + 2)) (g * c) ((g - 1) * c) c
-        (one_page g c (pages_some w.pages.limit w.pages.map_pages g grows.below base.pages)) (weaker ((per + 8) + (3 * tuples + 2)) ((per + 8) + c) (room_for tuples base.room)) enough;
+        (one_page g c (pages_some w.pages.limit w.pages.map_pages g grows.below base.pages)) (le_of_lt (room_for tuples base.room)) enough;
   }
-    where
-      weaker : (a b : ℕ) → a < b → a ≤ b
-      weaker a b less = omega arith
   empties (Empties g tuples on page base emptying enough) grows = record {
     g = g;
     tuples = tuples;

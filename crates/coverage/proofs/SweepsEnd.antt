@@ -43,11 +43,8 @@ module _ (u : TableState) (kept : IsTableKept u) where
 
   -- a sweep has no more before it than the pages of all indexes
   at_most_all : (m p : ℕ) → m < u.indexes → (all - sum_below (suc m) (page_limit u)) + (page_limit u m - p) ≤ all
-  at_most_all m p below = counts all (sum_below m (page_limit u)) (page_limit u m) p (sum_grows (page_limit u) (suc m) u.indexes (next m u.indexes below))
+  at_most_all m p below = counts all (sum_below m (page_limit u)) (page_limit u m) p (sum_grows (page_limit u) (suc m) u.indexes below)
     where
-      next : (a b : ℕ) → a < b → suc a ≤ b
-      next a b less = omega arith
-
       counts : (a b c p : ℕ) → b + c ≤ a → (a - (b + c)) + (c - p) ≤ a
       counts a b c p le = omega arith
 
@@ -57,7 +54,7 @@ module _ (u : TableState) (kept : IsTableKept u) where
   next_fewer at page m p has from = ⊎_elim
       (λ (later : at < m).
       other (sum_below (suc at) (page_limit u)) (sum_below m (page_limit u)) (page_limit u m) all p (page_limit u at - page)
-      (sum_grows (page_limit u) (suc at) m (step at m later)) (sum_grows (page_limit u) (suc m) u.indexes (step m u.indexes has.0)) inside.0 inside.1)
+      (sum_grows (page_limit u) (suc at) m later) (sum_grows (page_limit u) (suc m) u.indexes has.0) inside.0 inside.1)
       (λ (same : (at ≡ m) × (suc page ≤ p)).
       subst (λ n. cleaning_steps u (Sweeps m p) < cleaning_steps u (Sweeps n page)) (sym same.0)
       (fewer (all - sum_below (suc m) (page_limit u)) (page_limit u m) page p same.1 inside.1))
@@ -65,9 +62,6 @@ module _ (u : TableState) (kept : IsTableKept u) where
     where
       inside : (0 < p) × (p < page_limit u m)
       inside = page_within u m p kept has
-
-      step : (a b : ℕ) → a < b → suc a ≤ b
-      step a b less = omega arith
 
       fewer : (a c page p : ℕ) → suc page ≤ p → p < c → a + (c - p) < a + (c - page)
       fewer a c page p after below = omega arith

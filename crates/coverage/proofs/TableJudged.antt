@@ -1,13 +1,13 @@
 -- What scans have judged, and how, is what their candidates say.
 use Rattle.std.proofs.Common.{◌≡◌, ◌≢◌, ◌⊎◌, inl, inr, ⊎_elim, ℕ, ◌*◌, ◌/◌, ◌≤◌, ◌<◌, Option, Some, None, Bool, true, false, sym, ◌∙◌, ap, subst, arith, zero, suc}
 use Rattle.std.specs.Prelude.{refl, IsTrue, ◌↔◌}
-use Rattle.std.proofs.Math.Nat.{lt_of_mul-lt-mul_right, div-mul-le_self}
+use Rattle.std.proofs.Math.Nat.{lt_of_mul-lt-mul_right, div-mul-le_self, lt-suc_self, lt_irrefl, lt_of_le_of_lt, lt_of_lt_of_le, not-suc-le-zero}
 use Rattle.std.proofs.lemmas.Option.{same_Some, none-some}
 use Rattle.std.proofs.lemmas.Bool.{cases_eq, false≢true}
 use Rattle.coverage.specs.IndexView.{range_of_block}
 use Rattle.coverage.specs.Statements.{Idle, Inserting, Maintaining, Holding}
 use Rattle.coverage.proofs.Runs.{insert_keeps}
-use Rattle.coverage.proofs.Numbers.{last_or_below}
+use Rattle.coverage.proofs.Numbers.{last_or_below, below_next}
 use Rattle.coverage.specs.Table.{Index, TableScan, Resting, Scans, TableState, pick, judged_with, index_view_at}
 use Rattle.coverage.specs.TableSteps.{SameIndexes, OnlyTurns, StepsIn, range_in, first_block, JudgeStep, JudgeMap, JudgeNoEntry, JudgeGone}
 use Rattle.coverage.specs.TableSteps.{JudgeKeeps, JudgeDrops, Fails, ScanBegins, Does, PutsRow, AsksSummary, InsertGoes, InsertCompletes, RefusesInsert}
@@ -114,15 +114,12 @@ module _ (old : TableScan) (keeps : Bool) where
       ∙ pick_both i old.at (old.judged i range))
       other
 
-less_self : (n : ℕ) → n < n → ⊥
-less_self n less = omega arith
-
 module _ (w : TableState) (old : TableScan) (exact : JudgesExactly w old) where
   -- the range at hand isn't judged before
   fresh : old.judged old.at old.range ≢ None → ⊥
   fresh some = ⊎_elim
-      (λ (before : old.at < old.at). less_self old.at before)
-      (λ (at : (old.at ≡ old.at) × (old.range < old.range)). less_self old.range at.1)
+      (λ (before : old.at < old.at). lt_irrefl old.at before)
+      (λ (at : (old.at ≡ old.at) × (old.range < old.range)). lt_irrefl old.range at.1)
       (exact.behind old.at old.range some)
 
   not_false : (i range : ℕ) → IsHere old true i range → old.judged i range ≡ Some false → ⊥
@@ -154,15 +151,12 @@ module _ (w : TableState) (old : TableScan) (exact : JudgesExactly w old) where
       (λ (is : IsHere old keeps i range). inr (is.0, less_suc range old.range is.1))
       (λ (other : IsElsewhere old keeps i range). ⊎_elim
       (λ (before : i < old.at). inl before)
-      (λ (at : (i ≡ old.at) × (range < old.range)). inr (at.0, wider range old.range at.1))
+      (λ (at : (i ≡ old.at) × (range < old.range)). inr (at.0, below_next at.1))
       (exact.behind i range (λ none. some (judged_elsewhere old keeps i range other ∙ none))))
       (here_or_not old keeps i range)
     where
       less_suc : (a b : ℕ) → a ≡ b → a < suc b
       less_suc a b is = omega arith
-
-      wider : (a b : ℕ) → a < b → a < suc b
-      wider a b less = omega arith
 
   abbrev LeftIn : (ℕ → ℕ → Option Bool) → ℕ → Type 0
   LeftIn judged b = (b < old.extent) × ((i : ℕ) → i < w.indexes → judged i (range_in w i b) ≢ Some false)
@@ -237,30 +231,21 @@ next_exact w scan exact all = record {
       (λ (is : i ≡ scan.at). exact.judged i m below (inr (is, lower i m is low)) low)
       (λ (before : i < scan.at). exact.judged i m below (inl before) low)
       (last_or_below i scan.at less))
-      (λ (at : (i ≡ suc scan.at) × (m < 0)). absurd (none m at.1))
+      (λ (at : (i ≡ suc scan.at) × (m < 0)). absurd (not-suc-le-zero at.1))
       behind;
   behind = λ i m some. ⊎_elim
-      (λ (before : i < scan.at). inl (wider i scan.at before))
+      (λ (before : i < scan.at). inl (below_next before))
       (λ (at : (i ≡ scan.at) × (m < scan.range)). inl (less_suc i scan.at at.0))
       (exact.behind i m some);
 }
   where
-    none : (m : ℕ) → m < 0 → ⊥
-    none m less = omega arith
-
-    wider : (a b : ℕ) → a < b → a < suc b
-    wider a b less = omega arith
-
     less_suc : (a b : ℕ) → a ≡ b → a < suc b
     less_suc a b is = omega arith
-
-    through : (a b c : ℕ) → a < b → b ≤ c → a < c
-    through a b c less le = omega arith
 
     lower : (i m : ℕ) → i ≡ scan.at → first_block w i m < scan.extent → m < scan.range
     lower i m is low =
         lt_of_mul-lt-mul_right (w.index scan.at).pages_per_range
-        (through (m * (w.index scan.at).pages_per_range) scan.extent (scan.range * (w.index scan.at).pages_per_range)
+        (lt_of_lt_of_le
         (subst (λ j. first_block w j m < scan.extent) is low) all)
 
 begin_exact : (w : TableState) (scan : TableScan) → ScanBegins w scan → JudgesExactly w scan
@@ -270,14 +255,11 @@ begin_exact w scan begins = record {
     λ h. (begins.candidate b).1 (subst (λ n. b < n) begins.extent h.0),
   );
   judged = λ i m below behind low. absurd (⊎_elim
-      (λ (before : i < scan.at). none i (subst (λ n. i < n) begins.at before))
-      (λ (at : (i ≡ scan.at) × (m < scan.range)). none m (subst (λ n. m < n) begins.range at.1))
+      (λ (before : i < scan.at). not-suc-le-zero (subst (λ n. i < n) begins.at before))
+      (λ (at : (i ≡ scan.at) × (m < scan.range)). not-suc-le-zero (subst (λ n. m < n) begins.range at.1))
       behind);
   behind = λ i m some. absurd (some (begins.judged i m));
 }
-  where
-    none : (m : ℕ) → m < 0 → ⊥
-    none m less = omega arith
 
 module _ (s : ℕ) (w v : TableState) (kept : OfScans JudgesExactly w) where
   own_exact : (scan : TableScan) → ScanComes s w v scan → JudgesExactly w scan
@@ -307,26 +289,17 @@ kept_or_not (Some false) not = absurd (not refl)
 
 all_kept : (n : ℕ) (judged : ℕ → Option Bool) → ((i : ℕ) → i < n → judged i ≢ Some false)
     → ((i : ℕ) → i < n → judged i ≡ Some true) ⊎ ((i : ℕ) × (i < n) × (judged i ≡ None))
-all_kept zero judged not = inl (λ i below. absurd (none i below))
-  where
-    none : (i : ℕ) → i < zero → ⊥
-    none i below = omega arith
+all_kept zero judged not = inl (λ i below. absurd (not-suc-le-zero below))
 all_kept (suc n) judged not = ⊎_elim
     (λ (all : (i : ℕ) → i < n → judged i ≡ Some true). ⊎_elim
     (λ (kept : judged n ≡ Some true). inl (λ i below. ⊎_elim
     (λ (is : i ≡ n). ap judged is ∙ kept)
     (λ (less : i < n). all i less)
     (last_or_below i n below)))
-    (λ (none : judged n ≡ None). inr (n, self n, none))
-    (kept_or_not (judged n) (not n (self n))))
-    (λ (one : (i : ℕ) × (i < n) × (judged i ≡ None)). inr (one.0, wider one.0 n one.1, one.2))
-    (all_kept n judged (λ i below. not i (wider i n below)))
-  where
-    self : (m : ℕ) → m < suc m
-    self m = omega arith
-
-    wider : (a b : ℕ) → a < b → a < suc b
-    wider a b less = omega arith
+    (λ (none : judged n ≡ None). inr (n, lt-suc_self n, none))
+    (kept_or_not (judged n) (not n (lt-suc_self n))))
+    (λ (one : (i : ℕ) × (i < n) × (judged i ≡ None)). inr (one.0, below_next one.1, one.2))
+    (all_kept n judged (λ i below. not i (below_next below)))
 
 pub given_or_unjudged : (w : TableState) (scan : TableScan) (b : ℕ) → JudgesExactly w scan → IsTrue (scan.candidate b) → IsGiven w scan b ⊎ IsUnjudged w scan b
 given_or_unjudged w scan b exact is =
@@ -349,10 +322,7 @@ replied_given w scan exact onward b = (
 )
   where
     starts : (i : ℕ) (q : TableScan) → b < q.extent → first_block w i (range_in w i b) < q.extent
-    starts i q low = through (first_block w i (range_in w i b)) b q.extent (div-mul-le_self b (w.index i).pages_per_range) low
-      where
-        through : (a c d : ℕ) → a ≤ c → c < d → a < d
-        through a c d le less = omega arith
+    starts i q low = lt_of_le_of_lt (div-mul-le_self b (w.index i).pages_per_range) low
 
     all_judged : (q : TableScan) → JudgesExactly w q → Onward w (Scans q) Resting → (i : ℕ) → i < w.indexes → b < q.extent → q.judged i (range_in w i b) ≢ None
     all_judged _ exact (JudgesNext q _ inside all empty more) i below low =

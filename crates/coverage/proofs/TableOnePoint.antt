@@ -2,6 +2,7 @@
 use Rattle.std.proofs.Common.{◌≡◌, ℕ, ◌+◌, ◌<◌, Option, Some, None, Bool, List, ◌∷◌, sym, ◌∙◌, ap, subst, arith, suc}
 use Rattle.std.specs.Prelude.{refl}
 use Rattle.std.proofs.lemmas.Option.{same_Some, none-some}
+use Rattle.std.proofs.Math.Nat.{ne_of_lt}
 use Rattle.block_model.specs.declared.reply.Point.{Point}
 use Rattle.block_model.specs.declared.reply.Point.TheVariants as points
 use Rattle.block_model.specs.declared.row.Row.{Row}
@@ -68,9 +69,6 @@ judge_held w old _ (JudgeGone x held gone) = ap point_of_held (sym held)
 judge_held w old _ (JudgeKeeps x t held stands keeps) = ap point_of_held (sym held)
 judge_held w old _ (JudgeDrops x t candidate held stands drops excludes others) = ap point_of_held (sym held)
 
-less_not_equal : (n m : ℕ) → n < m → n ≡ m → ⊥
-less_not_equal n m less is = omega arith
-
 -- one point, and one task afterwards
 abbrev SameNext : (p q : Point) (t u : Task) → Type 0
 SameNext p q t u = (p ≡ q) × (t ≡ u)
@@ -92,8 +90,8 @@ task_once w s _ _ _ _ _ (ToJudge old new inside one) (ToJudge _ new' inside' two
   judge_held (index_view_at old.at w) old new one ∙ sym (judge_held (index_view_at old.at w) old new' two),
   ap Scans (judge_once (index_view_at old.at w) old new new' one two),
 )
-task_once w s _ _ _ _ _ (ToJudge old new inside one) (ToRead _ next found reads) = absurd (less_not_equal old.at w.indexes inside reads.judged)
-task_once w s _ _ _ _ _ (ToRead scan next found reads) (ToJudge _ new inside two) = absurd (less_not_equal scan.at w.indexes inside reads.judged)
+task_once w s _ _ _ _ _ (ToJudge old new inside one) (ToRead _ next found reads) = absurd (ne_of_lt inside reads.judged)
+task_once w s _ _ _ _ _ (ToRead scan next found reads) (ToJudge _ new inside two) = absurd (ne_of_lt inside reads.judged)
 task_once w s _ _ _ _ _ (ToRead scan next found reads) (ToRead _ next' found' reads') =
     let same = reads_once w scan next next' found found' reads reads' in
     (refl, λ i. Scans (record scan { read = same.0 i + 1; found = λ b k. same.1 b k i }))

@@ -3,6 +3,7 @@ use Rattle.std.proofs.Common.{◌≡◌, ◌≢◌, ◌⊎◌, inl, inr, ⊎_eli
 use Rattle.std.specs.Prelude.{refl, IsTrue}
 use Rattle.std.proofs.lemmas.Option.{same_Some, none-some}
 use Rattle.std.proofs.lemmas.Bool.{false≢true}
+use Rattle.std.proofs.Math.Nat.{le_antisymm, not-le_of_lt}
 use Rattle.block_model.specs.declared.row.Row.{Row}
 use Rattle.block_model.specs.declared.row.RowId.{RowId}
 use Rattle.block_model.specs.declared.place.Spot.{Spot}
@@ -111,11 +112,8 @@ pub reads_once : (w : TableState) (scan : TableScan) (m n : ℕ) (f g : ℕ → 
 reads_once w scan m n f g one two =
     (same, λ b k. same_test (f b k) (g b k) (λ has. finds f g m n one two same b k has) (λ has. finds g f n m two one (sym same) b k has))
   where
-    both : (a b : ℕ) → a ≤ b → b ≤ a → a ≡ b
-    both a b le ge = omega arith
-
     same : m ≡ n
-    same = both m n (one.first n two.given two.unread) (two.first m one.given one.unread)
+    same = le_antisymm (one.first n two.given two.unread) (two.first m one.given one.unread)
 
     finds : (f g : ℕ → ℕ → Bool) (m n : ℕ) → ReadsPage w scan m f → ReadsPage w scan n g → m ≡ n → (b k : ℕ) → IsTrue (f b k) → IsTrue (g b k)
     finds f g m n one two same b k has = ⊎_elim
@@ -145,12 +143,9 @@ replied_finds w s b k scan kept is onward reads sees =
       row.1,
       λ matches. ⊎_elim
           (λ (found : IsTrue (scan.found b k)). found)
-          (λ (left : IsTrue (scan.candidate b) × (scan.read ≤ b)). absurd (apart scan.read b left.1 (replied_reads w scan onward reads b left.0)))
+          (λ (left : IsTrue (scan.candidate b) × (scan.read ≤ b)). absurd (not-le_of_lt (replied_reads w scan onward reads b left.0) left.1))
           (row.2 matches),
     )
-  where
-    apart : (n m : ℕ) → n ≤ m → m < n → ⊥
-    apart n m le less = omega arith
 
 -- a delete that comes to its marks has found each matching row that it sees, and lists it
 module _ (v : TableState) (b k : ℕ) (scan : TableScan) where
@@ -169,14 +164,11 @@ module _ (v : TableState) (b k : ℕ) (scan : TableScan) where
         (λ (found : IsTrue (q.found b k)). found)
         (λ (left : IsTrue (q.candidate b) × (q.read ≤ b)). absurd (⊎_elim
         (λ (explains : q.explains ≡ true). false≢true (sym reads ∙ explains))
-        (λ (all : (c : ℕ) → IsTrue (q.candidate c) → c < q.read). apart q.read b left.1 (all b left.0))
+        (λ (all : (c : ℕ) → IsTrue (q.candidate c) → c < q.read). not-le_of_lt (all b left.0) left.1)
         read.1))
         (way.2 matches))
         way.1,
   )
-    where
-      apart : (n m : ℕ) → n ≤ m → m < n → ⊥
-      apart n m le less = omega arith
 
   pub marked_finds : (s : ℕ) (marking : TableScan) (ids : List RowId) → IsTableKept v → v.task s ≡ Scans scan → Onward v (Scans scan) (Marks marking ids)
       → IsTrue (scan.sees b k) → IsListed marking ids

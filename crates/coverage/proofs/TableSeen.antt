@@ -2,6 +2,7 @@
 use Rattle.std.proofs.Common.{◌≡◌, ◌≢◌, inl, inr, ⊎_elim, ℕ, ◌+◌, ◌≤◌, ◌<◌, Some, Bool, sym, ◌∙◌, ap, subst, arith}
 use Rattle.std.specs.Prelude.{IsTrue, List}
 use Rattle.std.proofs.lemmas.Bool.{cases_eq}
+use Rattle.std.proofs.Math.Nat.{le_refl, lt_of_lt_of_le}
 use Rattle.block_model.specs.declared.row.Row.{Row}
 use Rattle.coverage.specs.Table.{TableScan, Scans, TableState, index_view_at}
 use Rattle.coverage.specs.TableSteps.{SeesPlace, JudgeStep, JudgeMap, JudgeNoEntry, JudgeGone, JudgeKeeps, JudgeDrops, ReadsPage, Does, Settles}
@@ -66,11 +67,8 @@ module _ (s : ℕ) (w v : TableState) (kept : IsTableKept w) where
         row.0,
         only.rows.row b k ∙ row.1,
         λ matches. inr
-            ((begins.candidate b).1 (kept.rows_below b k row.0 row.1), subst (λ m. m ≤ b) (sym begins.read) (least b)),
+            ((begins.candidate b).1 (kept.rows_below b k row.0 row.1), subst (λ m. m ≤ b) (sym begins.read) (omega arith)),
       )
-    where
-      least : (n : ℕ) → 0 ≤ n
-      least n = omega arith
   own_seen _ (ScanJudged old new was inside step only) = rows_same w v only.rows.row new (judged_seen old new was inside step)
   own_seen _ (ScanRead scan next found was reads only) =
       rows_same w v only.rows.row (record scan { read = next + 1; found = found }) (read_seen scan next found was reads)
@@ -86,12 +84,9 @@ module _ (s : ℕ) (w v : TableState) (kept : IsTableKept w) where
 
   below_after : Leaves s w v → (b k : ℕ) (r : Row) → v.row b k ≡ Some r → b < v.blocks
   below_after leaves b k r there = ⊎_elim
-      (λ (was : w.row b k ≡ Some r). within b w.blocks v.blocks (kept.rows_below b k r was) leaves.blocks)
+      (λ (was : w.row b k ≡ Some r). lt_of_lt_of_le (kept.rows_below b k r was) leaves.blocks)
       (λ (inside : b < v.blocks). inside)
       (leaves.from b k r there)
-    where
-      within : (b n m : ℕ) → b < n → n ≤ m → b < m
-      within b n m low more = omega arith
 
 settles_seen : (s : ℕ) (w v : TableState) → OfScans SeesRows w → Settles s w v → OfScans SeesRows v
 settles_seen s w v kept settles = scans_settled SeesRows s w v kept (λ scan rows indexes. rows_same w v rows.row scan) (λ scan inside all seen. seen) settles
@@ -133,10 +128,7 @@ table_run_kept _ _ _ kept (TableNext s rest w u v step more) = table_run_kept re
 
 -- the table's blocks only grow
 pub table_run_blocks : (steps : List ℕ) (w v : TableState) → TableRun steps w v → w.blocks ≤ v.blocks
-table_run_blocks _ _ _ (TableDone w) = self w.blocks
-  where
-    self : (n : ℕ) → n ≤ n
-    self n = omega arith
+table_run_blocks _ _ _ (TableDone w) = le_refl w.blocks
 table_run_blocks _ _ _ (TableNext s rest w u v step more) =
     through w.blocks step.between.blocks u.blocks v.blocks (does_leaves s w step.between step.does).blocks
     (settles_leaves s step.between u step.settles).blocks (table_run_blocks rest u v more)

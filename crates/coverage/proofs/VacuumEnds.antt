@@ -1,6 +1,7 @@
 -- A vacuum whose session steps alone from one of its indexes on ends, or waits, or lacks a page, within the sum over these indexes.
 use Rattle.std.proofs.Common.{◌≡◌, ⊎_elim, ℕ, ◌+◌, ◌-◌, ◌*◌, ◌/◌, ◌≤◌, ◌<◌, Some, false, true, sym, ◌∙◌, ap, subst, arith, zero, suc}
 use Rattle.std.specs.Prelude.{refl}
+use Rattle.std.proofs.Math.Nat.{le_refl}
 use Rattle.block_model.specs.declared.reply.Point.{Point}
 use Rattle.coverage.specs.Statements.{Empty, NotBuilding}
 use Rattle.coverage.specs.Table.{WholeRanges, Index, Task, Resting, Considers, Maintains, Restarts, TableState, index_view_at}
@@ -52,11 +53,8 @@ module _ (w0 : TableState) (s : ℕ) (tuples : ℕ → ℕ) (has : (i : ℕ) →
   module _ (at : ℕ) (below : at < w0.indexes) where
     -- what is left is enough for this index and those behind it
     split : (n : ℕ) → all ≤ n + sum_below at f → f at + rest_of at ≤ n
-    split n le = counts (sum_below at f) (f at) all n (sum_grows f (suc at) w0.indexes (next at w0.indexes below)) le
+    split n le = counts (sum_below at f) (f at) all n (sum_grows f (suc at) w0.indexes below) le
       where
-        next : (a b : ℕ) → a < b → suc a ≤ b
-        next a b less = omega arith
-
         counts : (b c a n : ℕ) → b + c ≤ a → a ≤ n + b → c + (a - (b + c)) ≤ n
         counts b c a n le enough = omega arith
 
@@ -79,11 +77,8 @@ module _ (w0 : TableState) (s : ℕ) (tuples : ℕ → ℕ) (has : (i : ℕ) →
     }) (within (per_of at + 9) (whole at * (per_of at + 9)) ((whole at - 1) * (per_of at + 9))
         (pages_of at * (3 * (tuples at + whole at) + 3)) (rest_of at) n one_range enough)
       where
-        self : (n : ℕ) → n ≤ n
-        self n = omega arith
-
         here : (x : TableState) → FromStays at w0 x → x.index at ≡ w0.index at
-        here x same = same.index at (self at)
+        here x same = same.index at (le_refl at)
 
         ranged : 0 < per_of at
         ranged = subst (λ (x : Index). 0 < x.pages_per_range) (here w was) (kept.indexes at (subst (λ m. at < m) (sym was.indexes) below)).sound.ranged
@@ -107,10 +102,7 @@ module _ (w0 : TableState) (s : ℕ) (tuples : ℕ → ℕ) (has : (i : ℕ) →
     -- the ranges behind the first one
     later_same : (w v : TableState) → FromStays at w0 w → FromStays at w0 v → whole at - 1 ≡ later_ranges v (WholeRanges w.blocks) at 0
     later_same w v was stays = ap (λ n. n / per_of at - 1) (sym was.blocks)
-        ∙ ap (λ (x : Index). w.blocks / x.pages_per_range - 1) (sym (stays.index at (self at)))
-      where
-        self : (n : ℕ) → n ≤ n
-        self n = omega arith
+        ∙ ap (λ (x : Index). w.blocks / x.pages_per_range - 1) (sym (stays.index at (le_refl at)))
 
     later_stays : (v : TableState) → FromStays at w0 v → FromStays (suc at) w0 v
     later_stays v stays = record {

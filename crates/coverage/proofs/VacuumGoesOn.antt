@@ -3,6 +3,7 @@ use Rattle.std.proofs.Common.{◌≡◌, ◌≢◌, ◌⊎◌, inl, inr, ⊎_eli
 use Rattle.std.specs.Prelude.{refl}
 use Rattle.std.proofs.lemmas.Option.{same_Some, none-some}
 use Rattle.std.proofs.lemmas.Bool.{cases_eq, false≢true}
+use Rattle.std.proofs.Math.Nat.{le_antisymm, lt-suc_self, not-suc-le-zero}
 use Rattle.block_model.specs.declared.reply.Point.{Point}
 use Rattle.block_model.specs.declared.reply.Point.TheVariants as points
 use Rattle.block_model.specs.declared.place.Spot.{Spot}
@@ -86,28 +87,22 @@ module _ (u : TableState) (at from : ℕ) (stuck : (new : Task) → Onward u (Sw
           (cases_eq m n))
           (lt_or_ge n m)
 
-  nothing : (n : ℕ) → n < zero → ⊥
-  nothing n less = omega arith
-
-  self : (n : ℕ) → n < suc n
-  self n = omega arith
-
   pages_below : (m : ℕ) → ((n q : ℕ) → n < m → NoneAt n q) → (j p : ℕ) → p < j → NoneAt m p
-  pages_below m lower zero p less = absurd (nothing p less)
+  pages_below m lower zero p less = absurd (not-suc-le-zero less)
   pages_below m lower (suc j) p less = ⊎_elim
       (λ (is : p ≡ j). subst (NoneAt m) (sym is) (next_is m j lower (pages_below m lower j)))
       (λ (before : p < j). pages_below m lower j p before)
       (last_or_below p j less)
 
   indexes_below : (k m p : ℕ) → m < k → NoneAt m p
-  indexes_below zero m p less = absurd (nothing m less)
+  indexes_below zero m p less = absurd (not-suc-le-zero less)
   indexes_below (suc k) m p less = ⊎_elim
-      (λ (is : m ≡ k). subst (λ j. NoneAt j p) (sym is) (pages_below k (indexes_below k) (suc p) p (self p)))
+      (λ (is : m ≡ k). subst (λ j. NoneAt j p) (sym is) (pages_below k (indexes_below k) (suc p) p (lt-suc_self p)))
       (λ (before : m < k). indexes_below k m p before)
       (last_or_below m k less)
 
   sweep_onward : 0 < u.indexes → ⊥
-  sweep_onward some = stuck (Restarts 0) (Swept at from (λ m p has after. indexes_below (suc m) m p (self m) has after) some)
+  sweep_onward some = stuck (Restarts 0) (Swept at from (λ m p has after. indexes_below (suc m) m p (lt-suc_self m) has after) some)
 
 pub prune_goes_on : (w : TableState) (s extent next : ℕ) → w.task s ≡ Prunes extent next → next < extent → IsTableStuck w s → ⊥
 prune_goes_on w s extent next was below stuck = ⊎_elim
@@ -150,7 +145,7 @@ restart_goes_on w s at was inside stuck = ⊎_elim
     no_onward w s stuck u task now does points.Right refl (Restarts (suc at)) (NextIndex w.blocks at 0 (cross (first_block w at (0 + 1)) w.blocks less) more))
     (λ (last : w.indexes ≤ suc at).
     no_end w s stuck u task now does points.Right refl
-    (RangesDone (WholeRanges w.blocks) at 0 (cross (first_block w at (0 + 1)) w.blocks less) (same (suc at) w.indexes inside last)))
+    (RangesDone (WholeRanges w.blocks) at 0 (cross (first_block w at (0 + 1)) w.blocks less) (le_antisymm inside last)))
     (lt_or_ge (suc at) w.indexes))
     (λ (le : first_block w at (0 + 1) ≤ w.blocks). no_onward w s stuck u task now does points.Right refl _ (ToRange (WholeRanges w.blocks) at 0 le))
     (lt_or_ge w.blocks (first_block w at (0 + 1)))
@@ -166,9 +161,6 @@ restart_goes_on w s at was inside stuck = ⊎_elim
 
     cross : (a b : ℕ) → b < a → a ≤ b → ⊥
     cross a b less le = omega arith
-
-    same : (a b : ℕ) → a ≤ b → b ≤ a → a ≡ b
-    same a b le ge = omega arith
 
     does : Does s w u
     does = RestartsIndex at (turns_here w s (Restarts at) task was) (only_here w s task)

@@ -3,6 +3,7 @@ use Rattle.std.proofs.Common.{◌≡◌, ◌⊎◌, inl, inr, ⊎_elim, ℕ, ◌
 use Rattle.std.specs.Prelude.{refl, ◌≢◌}
 use Rattle.std.proofs.lemmas.Option.{none-some}
 use Rattle.std.proofs.lemmas.Bool.{false≢true}
+use Rattle.std.proofs.Math.Nat.{lt_irrefl}
 use Rattle.block_model.specs.declared.row.Row.{Row}
 use Rattle.block_model.specs.declared.place.Spot.{Spot}
 use Rattle.coverage.specs.IndexView.{IndexTuple, Regular, Emptying, IndexView}
@@ -250,9 +251,6 @@ from_two q is = omega arith
 not_three : (q : ℕ) → q ≡ 2 → 3 ≤ q → ⊥
 not_three q is high = omega arith
 
-not_less : (n : ℕ) → n < n → ⊥
-not_less n less = omega arith
-
 first_of_all : (e : Task) (n q : ℕ) → HasTuples (block_pruned e) n q → IsFrom 0 0 n q → IsFrom 0 2 n q
 first_of_all e zero q has from = inr (refl, from_two q (tuple_page q has.1))
 first_of_all e (suc n) q has from = inl (omega arith)
@@ -349,7 +347,7 @@ sweep_first = record {
   where
     next_of_all : (n q : ℕ) → HasTuples (first_index_swept (SweepsFrom 0 3)) n q → IsFrom 0 3 n q → IsFrom 1 2 n q
     next_of_all zero q has from = absurd (⊎_elim
-        (λ (less : 0 < 0). not_less 0 less)
+        (λ (less : 0 < 0). lt_irrefl 0 less)
         (λ (high : (0 ≡ 0) × (3 ≤ q)). not_three q (tuple_page q has.1) high.1)
         from)
     next_of_all (suc zero) q has from = inr (refl, from_two q (tuple_page q has.1))
@@ -373,7 +371,7 @@ sweep_second = record {
         (λ (high : (1 ≡ 0) × (3 ≤ p)). differ 0 1 (sym high.0) (omega arith))
         from
     none_left (suc zero) p has from = ⊎_elim
-        (λ (less : 1 < 1). not_less 1 less)
+        (λ (less : 1 < 1). lt_irrefl 1 less)
         (λ (high : (1 ≡ 1) × (3 ≤ p)). not_three p (tuple_page p has.1) high.1)
         from
     none_left (suc (suc m)) p has from = past m has.0

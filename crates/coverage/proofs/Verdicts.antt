@@ -3,6 +3,7 @@ use Rattle.std.proofs.Common.{◌≡◌, ◌≢◌, ◌⊎◌, inl, inr, ⊎_eli
 use Rattle.std.proofs.lemmas.Option.{same_Some, none-some}
 use Rattle.std.proofs.lemmas.Bool.{cases_eq}
 use Rattle.std.specs.Prelude.{refl, List, [], ◌∷◌, length}
+use Rattle.std.proofs.Math.Nat.{le_antisymm, not-le_of_lt}
 use Rattle.block_model.specs.declared.place.Spot.{Spot}
 use Rattle.coverage.specs.IndexView.{IndexTuple, PageKind, Unstarted, Regular, IndexView, map_page_of}
 use Rattle.coverage.specs.Changes.{IsFree}
@@ -27,10 +28,7 @@ locked_or_free w s p = by (w.lock p) refl
         (cases_eq n s)
 
 lowest_once : (Is : ℕ → Type 0) (p q : ℕ) → IsLowestNumber Is p → IsLowestNumber Is q → p ≡ q
-lowest_once Is p q one two = both p q (one.1 q two.0) (two.1 p one.0)
-  where
-    both : (p q : ℕ) → p ≤ q → q ≤ p → p ≡ q
-    both p q le ge = omega arith
+lowest_once Is p q one two = le_antisymm (one.1 q two.0) (two.1 p one.0)
 
 target_once : (w : IndexView) (need p q : ℕ) → IsTarget w.pages (bytes_of w.tuple) need p → IsTarget w.pages (bytes_of w.tuple) need q → p ≡ q
 target_once w need p q (OnStarted one) (OnStarted two) = lowest_once (PageHasRoom w.pages (bytes_of w.tuple) need) p q one two
@@ -110,11 +108,8 @@ fits_or_moves : (w : IndexView) (x : Spot) (new : IndexTuple) → w.pages.kind x
     → ⊥
 fits_or_moves w x new regular room must = ⊎_elim
     (λ (other : w.pages.kind x.block ≢ Regular). other regular)
-    (λ (tight : place_room (bytes_of w.tuple) x < length new.bytes). apart (length new.bytes) (place_room (bytes_of w.tuple) x) room tight)
+    (λ (tight : place_room (bytes_of w.tuple) x < length new.bytes). not-le_of_lt tight room)
     must
-  where
-    apart : (n m : ℕ) → n ≤ m → m < n → ⊥
-    apart n m le less = omega arith
 
 pub swap_once : (w : IndexView) (s range : ℕ) (x : Spot) (old new : IndexTuple) (p q : Verdict) → SwapVerdict w s range x old new p
     → SwapVerdict w s range x old new q → p ≡ q
