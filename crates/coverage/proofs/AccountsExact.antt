@@ -109,17 +109,11 @@ pub queue_within : (s : ℕ) (w v : TableState) (does : Does s w v) (a b : Accou
     → length b.queue ≤ queue_limit
 queue_within s w v does a b step within = by (adds_goes s a b w v does step.adds)
   where
-    longer : (n m : ℕ) → n < m → n + 1 ≤ m
-    longer n m less = omega arith
-
     shorter : (n : ℕ) → n + 1 ≤ queue_limit → n ≤ queue_limit
     shorter n le = omega arith
 
     by : QueueGoes a.queue b.queue → length b.queue ≤ queue_limit
     by (Stays same) = subst (λ q. length q ≤ queue_limit) (sym same) within
     by (JoinsEnd asked less queue) =
-        subst (λ n. n ≤ queue_limit) (sym (ap length queue ∙ length-append a.queue (asked ∷ []))) (longer (length a.queue) queue_limit less)
-    by (FirstGoes asked queue) = shorter_of (length b.queue) (length a.queue) (ap length queue) within
-      where
-        shorter_of : (n m : ℕ) → m ≡ suc n → m ≤ queue_limit → n ≤ queue_limit
-        shorter_of n m is le = omega arith
+        subst (λ n. n ≤ queue_limit) (sym (ap length queue ∙ length-append a.queue (asked ∷ []))) (omega arith)
+    by (FirstGoes asked queue) = omega (arith, ap length queue, within)

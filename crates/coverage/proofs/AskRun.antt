@@ -184,12 +184,9 @@ module _ (r q : Row) where
         (record { vacant = (omega arith, refl); below = omega arith; first = λ c j vacant. first_place c j })
         (record { was = refl; now = refl; others = others_rest Resting (Reaches 0 0 r 0) })
         (takes_row 0 1 0 no_row (one_row r) r (Reaches 0 0 r 0) refl one_more refl);
-    settles = GoesOn (Reaches 0 0 r 0) (Inserts 0 0 r 0 Empty) (ToIndex 0 0 r 0 (omega arith) (λ asks. nothing asks.3))
+    settles = GoesOn (Reaches 0 0 r 0) (Inserts 0 0 r 0 Empty) (ToIndex 0 0 r 0 (omega arith) (λ asks. omega (arith, asks.3)))
         (turns 1 (one_row r) (Reaches 0 0 r 0) (Inserts 0 0 r 0 Empty)) (only 1 (one_row r) (Reaches 0 0 r 0) (Inserts 0 0 r 0 Empty));
   }
-    where
-      nothing : 0 < 0 → ⊥
-      nothing less = omega arith
 
   second_row : TableStep 0 (state 1 (one_row r) None (first_at Resting)) (state 2 (two_rows r q) None (first_at (Asks 1 0 q 0)))
   second_row = record {

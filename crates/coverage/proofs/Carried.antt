@@ -11,9 +11,6 @@ use Rattle.coverage.specs.IsSound.{IsSound}
 use Rattle.coverage.specs.GoesOn.{GoesOn}
 use Rattle.coverage.specs.Changes.{UnitesResult, Carries, MayEnd, Swaps, MovePuts, MoveSets}
 
-past : (b next extent : ℕ) → next ≤ b → b < extent → extent ≤ next → ⊥
-past b next extent from below all = omega arith
-
 module _ (w : IndexView) (s range : ℕ) (x : Spot) (old new : IndexTuple) (entry : w.entry range ≡ Some x) (here : w.tuple x ≡ Some old)
     (carries : Carries w s range old new) (b : ℕ) (r : Row) (of : range ≡ range_of_block w b) where
   pub carried : IsAccounted w b r → IsTrue (new.includes r) ⊎ ((new.placeholder ≡ true) × AllAwait w b r)
@@ -24,7 +21,7 @@ module _ (w : IndexView) (s range : ℕ) (x : Spot) (old new : IndexTuple) (entr
       (λ (ends : (new.placeholder ≡ false) ×
       UnitesResult w s range new). ⊎_elim
       (λ (has : IsTrue (ends.1.2.includes r)). inl (ends.1.5 r has))
-      (λ (left : (ends.1.1 ≤ b) × (b < ends.1.0)). absurd (past b ends.1.1 ends.1.0 left.0 left.1 ends.1.4))
+      (λ (left : (ends.1.1 ≤ b) × (b < ends.1.0)). absurd (omega (arith, left.0, left.1, ends.1.4)))
       (waits.1 s (Passing ends.1.0 ends.1.1 ends.1.2) (subst (λ m. IsBuilding w s m (Passing ends.1.0 ends.1.1 ends.1.2)) of ends.1.3)))
       carries.1)
       (settled x old (subst (λ m. w.entry m ≡ Some x) of entry) here)

@@ -28,20 +28,14 @@ module _ (Is : ℕ → Type 0) where
     same_below : (m d : ℕ) → n ≡ m → IsCountBelow Is m d → c ≡ d
     same_below m d is two = below_once m c d (subst (λ j. IsCountBelow Is j c) is one) two
 
-    reached : (a b : ℕ) → a ≤ suc b → b < a → a ≡ suc b
-    reached a b le low = omega arith
-
-    first : (a : ℕ) → a ≤ 0 → a ≡ 0
-    first a le = omega arith
-
     count_stays : (m d : ℕ) → IsCountBelow Is m d → n ≤ m → c ≡ d
-    count_stays _ _ NoneBelow le = same_below 0 0 (first n le) NoneBelow
+    count_stays _ _ NoneBelow le = same_below 0 0 (omega arith) NoneBelow
     count_stays _ _ (OneMoreBelow j d is two) le = ⊎_elim
-        (λ (before : j < n). same_below (suc j) (suc d) (reached n j le before) (OneMoreBelow j d is two))
+        (λ (before : j < n). same_below (suc j) (suc d) (omega arith) (OneMoreBelow j d is two))
         (λ (after : n ≤ j). absurd (none j after is))
         (lt_or_ge j n)
     count_stays _ _ (NotThisOne j d not two) le = ⊎_elim
-        (λ (before : j < n). same_below (suc j) d (reached n j le before) (NotThisOne j d not two))
+        (λ (before : j < n). same_below (suc j) d (omega arith) (NotThisOne j d not two))
         (λ (after : n ≤ j). count_stays j d two after)
         (lt_or_ge j n)
 

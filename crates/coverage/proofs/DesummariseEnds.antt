@@ -28,18 +28,12 @@ module _ (s range n : ℕ) (w v : IndexView) where
   one_more : (m : ℕ) → n ≤ m → suc n ≤ suc m
   one_more m le = omega arith
 
-  last_one : (m : ℕ) → n ≡ 0 → suc n ≤ suc m
-  last_one m is = omega arith
-
   clear_within : (old : Phase) (e : Statement) → DesummariseStep s range w v old e → AfterClear n (v.entry range) e → ClearWithin (suc n) (w.entry range) old
   clear_within _ _ (ClearMap x named reads) left = one_more 2 (left.0 (reads.frame.map.entry range ∙ named))
-  clear_within _ _ (ClearNone none reads) left = last_one 2 left
-  clear_within _ _ (Clear x verdict clears these) left = ((λ _. one_more 1 left), wider (one_more 1 left))
-    where
-      wider : suc n ≤ 2 → suc n ≤ 4
-      wider le = omega arith
+  clear_within _ _ (ClearNone none reads) left = omega arith
+  clear_within _ _ (Clear x verdict clears these) left = ((λ _. one_more 1 left), omega (arith, one_more 1 left))
   clear_within _ _ (ClearAgain x verdict reads) left = ((λ is. absurd (clear_differs w s range x verdict is)), one_more 3 left)
-  clear_within _ _ (DropCleared x drops) left = last_one 0 left
+  clear_within _ _ (DropCleared x drops) left = omega arith
 
 clear_bound : (n : ℕ) (entry : Option Spot) (phase : Phase) → ClearWithin n entry phase → n ≤ desummarise_steps phase
 clear_bound n entry (NotBuilding (Held x)) left = left.1
@@ -80,10 +74,7 @@ module _ (s : ℕ) where
 
     no_other : (only at range : ℕ) (t : Task) → Onward u (Considers (Desummarising only) at (suc range)) t → range ≡ only → ⊥
     no_other only at range _ (Stays _ has) is = has
-    no_other only at range _ (ToRange _ _ _ has) is = differs range only has is
-      where
-        differs : (a b : ℕ) → suc a ≡ b → a ≡ b → ⊥
-        differs a b is same = omega arith
+    no_other only at range _ (ToRange _ _ _ has) is = omega arith
 
     ranges : (job : Job) (at range : ℕ) (old : Phase) → JobStep job s range (index_view_at at w) (index_view_at at u) old Holding
         → u.task s ≡ Considers job at (suc range) → IsInTable w (Maintains job at range old) → JobWithin (suc n) w job at range old

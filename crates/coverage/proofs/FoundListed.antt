@@ -33,15 +33,12 @@ ids_compare a b = ⊎_elim
     (λ (less : a.k < b.k). inl (inr (t, less)))
     (λ (le' : b.k ≤ a.k). ⊎_elim
     (λ (k : a.k ≡ b.k). inr (inl (λ i. record { t = t i; k = k i })))
-    (λ (other : a.k ≢ b.k). inr (inr (inr (sym t, above b.k a.k le' other))))
+    (λ (other : a.k ≢ b.k). inr (inr (inr (sym t, omega arith))))
     (cases_eq a.k b.k))
     (lt_or_ge a.k b.k))
-    (λ (other : a.t ≢ b.t). inr (inr (inl (above b.t a.t le other))))
+    (λ (other : a.t ≢ b.t). inr (inr (inl (omega arith))))
     (cases_eq a.t b.t))
     (lt_or_ge a.t b.t)
-  where
-    above : (n m : ℕ) → n ≤ m → m ≢ n → n < m
-    above n m le other = omega arith
 
 -- a list in order with one id more
 record WithOne (id : RowId) (ids : List RowId) : Type 0 where

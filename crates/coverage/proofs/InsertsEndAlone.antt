@@ -88,9 +88,6 @@ Within s n w task = Unit
 one_left : (a n : ℕ) → a < n → 1 + 6 * a ≤ 6 * n
 one_left a n less = omega arith
 
-none_left : (a n : ℕ) → a < n → 0 + 6 * suc a ≤ 6 * n
-none_left a n less = omega arith
-
 named_at : (w : TableState) (at : ℕ) → IsTableKept w → at < w.indexes → AreNamed (index_view_at at w)
 named_at w at kept below range x is = (kept.indexes at below).sound.entries_name_tuples range x is
 
@@ -102,9 +99,9 @@ module _ (s : ℕ) where
     last_within : (task new : Task) → Did s w u task new → IsInTable w task → Within s 1 w task
     last_within _ _ (DidAsk b k r at) below = one_left at w.indexes below
     last_within _ _ (DidInsert b k r at g h done) below =
-        (1, 0, LastStep (index_view_at at w) (index_view_at at u) g (Inserting b k r h) done, refl, none_left at w.indexes below)
+        (1, 0, LastStep (index_view_at at w) (index_view_at at u) g (Inserting b k r h) done, refl, omega arith)
     last_within _ _ (DidComplete b k r at g done) below =
-        (1, 0, LastStep (index_view_at at w) (index_view_at at u) g Idle done, refl, none_left at w.indexes below)
+        (1, 0, LastStep (index_view_at at w) (index_view_at at u) g Idle done, refl, omega arith)
     last_within _ _ _ below = tt
 
     same_indexes : v.indexes ≡ w.indexes
@@ -115,15 +112,6 @@ module _ (s : ℕ) where
 
     ask_left : (n m j a i : ℕ) → n ≡ m + j → m ≤ 5 → j + 6 * suc a ≤ 6 * i → suc n + 6 * a ≤ 6 * i
     ask_left n m j a i is le more = omega arith
-
-    begun_left : (n m j a i : ℕ) → n ≡ m + j → m ≤ 5 → j + 6 * suc a ≤ 6 * i → n + 6 * a ≤ 6 * i
-    begun_left n m j a i is le more = omega arith
-
-    go_left : (n m j : ℕ) → n ≡ m + j → suc n ≡ suc m + j
-    go_left n m j is = omega arith
-
-    one_more : (n : ℕ) → suc n ≡ 1 + n
-    one_more n = omega arith
 
     next_within : (n : ℕ) → IsTableKept v → (v.task s ≡ Resting → ⊥) → Within s n v (v.task s) → (task new : Task) → Did s w u task new → u.task s ≡ new
         → IsInTable w task → Within s (suc n) w task
@@ -139,14 +127,14 @@ module _ (s : ℕ) where
           suc left.0,
           left.1,
           OneMore left.0 (index_view_at at w) (index_view_at at u) g h done (subst (λ z. InsertsAlone s b k r left.0 z h) stays.1 left.2),
-          go_left n left.0 left.1 left.3,
+          omega (arith, left.3),
           subst (λ i. left.1 + 6 * suc at ≤ 6 * i) same_indexes left.4,
         )
     next_within n kept_v going more _ _ (DidComplete b k r at g done) is below = (
       1,
       n,
       LastStep (index_view_at at w) (index_view_at at u) g Idle done,
-      one_more n,
+      omega arith,
       ⊎_elim
           (λ (asks : v.task s ≡ Asks b k r (suc at)).
           subst (λ i. n + 6 * suc at ≤ 6 * i) same_indexes (subst (Within s n v) asks more))
@@ -155,8 +143,7 @@ module _ (s : ℕ) where
           let left = subst (Within s n v) inserts more in
           let inside : suc at < v.indexes = subst (IsInTable v) inserts (kept_v.inside s) in
           subst (λ i. n + 6 * suc at ≤ 6 * i) same_indexes
-          (begun_left n left.0 left.1 (suc at) v.indexes left.3
-          (begun_bound s b k r left.0 (index_view_at (suc at) v) (named_at v (suc at) kept_v inside) left.2) left.4))
+          (omega (arith, left.3, begun_bound s b k r left.0 (index_view_at (suc at) v) (named_at v (suc at) kept_v inside) left.2, left.4)))
           (λ (rests : v.task s ≡ Resting). absurd (going rests))
           other)
           (settle_reaches s u v b k r (suc at) step.settles is),
@@ -177,22 +164,14 @@ module _ (s : ℕ) where
       ask_bound : (n a i : ℕ) → n + 6 * a ≤ 6 * i → n ≤ 6 * i
       ask_bound n a i le = omega arith
 
-      index_bound : (n m j a i : ℕ) → n ≡ m + j → m ≤ 6 → j + 6 * suc a ≤ 6 * i → n ≤ 6 * i
-      index_bound n m j a i is le more = omega arith
-
       by : (task : Task) → w.task s ≡ task → IsInserting task → Within s n w task → n ≤ 6 * w.indexes
       by (Asks b k r at) is it le = ask_bound n at w.indexes le
       by (Inserts b k r at g) is it left =
           let below : at < w.indexes = subst (IsInTable w) is (kept.inside s) in
-          index_bound n left.0 left.1 at w.indexes left.3
-          (insert_bound s b k r left.0 (index_view_at at w) g (named_at w at kept below) left.2) left.4
+          omega (arith, left.3, insert_bound s b k r left.0 (index_view_at at w) g (named_at w at kept below) left.2, left.4)
       by _ is it left = absurd it
 
   -- with the step that puts its row it is one more
   pub begun_within : (n : ℕ) (w v : TableState) → TableStep s w v → IsTableKept w → IsInserting (v.task s) → StepsAlone s n v → suc n ≤ 1 + 6 * w.indexes
   begun_within n w v step kept inserting alone =
-      one_more_le n (6 * w.indexes)
-      (subst (λ i. n ≤ 6 * i) (same_indexes w v step kept) (insert_within n v (table_step_kept s w v kept step) inserting alone))
-    where
-      one_more_le : (a b : ℕ) → a ≤ b → suc a ≤ 1 + b
-      one_more_le a b le = omega arith
+      omega (arith, subst (λ i. n ≤ 6 * i) (same_indexes w v step kept) (insert_within n v (table_step_kept s w v kept step) inserting alone))

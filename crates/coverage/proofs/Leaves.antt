@@ -27,18 +27,12 @@ pub does_leaves : (s : ℕ) (w v : TableState) → Does s w v → Leaves s w v
 does_leaves s w v (PutsRow b k r place turns takes) = record {
   others = turns.others;
   rows = search rules;
-  blocks = subst (λ m. w.blocks ≤ m) (sym takes.blocks) (grown w.blocks b);
+  blocks = subst (λ m. w.blocks ≤ m) (sym takes.blocks) (omega arith);
   from = λ c j q there. ⊎_elim
-      (λ (at : (c ≡ b) × (j ≡ k)). inr (subst (λ m. c < m) (sym takes.blocks) (subst (λ m. m < max w.blocks (b + 1)) (sym at.0) (inside w.blocks b))))
+      (λ (at : (c ≡ b) × (j ≡ k)). inr (subst (λ m. c < m) (sym takes.blocks) (subst (λ m. m < max w.blocks (b + 1)) (sym at.0) (omega arith))))
       (λ (same : v.row c j ≡ w.row c j). inl (sym same ∙ there))
       (takes.others c j);
 }
-  where
-    grown : (n b : ℕ) → n ≤ max n (b + 1)
-    grown n b = omega arith
-
-    inside : (n b : ℕ) → b < max n (b + 1)
-    inside n b = omega arith
 does_leaves s w v (RefusesRow t refused turns fails) = same_leaves s w v _ _ turns fails.row fails.blocks
 does_leaves s w v (AsksSummary b k r at turns only) = same_leaves s w v _ _ turns only.rows.row only.rows.blocks
 does_leaves s w v (InsertGoes b k r at old new turns stepped step) = same_leaves s w v _ _ turns stepped.rows.row stepped.rows.blocks

@@ -80,10 +80,7 @@ settles_lands s u v (GivesLock old done turns given rows indexes) =
 -- 0 0 comes first
 first_of_all : (n q : ℕ) → IsFrom 0 0 n q
 first_of_all zero q = inr ((λ i. 0), omega arith)
-first_of_all (suc n) q = inl (some n)
-  where
-    some : (n : ℕ) → 0 < suc n
-    some n = omega arith
+first_of_all (suc n) q = inl (omega arith)
 
 -- where a step begins a statement it is before the first of what it goes over
 abbrev FirstOf : TableState → Task → Type 0
@@ -117,17 +114,11 @@ stays_first u (Sweeps at page) first = absurd first
 stays_first u (Restarts at) first = absurd first
 stays_first u _ first = tt
 
-only_one : (range m only : ℕ) → range ≡ only → m ≡ only → range ≤ m
-only_one range m only first has = omega arith
-
 lowest_range : (u : TableState) (job : Job) (at range m : ℕ) → FirstOf u (Considers job at range) → HasRange u job at m → range ≤ m
-lowest_range u (EachRange extent) at range m first has = least range m first
-  where
-    least : (r m : ℕ) → r ≡ 0 → r ≤ m
-    least r m is = omega arith
-lowest_range u (OneRange extent only) at range m first has = only_one range m only first has.0
+lowest_range u (EachRange extent) at range m first has = omega arith
+lowest_range u (OneRange extent only) at range m first has = omega (arith, first, has.0)
 lowest_range u (WholeRanges extent) at range m first has = absurd first
-lowest_range u (Desummarising only) at range m first has = only_one range m only first has
+lowest_range u (Desummarising only) at range m first has = omega arith
 
 onward_first : (u : TableState) (old new : Task) → Onward u old new → FirstOf u old → AtFirst u new
 onward_first u _ _ (Stays task has) first = stays_first u task first
@@ -179,9 +170,6 @@ module _ (w u : TableState) where
   range_after job at range old _ t (Completes _ _ _ _) lands = considers_lands job at range t lands
   range_after job at range old m t (Others _ _ other) lands = absurd other
 
-  later : (a b : ℕ) → a ≤ b → a ≤ suc b
-  later a b le = omega arith
-
   abbrev AllPruned : (extent next : ℕ) → Task → Type 0
   AllPruned extent next t = (extent ≤ next) × AtFirst u t
 
@@ -196,7 +184,7 @@ module _ (w u : TableState) where
     where
       by : (t ≡ Prunes extent next) ⊎ AllPruned extent next t ⊎ (t ≡ Resting) → AfterBlock u extent next t
       by (inl is) = inl is
-      by (inr (inl all)) = inr (inr (inl (later extent next all.0, all.1)))
+      by (inr (inl all)) = inr (inr (inl (omega (arith, all.0), all.1)))
       by (inr (inr is)) = inr (inr (inr is))
   block_after extent next _ t (PrunesOne _ _) lands = by (prunes_lands extent (suc next) t lands)
     where

@@ -149,12 +149,9 @@ rows_until contents row t n none zero le = ap (λ j. rows_added contents row j t
 rows_until contents row t n none (suc m) le = ⊎_elim
     (λ (is : n ≡ suc m). ap (λ j. rows_added contents row j t) (sym is))
     (λ (other : n ≢ suc m).
-    ap (λ o. row_added contents o (rows_added contents row m t)) (none m (below n m le other))
-    ∙ rows_until contents row t n none m (below n m le other))
+    ap (λ o. row_added contents o (rows_added contents row m t)) (none m (omega arith))
+    ∙ rows_until contents row t n none m (omega arith))
     (cases_eq n (suc m))
-  where
-    below : (n m : ℕ) → n ≤ suc m → n ≢ suc m → n ≤ m
-    below n m le other = omega arith
 
 rows_same : (contents : Contents) (row : ℕ → Option Row) (n m : ℕ) (t : IndexTuple) → HasNoMoreRows row n → HasNoMoreRows row m
     → rows_added contents row n t ≡ rows_added contents row m t

@@ -111,14 +111,8 @@ module _ (w : TableState) where
   -- nothing is swept in a table without indexes
   none_swept : (q : Task) → w.indexes ≡ 0 → Onward w (SweepsFrom 0 0) q → ⊥
   none_swept _ none (Stays _ has) = has
-  none_swept _ none (ToPage at from m p next) = outside m w.indexes next.has.0 none
-    where
-      outside : (n k : ℕ) → n < k → k ≡ 0 → ⊥
-      outside n k less is = omega arith
-  none_swept _ none (Swept at from nothing some) = outside w.indexes some none
-    where
-      outside : (k : ℕ) → 0 < k → k ≡ 0 → ⊥
-      outside k less is = omega arith
+  none_swept _ none (ToPage at from m p next) = omega (arith, next.has.0, none)
+  none_swept _ none (Swept at from nothing some) = omega arith
 
   pub onward_or_done : (old q : Task) → IsMaintained w old → Onward w old q → ⊥
   onward_or_done _ _ (RangesDone job at range done last) (Stays _ has) = has

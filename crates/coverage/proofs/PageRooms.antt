@@ -54,16 +54,10 @@ behind tuple bytes old new is =
 
 here : (bytes : List ℕ) (slots : List Slot) → taken (Some bytes ∷ slots) ≡ taken (before None slots) + length bytes + new_entry (before None slots)
 unfolding taken free_slot_of
-here bytes [] = alone (length bytes)
-  where
-    alone : (size : ℕ) → 4 + size + 0 ≡ 0 + size + 4
-    alone size = omega arith
+here bytes [] = omega arith
 here bytes (slot ∷ slots) =
-    gap (length bytes) (taken (slot ∷ slots))
+    omega arith
     ∙ ap (λ (less : Bool). 4 + 0 + taken (slot ∷ slots) + length bytes + (if less then 0 else 4)) (sym (lt-ltb 0 (suc (suc (length slots))) (omega arith)))
-  where
-    gap : (size rest : ℕ) → 4 + size + rest ≡ 4 + 0 + rest + size + 0
-    gap size rest = omega arith
 
 -- bytes come to the lowest free slot
 put_taken : (f g : ℕ → Slot) (n k : ℕ) (bytes : List ℕ) → k < n → f k ≡ None → ((j : ℕ) → j < k → f j ≢ None) → g k ≡ Some bytes → ((j : ℕ) → j ≢ k → g j ≡ f j)

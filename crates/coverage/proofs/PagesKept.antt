@@ -251,7 +251,7 @@ module _ (s range : ℕ) (w v : IndexView) (ordered : AreOrdered w) (held : w.su
   turn_ordered : (kind : PageKind) (these : List ℕ) → TurnsKind s w v kind these → next_map_page w.pages < w.pages.limit → (kind ≡ Unstarted → ⊥)
       → ((x : Spot) (t : IndexTuple) → x.block ≡ next_map_page w.pages → w.tuple x ≡ Some t → (kind ≡ Regular) ⊎ (kind ≡ Emptying)) → AreOrdered v
   turn_ordered kind these turns low started holds =
-      order_turned w v ordered (next_map_page w.pages) kind turns.page (past w.pages.map_pages) low started (λ is. le_refl (next_map_page w.pages)) first
+      order_turned w v ordered (next_map_page w.pages) kind turns.page (omega arith) low started (λ is. le_refl (next_map_page w.pages)) first
       (λ x t here.
       let was : w.tuple x ≡ Some t = sym (turns.frame.tuples.tuple x) ∙ here in
       ⊎_elim
@@ -260,14 +260,8 @@ module _ (s range : ℕ) (w v : IndexView) (ordered : AreOrdered w) (held : w.su
       (cases_eq x.block (next_map_page w.pages)))
       (entries_same w v ordered turns.frame.map)
     where
-      past : (n : ℕ) → n < n + 1
-      past n = omega arith
-
-      before : (p n : ℕ) → p < n + 1 → p ≤ n
-      before p n less = omega arith
-
       first : (p : ℕ) → p < next_map_page w.pages → w.pages.kind p ≢ Unstarted
-      first p less is = subst IsStarted (sym (ordered.map p (before p w.pages.map_pages less)) ∙ is) tt
+      first p less is = subst IsStarted (sym (ordered.map p (omega arith)) ∙ is) tt
 
   grown : (these : List ℕ) (turns : TurnsKind s w v Mapping these) → these ≡ (next_map_page w.pages ∷ 0 ∷ []) → KnowsPagesOfPhase v s range Growing
   grown these turns are = (
@@ -355,24 +349,18 @@ module _ (s range : ℕ) (w v : IndexView) (ordered : AreOrdered w) (held : w.su
         tt,
         names_reads s range w v reads pages.1,
         (
-          subst (λ n. extent ≤ n) (sym reads.frame.heap.blocks) (least extent w.blocks ((range + 1) * w.pages_per_range) is),
+          subst (λ n. extent ≤ n) (sym reads.frame.heap.blocks) (omega arith),
           inr (ap (λ m. range * m) (sym reads.frame.heap.pages_per_range)),
         ),
         tt,
       )
-    where
-      least : (e a b : ℕ) → e ≡ min a b → e ≤ a
-      least e a b is = omega arith
   summarise_after _ _ (Pass extent next slots result wider below none made reads) known pages =
       read_after s w v ordered (Maintaining range (IsAt (Passing extent (next + 1) wider) Empty)) reads (
         tt,
         names_reads s range w v reads pages.1,
-        (subst (λ n. extent ≤ n) (sym reads.frame.heap.blocks) pages.2.0, inl (after next extent below)),
+        (subst (λ n. extent ≤ n) (sym reads.frame.heap.blocks) pages.2.0, inl (omega arith)),
         tt,
       )
-    where
-      after : (n e : ℕ) → n < e → n + 1 ≤ e
-      after n e less = omega arith
   summarise_after _ _ (Unite extent next result old new all step) known pages =
       let after = on_index_after s w v ordered range (inl held) old new step in
       record {

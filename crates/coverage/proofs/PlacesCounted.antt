@@ -11,19 +11,13 @@ fewer P Q n sub most xs apart all = most xs apart (λ x among. sub x (all x amon
 -- one of them leaves
 pub one_less : (P Q : Spot → Type 0) (x : Spot) (n : ℕ) → P x → ((y : Spot) → Q y → P y × (y ≢ x)) → AreAtMost P n
     → (m : ℕ) × (n ≡ suc m) × AreAtMost Q m
-one_less P Q x zero is sub most = absurd (none (most (x ∷ []) ((λ among. among), tt) (λ y among. ⊎_elim (λ (same : y ≡ x). subst P (sym same) is) (λ (no : ⊥). absurd no) among)))
-  where
-    none : 1 ≤ zero → ⊥
-    none le = omega arith
+one_less P Q x zero is sub most = absurd (omega (arith, most (x ∷ []) ((λ among. among), tt) (λ y among. ⊎_elim (λ (same : y ≡ x). subst P (sym same) is) (λ (no : ⊥). absurd no) among)))
 one_less P Q x (suc m) is sub most = (
   m,
   refl,
-  λ xs apart all. lower (length xs) (most (x ∷ xs) ((λ among. (sub x (all x among)).1 refl), apart)
+  λ xs apart all. omega (arith, most (x ∷ xs) ((λ among. (sub x (all x among)).1 refl), apart)
       (λ y among. ⊎_elim (λ (same : y ≡ x). subst P (sym same) is) (λ (in_rest : IsIn xs y). (sub y (all y in_rest)).0) among)),
 )
-  where
-    lower : (k : ℕ) → suc k ≤ suc m → k ≤ m
-    lower k le = omega arith
 
 -- without one place a list is shorter by one at most
 module _ (P : Spot → Type 0) (x : Spot) where
@@ -51,18 +45,12 @@ module _ (P : Spot → Type 0) (x : Spot) where
             (λ (same : y ≡ z). (subst P (sym same) is, inl same))
             (λ (later : IsIn rest.0 y). ((rest.2 y later).0, inr (rest.2 y later).1))
             among),
-        more (length zs) (length rest.0) rest.3,
+        omega (arith, rest.3),
       ))
       (all z (inl refl))
-    where
-      more : (m n : ℕ) → m ≤ suc n → suc m ≤ suc (suc n)
-      more m n le = omega arith
 
 -- one more place joins them
 pub one_more : (P Q : Spot → Type 0) (x : Spot) (n : ℕ) → ((y : Spot) → Q y → (y ≡ x) ⊎ P y) → AreAtMost P n → AreAtMost Q (suc n)
 one_more P Q x n sub most xs apart all =
     let rest = without P x xs apart (λ y among. sub y (all y among)) in
-    through (length xs) (length rest.0) rest.3 (most rest.0 rest.1 (λ y among. (rest.2 y among).0))
-  where
-    through : (a b : ℕ) → a ≤ suc b → b ≤ n → a ≤ suc n
-    through a b le le' = omega arith
+    omega (arith, rest.3, most rest.0 rest.1 (λ y among. (rest.2 y among).0))

@@ -118,12 +118,9 @@ nine = summarises no_rows placeholder_read result_copied 0 (IsAt (Passing 1 1 em
     (UniteCopies 1 1 empty_tuple place empty_tuple final_tuple (omega arith) (refl, refl) refl
     (reads no_rows placeholder_read (Maintaining 0 (IsAt (Passing 1 1 empty_tuple) (Copied place empty_tuple final_tuple))) refl))
 
-in_place : (size free : ℕ) → size ≤ free + size
-in_place size free = omega arith
-
 ten : Step 0 (index_of no_rows result_copied) (index_of no_rows final_swapped)
 ten = summarises no_rows result_copied final_swapped 0 (IsAt (Passing 1 1 empty_tuple) (Copied place empty_tuple final_tuple)) Holding refl refl
-    (SwapFinal (Passing 1 1 empty_tuple) place empty_tuple final_tuple (SwapFits (free no_rows result_copied 2) refl refl (in_place 8 (free_of (slots_on (bytes_of (view no_rows result_copied).tuple) 2))))
+    (SwapFinal (Passing 1 1 empty_tuple) place empty_tuple final_tuple (SwapFits (free no_rows result_copied 2) refl refl (omega arith))
     (replaces no_rows result_copied place empty_tuple final_tuple (one_tuple (Some final_tuple)) Holding
     (record { was = refl; now = refl; others = placed_again place (Some final_tuple) (Some empty_tuple) no_tuples }) refl refl))
 
@@ -137,20 +134,11 @@ new_pages = record { one = refl; map = map; rest = rest; below = omega arith }
     map : (p : ℕ) → p < 2 → new_kind p ≡ Mapping
     map zero low = refl
     map (suc zero) low = refl
-    map (suc (suc p)) low = absurd (cross p low)
-      where
-        cross : (p : ℕ) → suc (suc p) < 2 → ⊥
-        cross p low = omega arith
+    map (suc (suc p)) low = absurd (omega arith)
 
     rest : (p : ℕ) → 2 ≤ p → new_kind p ≡ Unstarted
-    rest zero high = absurd (low 0 high)
-      where
-        low : (p : ℕ) → 2 ≤ 0 → ⊥
-        low p high = omega arith
-    rest (suc zero) high = absurd (low 0 high)
-      where
-        low : (p : ℕ) → 2 ≤ 1 → ⊥
-        low p high = omega arith
+    rest zero high = absurd (omega arith)
+    rest (suc zero) high = absurd (omega arith)
     rest (suc (suc p)) high = refl
 
 abbrev empty_index : IndexState

@@ -73,11 +73,8 @@ from_mono at a b i m le from = ⊎_elim
 from_not : (at range n : ℕ) → n ≡ suc range → IsFrom at n at range → ⊥
 from_not at range n is from = ⊎_elim
     (λ (later : at < at). lt_irrefl at later)
-    (λ (same : (at ≡ at) × (n ≤ range)). past n range is same.1)
+    (λ (same : (at ≡ at) × (n ≤ range)). omega (arith, is, same.1))
     from
-  where
-    past : (n range : ℕ) → n ≡ suc range → n ≤ range → ⊥
-    past n range is le = omega arith
 
 -- where an index stays, its ranges keep their final tuples, and no others have them
 index_final : (i m : ℕ) (w v : TableState) → v.index i ≡ w.index i → NamesFinal (index_view_at i v) m → NamesFinal (index_view_at i w) m
@@ -169,32 +166,16 @@ module _ (s : ℕ) (w u : TableState) (a b : Accounts) where
       made new ahead count = ⊎_elim
           (λ (none : (summarise_count step ≡ 0) × (next_uncounted range old ≤ uncounted_after range e)).
           MakesNone (λ i m is'. let one = itself i m is' in
-          not_both (summarise_count step) none.0
-          (exact.1 (subst (λ j. IsMadeFinal w u j range) one.0 (subst (IsMadeFinal w u i) one.1 is'))))
-          (zeroth (summarise_count step) ((a.of s).ranges) ((b.of s).ranges) none.0 count)
+          omega (arith, none.0, exact.1 (subst (λ j. IsMadeFinal w u j range) one.0 (subst (IsMadeFinal w u i) one.1 is'))))
+          (omega (arith, none.0, count))
           (λ i m is'. from_mono at (next_uncounted range old) (uncounted_after range e) i m none.1 (ahead i m is')))
           (λ (one : (summarise_count step ≡ 1) × (next_uncounted range old ≡ range) × (uncounted_after range e ≡ suc range)).
-          MakesOne at range (exact.0 one.0) itself (first (summarise_count step) ((a.of s).ranges) ((b.of s).ranges) one.0 count)
-          (inr (refl, least (next_uncounted range old) one.1))
+          MakesOne at range (exact.0 one.0) itself (omega (arith, one.0, count))
+          (inr (refl, omega (arith, one.1)))
           (λ is'. from_not at range (uncounted_after range e) one.2 (ahead at range is'))
-          (λ i m is'. from_mono at (next_uncounted range old) (uncounted_after range e) i m (lower (next_uncounted range old) (uncounted_after range e) one.1 one.2)
+          (λ i m is'. from_mono at (next_uncounted range old) (uncounted_after range e) i m (omega (arith, one.1, one.2))
           (ahead i m is')))
           (step_counts s range (index_view_at at w) (index_view_at at u) old e step)
-        where
-          not_both : (n : ℕ) → n ≡ 0 → n ≡ 1 → ⊥
-          not_both n none one = omega arith
-
-          zeroth : (c x y : ℕ) → c ≡ 0 → y ≡ x + c → y ≡ x
-          zeroth c x y none is = omega arith
-
-          first : (c x y : ℕ) → c ≡ 1 → y ≡ x + c → y ≡ x + 1
-          first c x y one is = omega arith
-
-          least : (n : ℕ) → n ≡ range → n ≤ range
-          least n is = omega arith
-
-          lower : (n m : ℕ) → n ≡ range → m ≡ suc range → n ≤ m
-          lower n m is is' = omega arith
 
   ranges_of : (now : Account) → b.of s ≡ now → (b.of s).ranges ≡ now.ranges
   ranges_of now same = ap (λ (x : Account). x.ranges) same
@@ -269,15 +250,9 @@ fails t none acts gives = ⊎_elim none (λ (is : t ≡ Resting). subst Acts is 
 
 onward_ahead : (u : TableState) (old new : Task) → Onward u old new → (i m : ℕ) → AheadOf new i m → AheadOf old i m
 onward_ahead u _ _ (NextIndex extent at range none more) i m ahead = ⊎_elim
-    (λ (later : suc at < i). inl (lower at i later))
-    (λ (same : (suc at ≡ i) × (0 ≤ m)). inl (here at i same.0))
+    (λ (later : suc at < i). inl (omega arith))
+    (λ (same : (suc at ≡ i) × (0 ≤ m)). inl (omega (arith, same.0)))
     ahead
-  where
-    lower : (a i : ℕ) → suc a < i → a < i
-    lower a i less = omega arith
-
-    here : (a i : ℕ) → suc a ≡ i → a < i
-    here a i is = omega arith
 onward_ahead u _ _ (Pruned extent next new all onward) i m ahead = tt
 onward_ahead u _ _ (ToPage at from n p page) i m ahead = tt
 onward_ahead u _ _ (Swept at from none some) i m ahead = tt
@@ -387,14 +362,11 @@ module _ (s n : ℕ) (rest : List ℕ) (w u v : TableState) (a b c : Accounts) (
         (λ (one : IsSame (i, m) (at, range)). subst (λ (p : ℕ × ℕ). AheadOf (w.task s) p.0 p.1) (sym one) first)
         (λ (later : IsIn more.0 (i, m)). ahead i m (more.2 i m later))
         among,
-    one_more ((a.of s).ranges) ((b.of s).ranges) ((c.of s).ranges) (length more.0) count more.3,
+    omega (arith, count, more.3),
   )
     where
       back : (i m : ℕ) → IsSame (i, m) (at, range) → IsMadeFinal w u i m
       back i m one = subst (λ (p : ℕ × ℕ). IsMadeFinal w u p.0 p.1) (sym one) made
-
-      one_more : (x y z k : ℕ) → y ≡ x + 1 → z ≡ y + k → z ≡ x + suc k
-      one_more x y z k is is' = omega arith
 
 -- another session's step leaves the session its statement and its account
 others_leave : (s n : ℕ) (w u : TableState) → TableStep n w u → n ≢ s → u.task s ≡ w.task s
@@ -415,11 +387,8 @@ run_counts s _ _ _ _ _ (AccountsDone w a) kept gives in_hand = (
   [],
   record { apart = tt; all = λ i m. ((λ x. x), λ x. x) },
   λ i m is. absurd is,
-  none ((a.of s).ranges),
+  omega arith,
 )
-  where
-    none : (x : ℕ) → x ≡ x + 0
-    none x = omega arith
 run_counts s _ _ _ _ _ (AccountsNext n rest w u v a b c step adds run) kept gives in_hand = ⊎_elim
     (λ (is : n ≡ s).
     let own : Stepped s w u a b = subst (λ k. Stepped k w u a b) is (step, adds) in
@@ -495,8 +464,5 @@ replies_count s rest w u v a b c step adds run kept rested gives in_hand =
               makes,
         );
       },
-      from_zero ((b.of s).ranges) ((c.of s).ranges) (length counted.0) start.0 counted.3,
+      omega (arith, start.0, counted.3),
     )
-  where
-    from_zero : (x y k : ℕ) → x ≡ 0 → y ≡ x + k → k ≡ y
-    from_zero x y k none is = omega arith

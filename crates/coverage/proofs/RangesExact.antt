@@ -34,19 +34,12 @@ module _ (w : TableState) (at : ℕ) (some : 0 < (w.index at).pages_per_range) w
       crosses : (a b c : ℕ) → max a b ≡ c → c < a → ⊥
       crosses a b c is less = omega arith
 
-      above : (a b : ℕ) → b ≤ max a b
-      above a b = omega arith
-
-      inside : (a b c : ℕ) → a < c → b < c → max a b < c
-      inside a b c less less' = omega arith
-
       not_below : ((b : ℕ) → range_in w at b ≡ range → b < extent) → extent < (range + 1) * (w.index at).pages_per_range → ⊥
       not_below below less =
           crosses extent (range * (w.index at).pages_per_range) (max extent (range * (w.index at).pages_per_range)) refl
           (below (max extent (range * (w.index at).pages_per_range))
-          (div-eq_of_lt-le (w.index at).pages_per_range (above extent (range * (w.index at).pages_per_range))
-          (inside extent (range * (w.index at).pages_per_range) ((range + 1) * (w.index at).pages_per_range) less
-          (further range (w.index at).pages_per_range some))))
+          (div-eq_of_lt-le (w.index at).pages_per_range (omega arith)
+          (omega (arith, less, further range (w.index at).pages_per_range some))))
 
   pub each_range : (range extent : ℕ) → HasRange w (EachRange extent) at range ↔ ((b : ℕ) × (range_in w at b ≡ range) × (b < extent))
   each_range range extent = (
@@ -63,23 +56,17 @@ module _ (w : TableState) (at : ℕ) (some : 0 < (w.index at).pages_per_range) w
       asks.0,
       asks.3,
       λ c j of. later c j (subst (λ n. n ≤ c) asks.2
-          (subst (λ r. r * (w.index at).pages_per_range ≤ c) of (block_first c (w.index at).pages_per_range some))) (least k j asks.1),
+          (subst (λ r. r * (w.index at).pages_per_range ≤ c) of (block_first c (w.index at).pages_per_range some))) (omega (arith, asks.1)),
     ),
     λ first.
         let start = first.2 (range_in w at b * (w.index at).pages_per_range) 0 (first_of (range_in w at b) (w.index at).pages_per_range some) in
         ⊎_elim
         (λ (less : b < range_in w at b * (w.index at).pages_per_range).
         absurd (not-le_of_lt less (block_first b (w.index at).pages_per_range some)))
-        (λ (at_start : (b ≡ range_in w at b * (w.index at).pages_per_range) × (k ≤ 0)). (first.0, zero_of k at_start.1, sym at_start.0, first.1))
+        (λ (at_start : (b ≡ range_in w at b * (w.index at).pages_per_range) × (k ≤ 0)). (first.0, omega (arith, at_start.1), sym at_start.0, first.1))
         start,
   )
     where
-      least : (k j : ℕ) → k ≡ 0 → k ≤ j
-      least k j is = omega arith
-
-      zero_of : (k : ℕ) → k ≤ 0 → k ≡ 0
-      zero_of k le = omega arith
-
       later : (c j : ℕ) → b ≤ c → k ≤ j → (b < c) ⊎ ((b ≡ c) × (k ≤ j))
       later c j le low = ⊎_elim
           (λ (less : b < c). inl less)

@@ -162,12 +162,9 @@ module _ (w : TableState) (no_place : (b k : ℕ) → IsFirstPlace w b k → ⊥
         let le = lowest c (lowest_slot c j vacant) in
         ⊎_elim
         (λ (same : b ≡ c). inr (same, has.2 j (subst (λ m. IsVacantPlace w m j) (sym same) vacant)))
-        (λ (other : b ≢ c). inl (less b c le other))
+        (λ (other : b ≢ c). inl (omega arith))
         (cases_eq b c);
   })
-    where
-      less : (n m : ℕ) → n ≤ m → n ≢ m → n < m
-      less n m le other = omega arith
 
   pub no_place_full : IsHeapFull w
   no_place_full b k vacant = ⊎_elim

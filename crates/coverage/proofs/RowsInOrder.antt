@@ -4,22 +4,16 @@ use Rattle.std.specs.Prelude.{refl}
 use Rattle.block_model.specs.declared.row.RowId.{RowId}
 use Rattle.coverage.specs.RowOrder.{IsBefore, IsAmong, AreInOrder}
 
-less_self : (n m : ℕ) → n < m → m ≡ n → ⊥
-less_self n m less is = omega arith
-
-less_both : (n m : ℕ) → n < m → m < n → ⊥
-less_both n m one two = omega arith
-
 -- two ids aren't each before the other
 before_once : (a b : RowId) → IsBefore a b → IsBefore b a → ⊥
 before_once a b one two = ⊎_elim
     (λ (less : a.t < b.t). ⊎_elim
-    (λ (more : b.t < a.t). less_both a.t b.t less more)
-    (λ (same : (b.t ≡ a.t) × (b.k < a.k)). less_self a.t b.t less same.0)
+    (λ (more : b.t < a.t). omega arith)
+    (λ (same : (b.t ≡ a.t) × (b.k < a.k)). omega (arith, less, same.0))
     two)
     (λ (same : (a.t ≡ b.t) × (a.k < b.k)). ⊎_elim
-    (λ (more : b.t < a.t). less_self b.t a.t more same.0)
-    (λ (back : (b.t ≡ a.t) × (b.k < a.k)). less_both a.k b.k same.1 back.1)
+    (λ (more : b.t < a.t). omega (arith, more, same.0))
+    (λ (back : (b.t ≡ a.t) × (b.k < a.k)). omega (arith, same.1, back.1))
     two)
     one
 

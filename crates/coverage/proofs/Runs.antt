@@ -200,13 +200,10 @@ module _ (w : IndexView) (b k : ℕ) (r : Row) where
         (λ (left : IsTrue (old.candidate b) × (old.read ≤ b)). ⊎_elim
         (λ (is : next ≡ b).
         inl (subst (λ n. IsTrue (found n k)) is (page k r (ap (λ n. w.row n k) is ∙ known.there) (subst (λ n. IsTrue (old.sees n k)) (sym is) sees) matches)))
-        (λ (other : next ≢ b). inr (left.0, after next b (first b left.0 left.1) other))
+        (λ (other : next ≢ b). inr (left.0, omega (arith, first b left.0 left.1, other)))
         (cases_eq next b))
         (known.kept matches);
   }
-    where
-      after : (m n : ℕ) → m ≤ n → m ≢ n → m + 1 ≤ n
-      after m n le other = omega arith
   scan_row old _ _ sees known = record {
     there = known.there;
     settled = known.settled;

@@ -46,25 +46,15 @@ same_table w v only = λ j. record {
 -- a range that begins below the extent is one of them, and no other is
 module _ (per extent range : ℕ) (ranged : 0 < per) where
   pub one_of_ranges : range * per < extent → range < (extent + per - 1) / per
-  one_of_ranges low = le-div (suc range) (extent + per - 1) per ranged (subst (λ n. n ≤ extent + per - 1) (sym (suc-mul range per)) (fits (range * per) low))
-    where
-      fits : (n : ℕ) → n < extent → n + per ≤ extent + per - 1
-      fits n low = omega arith
+  one_of_ranges low = le-div (suc range) (extent + per - 1) per ranged (subst (λ n. n ≤ extent + per - 1) (sym (suc-mul range per)) (omega arith))
 
   -- so it is for a range all of whose blocks lie below it
   pub one_of_whole_ranges : (range + 1) * per ≤ extent → range < extent / per
   one_of_whole_ranges low = le-div (suc range) extent per ranged (subst (λ n. n * per ≤ extent) (add-one range) low)
 
   none_of_ranges : extent ≤ range * per → (extent + per - 1) / per ≤ range
-  none_of_ranges high = lower ((extent + per - 1) / per)
-      ((div-lt_iff_lt-mul {k = per} {x = extent + per - 1} {y = suc range} ranged).1
-      (subst (λ n. extent + per - 1 < n) (sym (suc-mul range per)) (fits (range * per) high)))
-    where
-      fits : (n : ℕ) → extent ≤ n → extent + per - 1 < n + per
-      fits n high = omega arith
-
-      lower : (n : ℕ) → n < suc range → n ≤ range
-      lower n less = omega arith
+  none_of_ranges high = omega (arith, (div-lt_iff_lt-mul {k = per} {x = extent + per - 1} {y = suc range} ranged).1
+      (subst (λ n. extent + per - 1 < n) (sym (suc-mul range per)) (omega arith)))
 
 -- a tuple of the range stands at the place that the scan holds
 abbrev HoldsTuple : TableState → TableScan → Type 0
@@ -113,12 +103,7 @@ module _ (rows n : ℕ) (w : TableState) (old : TableScan) (inside : old.at < w.
   before = sum_below old.at (ranges_below w old.extent)
 
   one_more : before + old.range < all
-  one_more = through before old.range (ranges_below w old.extent old.at) all
-      (one_of_ranges (w.index old.at).pages_per_range old.extent old.range ranged low)
-      (sum_grows (ranges_below w old.extent) (suc old.at) w.indexes inside)
-    where
-      through : (a b c d : ℕ) → b < c → a + c ≤ d → a + b < d
-      through a b c d less le = omega arith
+  one_more = omega (arith, one_of_ranges (w.index old.at).pages_per_range old.extent old.range ranged low, sum_grows (ranges_below w old.extent) (suc old.at) w.indexes inside)
 
   abbrev steps_held : ℕ → ℕ → Type 0
   steps_held held m = m ≤ held + 2 * (all - (before + old.range)) + unread old + rows
@@ -150,21 +135,16 @@ module _ (rows n : ℕ) (w : TableState) (old : TableScan) (inside : old.at < w.
 -- a block is read
 module _ (rows n : ℕ) (z w : TableState) (scan : TableScan) (next : ℕ) (found : ℕ → ℕ → Bool) (reads : ReadsPage w scan next found)
     (all : scan.at ≡ z.indexes) (below : next < scan.extent) where
-  fewer : (a extent read rows : ℕ) → read ≤ next → next < extent → n ≤ a + (extent - (next + 1)) + rows → suc n ≤ a + (extent - read) + rows
-  fewer a extent read rows unread less le = omega arith
 
   read_within : Within rows n z (Scans (record scan { read = next + 1; found = found })) → Within rows (suc n) z (Scans scan)
   read_within left = (
     (λ inside holds. absurd (ne_of_lt inside all)),
     subst (λ e. suc n ≤ held_steps scan.held + 2 * unjudged_ranges z scan + unread_blocks e scan.extent scan.read + rows) (sym reads.reads)
-        (fewer (held_steps scan.held + 2 * unjudged_ranges z scan) scan.extent scan.read rows reads.unread below
-        (subst (λ e. n ≤ held_steps scan.held + 2 * unjudged_ranges z scan + unread_blocks e scan.extent (next + 1) + rows) reads.reads left.1)),
+        (omega (arith, reads.unread, below, subst (λ e. n ≤ held_steps scan.held + 2 * unjudged_ranges z scan + unread_blocks e scan.extent (next + 1) + rows) reads.reads left.1)),
   )
 
 -- where a scan comes by its step: what is left there was left before it went on
 module _ (rows n : ℕ) (u : TableState) (ranged : (i : ℕ) → i < u.indexes → 0 < (u.index i).pages_per_range) where
-  through_rows : (m a : ℕ) → n ≤ m → m ≤ rows → n ≤ a + rows
-  through_rows m a le le' = omega arith
 
   no_range_left : (m k : ℕ) → m ≤ k → k ≤ m → k ≡ m
   no_range_left m k le ge = omega arith
@@ -186,8 +166,7 @@ module _ (rows n : ℕ) (u : TableState) (ranged : (i : ℕ) → i < u.indexes �
       subst (λ m. Within rows m (table_of u) (Scans scan)) (sym (ends refl)) (none_left rows (table_of u) (Scans scan))
   onward_within scan _ (ToMarks _ id rest read reads deletes lists) low finds few ends left = (
     (λ inside holds. absurd (ne_of_lt inside read.0)),
-    through_rows (length (id ∷ rest)) (scan_steps u scan) left
-        (few reads deletes (id ∷ rest) lists.ordered (found_to_mark scan (id ∷ rest) finds lists)),
+    omega (arith, left, few reads deletes (id ∷ rest) lists.ordered (found_to_mark scan (id ∷ rest) finds lists)),
   )
   onward_within scan t (JudgesNext _ _ inside all empty more) low finds few ends left =
       let next = record scan { at = suc scan.at; range = 0 } in
@@ -244,9 +223,6 @@ module _ (s rows : ℕ) where
     kept_u : IsTableKept u
     kept_u = table_between_kept s w u kept step.does
 
-    crossed : (a b c : ℕ) → a ≡ b → c ≡ b → a < c → ⊥
-    crossed a b c is same less = omega arith
-
     -- what is left of the scan that the step made
     scan_left : (scan : TableScan) → u.task s ≡ Scans scan → OnlyTurns w u → (scan.at < u.indexes → scan.range ≤ ranges_below u scan.extent scan.at)
         → HasAtMostToMark w scan rows → Within rows n (table_of w) (Scans scan)
@@ -272,16 +248,12 @@ module _ (s rows : ℕ) where
     step_within _ _ (DidRead scan next found reads only) was now few =
         read_within rows n (table_of w) w scan next found reads reads.judged (((kept.exact s scan was).candidate next).0 reads.given).0
         (scan_left (record scan { read = next + 1; found = found }) now only
-        (λ inside. absurd (crossed scan.at w.indexes u.indexes reads.judged only.rows.layout.indexes inside)) few)
+        (λ inside. absurd (omega (arith, reads.judged, only.rows.layout.indexes, inside))) few)
     step_within _ _ (DidMark scan id rest only) was now few =
         let settled = scan_settles s u v step.settles (Marks scan rest) tt now in
-        one_more_id (length rest)
-        (marks_within rows n u (λ i below. (kept_u.indexes i below).sound.ranged) scan rest (v.task s) settled.0 ends
+        omega (arith, marks_within rows n u (λ i below. (kept_u.indexes i below).sound.ranged) scan rest (v.task s) settled.0 ends
         (subst (λ z. Within rows n z (v.task s)) (same_table u v settled.1) (more (to_mark scan rest (v.task s) settled.0))))
       where
-        one_more_id : (m : ℕ) → n ≤ m → suc n ≤ suc m
-        one_more_id m le = omega arith
-
         to_mark : (scan : TableScan) (ids : List RowId) (t : Task) → Onward u (Marks scan ids) t → ToMark rows (table_of v) t
         to_mark scan ids _ (Stays _ has) = tt
         to_mark scan _ _ (Marked _) = tt

@@ -64,26 +64,17 @@ module _ (u : TableState) (scan : TableScan) (none : (new : Task) → Onward u (
 -- a scan goes on to the next range, the next index, or its end
 pub scan_on : (u : TableState) (n : ℕ) (scan : TableScan) → ((new : Task) → Onward u (Scans scan) new → ⊥) → FindsOnly u scan → (ids : List RowId)
     → ListsFound u scan ids → scan.at + n ≡ u.indexes → (scan.held ≡ None) ⊎ (first_block u scan.at scan.range < scan.extent) → ⊥
-scan_on u zero scan none finds ids lists is held = scan_ends u scan none finds ids lists (ended scan.at u.indexes is)
-  where
-    ended : (a b : ℕ) → a + zero ≡ b → a ≡ b
-    ended a b is = omega arith
+scan_on u zero scan none finds ids lists is held = scan_ends u scan none finds ids lists (omega arith)
 scan_on u (suc n) scan none finds ids lists is held = ⊎_elim
-    (λ (more : first_block u scan.at scan.range < scan.extent). none (Scans scan) (Stays (Scans scan) (inl (inside scan.at u.indexes is, more))))
+    (λ (more : first_block u scan.at scan.range < scan.extent). none (Scans scan) (Stays (Scans scan) (inl (omega arith, more))))
     (λ (all : scan.extent ≤ first_block u scan.at scan.range). ⊎_elim
     (λ (empty : scan.held ≡ None).
     scan_on u n (record scan { at = suc scan.at; range = 0 })
-    (λ new onward. none new (JudgesNext scan new (inside scan.at u.indexes is) all empty onward)) finds ids
-    (record { ordered = lists.ordered; all = lists.all; only = lists.only }) (next scan.at u.indexes is) (inl empty))
+    (λ new onward. none new (JudgesNext scan new (omega arith) all empty onward)) finds ids
+    (record { ordered = lists.ordered; all = lists.all; only = lists.only }) (omega arith) (inl empty))
     (λ (more : first_block u scan.at scan.range < scan.extent). not-le_of_lt more all)
     held)
     (lt_or_ge (first_block u scan.at scan.range) scan.extent)
-  where
-    inside : (a b : ℕ) → a + suc n ≡ b → a < b
-    inside a b is = omega arith
-
-    next : (a b : ℕ) → a + suc n ≡ b → suc a + n ≡ b
-    next a b is = omega arith
 
 -- after a judgement a scan holds no place, or is at its range still
 judged_next : (Low : ℕ → ℕ → ℕ → Type 0) (w : IndexView) (old new : TableScan) → Low old.at old.range old.extent → JudgeStep w old new
@@ -96,10 +87,7 @@ judged_next Low w old _ low _ = inl refl
 left_over : (a b : ℕ) → a ≤ b → (n : ℕ) × (a + n ≡ b)
 left_over zero b le = (b, omega arith)
 left_over (suc a) zero le = absurd (omega arith)
-left_over (suc a) (suc b) le = let more = left_over a b (omega arith) in (more.0, step a more.0 b more.1)
-  where
-    step : (a n b : ℕ) → a + n ≡ b → suc a + n ≡ suc b
-    step a n b is = omega arith
+left_over (suc a) (suc b) le = let more = left_over a b (omega arith) in (more.0, omega (arith, more.1))
 
 module _ (w : TableState) (s : ℕ) (kept : IsTableKept w) (can : CanGoOn w) (honest : IsScanHonest w s) (stuck : IsTableStuck w s)
     (unblocked : IsBlocked w s (w.task s) → ⊥) (room : (at number : ℕ) → IsTaskFull w s (w.task s) at number → ⊥) where
@@ -200,11 +188,8 @@ module _ (w : TableState) (s : ℕ) (kept : IsTableKept w) (can : CanGoOn w) (ho
       further : (r p : ℕ) → 0 < p → r * p < (r + 1) * p
       further r p some = omega arith
 
-      under : (a b c d : ℕ) → a < b → b ≤ c → c ≤ d → a < d
-      under a b c d one two three = omega arith
-
       first_below : (r p e n : ℕ) → 0 < p → (r + 1) * p ≤ e → e ≤ n → r * p < n
-      first_below r p e n some low le = under (r * p) ((r + 1) * p) e n (further r p some) low le
+      first_below r p e n some low le = omega (arith, further r p some, low, le)
   range_of (Desummarising only) at range below le has summarises = absurd (summarises only refl)
 
   module _ (job : Job) (at range : ℕ) (g : Phase) (was : w.task s ≡ Maintains job at range g) where

@@ -16,12 +16,6 @@ sum_grows f m zero le = subst (λ k. sum_below k f ≤ 0) (sym (none m le)) (le_
     none m le = omega arith
 
 sum_grows f m (suc n) le = ⊎_elim
-    (λ (less : m < suc n). more (sum_below m f) (sum_below n f) (f n) (sum_grows f m n (lower m n less)))
+    (λ (less : m < suc n). omega (arith, sum_grows f m n (omega arith)))
     (λ (all : suc n ≤ m). subst (λ k. sum_below k f ≤ sum_below n f + f n) (le_antisymm all le) (le_refl (sum_below n f + f n)))
     (lt_or_ge m (suc n))
-  where
-    more : (a b c : ℕ) → a ≤ b → a ≤ b + c
-    more a b c le = omega arith
-
-    lower : (a b : ℕ) → a < suc b → a ≤ b
-    lower a b less = omega arith

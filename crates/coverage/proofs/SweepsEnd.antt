@@ -27,15 +27,12 @@ for_tuples u m p kind none has is = ⊎_elim
 page_within : (u : TableState) (m p : ℕ) → IsTableKept u → HasTuples u m p → (0 < p) × (p < page_limit u m)
 page_within u m p kept has =
     let ordered = (kept.indexes m has.0).ordered in (
-      past p (λ zeroth. for_tuples u m p Mapping tt has (ordered.map p (first p (u.index m).pages.map_pages zeroth))),
+      past p (λ zeroth. for_tuples u m p Mapping tt has (ordered.map p (omega arith))),
       ordered.below p (λ is. for_tuples u m p Unstarted tt has is),
     )
   where
     past : (p : ℕ) → (p ≡ 0 → ⊥) → 0 < p
     past p not = omega arith
-
-    first : (p n : ℕ) → p ≡ 0 → p ≤ n
-    first p n is = omega arith
 
 module _ (u : TableState) (kept : IsTableKept u) where
   abbrev all : ℕ
@@ -43,31 +40,21 @@ module _ (u : TableState) (kept : IsTableKept u) where
 
   -- a sweep has no more before it than the pages of all indexes
   at_most_all : (m p : ℕ) → m < u.indexes → (all - sum_below (suc m) (page_limit u)) + (page_limit u m - p) ≤ all
-  at_most_all m p below = counts all (sum_below m (page_limit u)) (page_limit u m) p (sum_grows (page_limit u) (suc m) u.indexes below)
-    where
-      counts : (a b c p : ℕ) → b + c ≤ a → (a - (b + c)) + (c - p) ≤ a
-      counts a b c p le = omega arith
+  at_most_all m p below = omega (arith, sum_grows (page_limit u) (suc m) u.indexes below)
 
   -- the page that comes next has fewer before it
   next_fewer : (at page m p : ℕ) → HasTuples u m p → IsFrom at (suc page) m p
       → cleaning_steps u (Sweeps m p) < cleaning_steps u (Sweeps at page)
   next_fewer at page m p has from = ⊎_elim
       (λ (later : at < m).
-      other (sum_below (suc at) (page_limit u)) (sum_below m (page_limit u)) (page_limit u m) all p (page_limit u at - page)
-      (sum_grows (page_limit u) (suc at) m later) (sum_grows (page_limit u) (suc m) u.indexes has.0) inside.0 inside.1)
+      omega (arith, sum_grows (page_limit u) (suc at) m later, sum_grows (page_limit u) (suc m) u.indexes has.0, inside.0, inside.1))
       (λ (same : (at ≡ m) × (suc page ≤ p)).
       subst (λ n. cleaning_steps u (Sweeps m p) < cleaning_steps u (Sweeps n page)) (sym same.0)
-      (fewer (all - sum_below (suc m) (page_limit u)) (page_limit u m) page p same.1 inside.1))
+      (omega (arith, same.1, inside.1)))
       from
     where
       inside : (0 < p) × (p < page_limit u m)
       inside = page_within u m p kept has
-
-      fewer : (a c page p : ℕ) → suc page ≤ p → p < c → a + (c - p) < a + (c - page)
-      fewer a c page p after below = omega arith
-
-      other : (b d c a p rest : ℕ) → b ≤ d → d + c ≤ a → 0 < p → p < c → (a - (d + c)) + (c - p) < (a - b) + rest
-      other b d c a p rest le le' some below = omega arith
 
 -- where the limits are the same, so is what is left
 module _ (w v : TableState) (indexes : v.indexes ≡ w.indexes) (limits : (i : ℕ) → page_limit v i ≡ page_limit w i) where
@@ -98,15 +85,9 @@ module _ (s : ℕ) (w v : TableState) (step : TableStep s w v) (kept : IsTableKe
 
   block_on : (extent next : ℕ) (t : Task) → next < extent → Onward u (Prunes extent (suc next)) t → IsCleaning t
       → cleaning_steps u t < cleaning_steps u (Prunes extent next)
-  block_on extent next _ below (Stays _ has) cleaning = fewer (sum_below u.indexes (page_limit u))
-    where
-      fewer : (n : ℕ) → (extent - suc next) + n < (extent - next) + n
-      fewer n = omega arith
+  block_on extent next _ below (Stays _ has) cleaning = omega arith
   block_on extent next t below (Pruned _ _ _ all more) cleaning =
-      through (cleaning_steps u t) (sum_below u.indexes (page_limit u)) (first_page_on t more cleaning)
-    where
-      through : (m n : ℕ) → m ≤ n → m < (extent - next) + n
-      through m n le = omega arith
+      omega (arith, first_page_on t more cleaning)
 
   -- from what is left of the table that the step made
   left_of : (task new : Task) → u.task s ≡ new → u.indexes ≡ w.indexes → ((i : ℕ) → page_limit u i ≡ page_limit w i)

@@ -148,15 +148,12 @@ module _ (w : TableState) (old : TableScan) (exact : JudgesExactly w old) where
 
   next_behind : (keeps : Bool) (i range : ℕ) → judged_with old keeps i range ≢ None → Next i range
   next_behind keeps i range some = ⊎_elim
-      (λ (is : IsHere old keeps i range). inr (is.0, less_suc range old.range is.1))
+      (λ (is : IsHere old keeps i range). inr (is.0, omega (arith, is.1)))
       (λ (other : IsElsewhere old keeps i range). ⊎_elim
       (λ (before : i < old.at). inl before)
       (λ (at : (i ≡ old.at) × (range < old.range)). inr (at.0, below_next at.1))
       (exact.behind i range (λ none. some (judged_elsewhere old keeps i range other ∙ none))))
       (here_or_not old keeps i range)
-    where
-      less_suc : (a b : ℕ) → a ≡ b → a < suc b
-      less_suc a b is = omega arith
 
   abbrev LeftIn : (ℕ → ℕ → Option Bool) → ℕ → Type 0
   LeftIn judged b = (b < old.extent) × ((i : ℕ) → i < w.indexes → judged i (range_in w i b) ≢ Some false)
@@ -235,13 +232,10 @@ next_exact w scan exact all = record {
       behind;
   behind = λ i m some. ⊎_elim
       (λ (before : i < scan.at). inl (below_next before))
-      (λ (at : (i ≡ scan.at) × (m < scan.range)). inl (less_suc i scan.at at.0))
+      (λ (at : (i ≡ scan.at) × (m < scan.range)). inl (omega (arith, at.0)))
       (exact.behind i m some);
 }
   where
-    less_suc : (a b : ℕ) → a ≡ b → a < suc b
-    less_suc a b is = omega arith
-
     lower : (i m : ℕ) → i ≡ scan.at → first_block w i m < scan.extent → m < scan.range
     lower i m is low =
         lt_of_mul-lt-mul_right (w.index scan.at).pages_per_range

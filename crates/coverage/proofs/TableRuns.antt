@@ -99,7 +99,7 @@ module _ (s : ℕ) (w v : TableState) (kept : AreIndexesKept w) (i : ℕ) (below
           others = takes.others;
           pages_per_range = ap (λ (x : Index). x.pages_per_range) index;
           grown = subst (λ n. w.blocks ≤ n) (sym takes.blocks) (grown w.blocks b);
-          below = subst (λ n. b < n) (sym takes.blocks) (inside w.blocks b);
+          below = subst (λ n. b < n) (sym takes.blocks) (omega arith);
         };
         frame = rows_frame i s w v index takes.summarise_lock;
         pages = ap (λ (x : Index). x.pages) index;
@@ -109,9 +109,6 @@ module _ (s : ℕ) (w v : TableState) (kept : AreIndexesKept w) (i : ℕ) (below
     where
       grown : (n b : ℕ) → n ≤ max n (b + 1)
       grown n b = omega arith
-
-      inside : (n b : ℕ) → b < max n (b + 1)
-      inside n b = omega arith
 
   pub insert_goes : (b k : ℕ) (r : Row) (at : ℕ) (old new : OnIndex) → TaskTurns s w v (Inserts b k r at old) (Inserts b k r at new) → StepsIn at w v
       → InsertStep s b k r (index_view_at at w) (index_view_at at v) old (Inserting b k r new) → v.summarise_lock ≡ w.summarise_lock

@@ -52,13 +52,10 @@ module _ (s : ℕ) (w v : TableState) (kept : IsTableKept w) where
             (λ (is : next ≡ b).
             inl (subst (λ n. IsTrue (found n k)) is
             (reads.page k row.0 (ap (λ n. w.row n k) is ∙ row.1) (subst (λ n. IsTrue (scan.sees n k)) (sym is) sees) matches)))
-            (λ (other : next ≢ b). inr (left.0, after next b (reads.first b left.0 left.1) other))
+            (λ (other : next ≢ b). inr (left.0, omega (arith, reads.first b left.0 left.1, other)))
             (cases_eq next b))
             (row.2 matches),
       )
-    where
-      after : (m n : ℕ) → m ≤ n → m ≢ n → m + 1 ≤ n
-      after m n le other = omega arith
 
   -- the scan of the session that steps, and those of others
   own_seen : (scan : TableScan) → ScanComes s w v scan → SeesRows v scan
@@ -130,8 +127,4 @@ table_run_kept _ _ _ kept (TableNext s rest w u v step more) = table_run_kept re
 pub table_run_blocks : (steps : List ℕ) (w v : TableState) → TableRun steps w v → w.blocks ≤ v.blocks
 table_run_blocks _ _ _ (TableDone w) = le_refl w.blocks
 table_run_blocks _ _ _ (TableNext s rest w u v step more) =
-    through w.blocks step.between.blocks u.blocks v.blocks (does_leaves s w step.between step.does).blocks
-    (settles_leaves s step.between u step.settles).blocks (table_run_blocks rest u v more)
-  where
-    through : (a b c d : ℕ) → a ≤ b → b ≤ c → c ≤ d → a ≤ d
-    through a b c d one two three = omega arith
+    omega (arith, (does_leaves s w step.between step.does).blocks, (settles_leaves s step.between u step.settles).blocks, table_run_blocks rest u v more)

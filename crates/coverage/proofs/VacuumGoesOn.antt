@@ -71,9 +71,6 @@ module _ (u : TableState) (at from : ℕ) (stuck : (new : Task) → Onward u (Sw
   next_is : (m p : ℕ) → ((n q : ℕ) → n < m → NoneAt n q) → ((q : ℕ) → q < p → NoneAt m q) → NoneAt m p
   next_is m p lower earlier has after = stuck (Sweeps m p) (ToPage at from m p (record { has = has; after = after; first = first }))
     where
-      above : (a b : ℕ) → a ≤ b → a ≢ b → a < b
-      above a b le other = omega arith
-
       first : (n q : ℕ) → HasTuples u n q → IsFrom at from n q → IsFrom m p n q
       first n q has' after' = ⊎_elim
           (λ (less : n < m). absurd (lower n q less has' after'))
@@ -83,7 +80,7 @@ module _ (u : TableState) (at from : ℕ) (stuck : (new : Task) → Onward u (Sw
           absurd (earlier q before (subst (λ j. HasTuples u j q) (sym same) has') (subst (λ j. IsFrom at from j q) (sym same) after')))
           (λ (more : p ≤ q). inr (same, more))
           (lt_or_ge q p))
-          (λ (other : m ≢ n). inl (above m n le other))
+          (λ (other : m ≢ n). inl (omega arith))
           (cases_eq m n))
           (lt_or_ge n m)
 
@@ -110,7 +107,7 @@ prune_goes_on w s extent next was below stuck = ⊎_elim
     (λ (all : extent ≤ suc next). ⊎_elim
     (λ (none : w.indexes ≡ 0). no_end w s stuck u task now does points.Prune refl (NothingToSweep extent (suc next) all none))
     (λ (some : w.indexes ≢ 0).
-    sweep_onward u 0 0 (λ new onward. no_onward w s stuck u task now does points.Prune refl new (Pruned extent (suc next) new all onward)) (positive w.indexes some))
+    sweep_onward u 0 0 (λ new onward. no_onward w s stuck u task now does points.Prune refl new (Pruned extent (suc next) new all onward)) (omega arith))
     (cases_eq w.indexes 0))
     (lt_or_ge (suc next) extent)
   where
@@ -122,9 +119,6 @@ prune_goes_on w s extent next was below stuck = ⊎_elim
 
     now : u.task s ≡ task
     now = pick_same s (Prunes extent (suc next)) (w.task s)
-
-    positive : (n : ℕ) → n ≢ 0 → 0 < n
-    positive n some = omega arith
 
     does : Does s w u
     does = PrunesBlock extent next (λ b k. false) below (λ n b k other dead either. false≢true dead) (turns_here w s (Prunes extent next) task was) (record {
@@ -249,11 +243,8 @@ module _ (w : TableState) (s at page : ℕ) where
 
   pub sweep_goes_on : w.task s ≡ Sweeps at page → at < w.indexes → IsFree view.lock s page → IsTableStuck w s → ⊥
   sweep_goes_on was inside free stuck =
-      sweep_onward swept_state at (suc page) (no_onward w s stuck swept_state after (pick_same s after (w.task s)) does points.Sweep refl) (positive at w.indexes inside)
+      sweep_onward swept_state at (suc page) (no_onward w s stuck swept_state after (pick_same s after (w.task s)) does points.Sweep refl) (omega arith)
     where
-      positive : (a n : ℕ) → a < n → 0 < n
-      positive a n less = omega arith
-
       here : pick at at swept_index (w.index at) ≡ swept_index
       here = pick_same at swept_index (w.index at)
 

@@ -245,14 +245,8 @@ tuple_page (suc (suc (suc q))) is = absurd (⊎_elim
     (λ (e : grown_kind (suc (suc (suc q))) ≡ Regular). differ 0 2 (ap kind_number e) (omega arith))
     (λ (e : grown_kind (suc (suc (suc q))) ≡ Emptying). differ 0 3 (ap kind_number e) (omega arith)) is)
 
-from_two : (q : ℕ) → q ≡ 2 → 2 ≤ q
-from_two q is = omega arith
-
-not_three : (q : ℕ) → q ≡ 2 → 3 ≤ q → ⊥
-not_three q is high = omega arith
-
 first_of_all : (e : Task) (n q : ℕ) → HasTuples (block_pruned e) n q → IsFrom 0 0 n q → IsFrom 0 2 n q
-first_of_all e zero q has from = inr (refl, from_two q (tuple_page q has.1))
+first_of_all e zero q has from = inr (refl, omega (arith, tuple_page q has.1))
 first_of_all e (suc n) q has from = inl (omega arith)
 
 prunes : (r : Row) → TableStep 0 (vacuum_begun r) (block_pruned (Sweeps 0 2))
@@ -348,9 +342,9 @@ sweep_first = record {
     next_of_all : (n q : ℕ) → HasTuples (first_index_swept (SweepsFrom 0 3)) n q → IsFrom 0 3 n q → IsFrom 1 2 n q
     next_of_all zero q has from = absurd (⊎_elim
         (λ (less : 0 < 0). lt_irrefl 0 less)
-        (λ (high : (0 ≡ 0) × (3 ≤ q)). not_three q (tuple_page q has.1) high.1)
+        (λ (high : (0 ≡ 0) × (3 ≤ q)). omega (arith, tuple_page q has.1, high.1))
         from)
-    next_of_all (suc zero) q has from = inr (refl, from_two q (tuple_page q has.1))
+    next_of_all (suc zero) q has from = inr (refl, omega (arith, tuple_page q has.1))
     next_of_all (suc (suc n)) q has from = inl (omega arith)
 
 sweep_second : TableStep 0 (first_index_swept (Sweeps 1 2)) (both_indexes_swept (Restarts 0))
@@ -372,7 +366,7 @@ sweep_second = record {
         from
     none_left (suc zero) p has from = ⊎_elim
         (λ (less : 1 < 1). lt_irrefl 1 less)
-        (λ (high : (1 ≡ 1) × (3 ≤ p)). not_three p (tuple_page p has.1) high.1)
+        (λ (high : (1 ≡ 1) × (3 ≤ p)). omega (arith, tuple_page p has.1, high.1))
         from
     none_left (suc (suc m)) p has from = past m has.0
 
@@ -401,7 +395,4 @@ vacuum_run r = TableNext 0 _ _ _ _ (takes r) (TableNext 0 _ _ _ _ (prunes r) (Ta
 pub tuples_went : (r : Row) (i : ℕ) → i < 2 → (((at_rest r).index i).tuple place ≢ None) × ((vacuum_ended.index i).tuple place ≡ None)
 tuples_went r zero low = ((λ is. none-some _ (sym is)), refl)
 tuples_went r (suc zero) low = ((λ is. none-some _ (sym is)), refl)
-tuples_went r (suc (suc i)) low = absurd (past i low)
-  where
-    past : (m : ℕ) → suc (suc m) < 2 → ⊥
-    past m less = omega arith
+tuples_went r (suc (suc i)) low = absurd (omega arith)
