@@ -27,10 +27,7 @@ module _ (w : IndexView) (s range : ℕ) (x : Spot) (old new : IndexTuple) (entr
       (settled x old (subst (λ m. w.entry m ≡ Some x) of entry) here)
 
   pub carried_final : new.placeholder ≡ false → IsAccounted w b r → IsTrue (new.includes r)
-  carried_final final settled = ⊎_elim
-      (λ (has : IsTrue (new.includes r)). has)
-      (λ (waits : (new.placeholder ≡ true) × AllAwait w b r). absurd (false≢true (sym final ∙ waits.0)))
-      (carried settled)
+  carried_final final settled = elim (carried settled) [ inl has ↦ has | inr waits ↦ absurd (false≢true (sym final ∙ waits.0)) ]
 
 -- builders that may end await as before
 pub ends_await : (s : ℕ) (w v : IndexView) → MayEnd s w v → v.pages_per_range ≡ w.pages_per_range → (b : ℕ) (r : Row) → AllAwait w b r → AllAwait v b r
@@ -42,10 +39,7 @@ ends_await s w v ends per b r all n p is = ⊎_elim
 module _ (s : ℕ) (d : ℕ → ℕ → Bool) (w v : IndexView) (range : ℕ) (x : Spot) (old new : IndexTuple) (sound : IsSound w)
     (kind : Swaps s w v range x old new) where
   swap_at : (y : Spot) (t : IndexTuple) → v.tuple y ≡ Some t → ((y ≡ x) × (t ≡ new)) ⊎ (w.tuple y ≡ Some t)
-  swap_at y t here = ⊎_elim
-      (λ (e : y ≡ x). inl (e, same_Some _ _ (sym here ∙ ap v.tuple e ∙ kind.tuple.now)))
-      (λ (e : v.tuple y ≡ w.tuple y). inr (sym e ∙ here))
-      (kind.tuple.others y)
+  swap_at y t here = elim (kind.tuple.others y) [ inl e ↦ inl (e, same_Some _ _ (sym here ∙ ap v.tuple e ∙ kind.tuple.now)) | inr e ↦ inr (sym e ∙ here) ]
 
   entry_back : (b : ℕ) (y : Spot) → v.entry (range_of_block v b) ≡ Some y → w.entry (range_of_block w b) ≡ Some y
   entry_back b y named = ap (λ m. w.entry (b / m)) (sym kind.frame.heap.pages_per_range) ∙ sym (kind.frame.map.entry (range_of_block v b)) ∙ named

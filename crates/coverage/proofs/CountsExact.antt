@@ -1,5 +1,5 @@
 -- What a step counts is what it does: a range gets its final tuple, an entry leaves the map, an unnamed tuple goes.
-use Rattle.std.proofs.Common.{◌≡◌, ◌≢◌, ⊎_elim, ℕ, None, false, sym, ◌∙◌, ap, subst, arith}
+use Rattle.std.proofs.Common.{◌≡◌, ◌≢◌, inl, inr, ⊎_elim, ℕ, None, false, sym, ◌∙◌, ap, subst, arith}
 use Rattle.std.specs.Prelude.{refl, ◌↔◌}
 use Rattle.std.proofs.lemmas.Option.{same_Some, none-some}
 use Rattle.std.proofs.lemmas.Bool.{false≢true}
@@ -137,9 +137,6 @@ module _ (s range : ℕ) (w v : IndexState) where
 pub swept_exact : (s page : ℕ) (w v : IndexView) → SweepsTuples s w v page (λ x. (x.block ≡ page) × IsUnnamed w x) → (x : Spot) → x.block ≡ page
     → HasGone (w.tuple x) (v.tuple x) ↔ IsUnnamed w x
 swept_exact s page w v sweeps x on = (
-  (λ gone. ⊎_elim
-      (λ (same : IsUntouched w v x). absurd (gone.0 (sym same.0 ∙ gone.1)))
-      (λ (swept : (x.block ≡ page) × ((x.block ≡ page) × IsUnnamed w x)). swept.1.1)
-      (sweeps.places x)),
+  (λ gone. elim (sweeps.places x) [ inl same ↦ absurd (gone.0 (sym same.0 ∙ gone.1)) | inr swept ↦ swept.1.1 ]),
   λ unnamed. ((λ none. none-some _ (sym none ∙ unnamed.1)), (sweeps.gone x (on, unnamed)).0),
 )

@@ -34,10 +34,7 @@ statement_held w s (Scanning scan) known range x holds = known.1 range x holds
 
 pub kept_covered : (w : IndexState) → IsIndexKept w → IsCovered w
 kept_covered w kept = record {
-  rows_settled = λ b k r there counts. ⊎_elim
-      (λ (a : IsAccounted (index_view w) b r). inl (accounted_settled (index_view w) kept.sound b r a))
-      (λ (i : (s : ℕ) × (on_index : OnIndex) × (w.statement s ≡ Inserting b k r on_index)). inr i)
-      (kept.rows b k r there counts);
+  rows_settled = λ b k r there counts. elim (kept.rows b k r there counts) [ inl a ↦ inl (accounted_settled (index_view w) kept.sound b r a) | inr i ↦ inr i ];
   entries_name_tuples = λ range x named.
       let t = kept.sound.entries_name_tuples range x named in
       (t.0, t.1, t.2, named_formed (index_view w) range x t.0 kept.sound named t.1);

@@ -14,10 +14,7 @@ use Rattle.coverage.specs.TableSteps.{ListsFound}
 
 before_through : (a b c : RowId) → IsBefore a b → IsBefore b c → IsBefore a c
 before_through a b c one two = ⊎_elim
-    (λ (less : a.t < b.t). ⊎_elim
-    (λ (more : b.t < c.t). inl (lt_trans less more))
-    (λ (same : (b.t ≡ c.t) × (b.k < c.k)). inl (subst (λ n. a.t < n) same.0 less))
-    two)
+    (λ (less : a.t < b.t). elim two [ inl more ↦ inl (lt_trans less more) | inr same ↦ inl (subst (λ n. a.t < n) same.0 less) ])
     (λ (same : (a.t ≡ b.t) × (a.k < b.k)). ⊎_elim
     (λ (more : b.t < c.t). inl (subst (λ n. n < c.t) (sym same.0) more))
     (λ (same' : (b.t ≡ c.t) × (b.k < c.k)). inr (same.0 ∙ same'.0, lt_trans same.1 same'.1))
@@ -60,10 +57,7 @@ with_one id (a ∷ l) order = ⊎_elim
     (λ (first : IsBefore id a). record {
       list = id ∷ a ∷ l;
       ordered = (
-        (λ x among. ⊎_elim
-            (λ (is : x ≡ a). subst (IsBefore id) (sym is) first)
-            (λ (behind : IsAmong l x). before_through id a x first (order.0 x behind))
-            among),
+        (λ x among. elim among [ inl is ↦ subst (IsBefore id) (sym is) first | inr behind ↦ before_through id a x first (order.0 x behind) ]),
         order,
       );
       from = λ x among. among;
@@ -83,24 +77,15 @@ with_one id (a ∷ l) order = ⊎_elim
     record {
       list = a ∷ more.list;
       ordered = (
-        (λ x among. ⊎_elim
-            (λ (is : x ≡ id). subst (IsBefore a) (sym is) later)
-            (λ (behind : IsAmong l x). order.0 x behind)
-            (more.from x among)),
+        (λ x among. elim (more.from x among) [ inl is ↦ subst (IsBefore a) (sym is) later | inr behind ↦ order.0 x behind ]),
         more.ordered,
       );
       from = λ x among. ⊎_elim
           (λ (is : x ≡ a). inr (inl is))
-          (λ (behind : IsAmong more.list x). ⊎_elim
-          (λ (is : x ≡ id). inl is)
-          (λ (was : IsAmong l x). inr (inr was))
-          (more.from x behind))
+          (λ (behind : IsAmong more.list x). elim (more.from x behind) [ inl is ↦ inl is | inr was ↦ inr (inr was) ])
           among;
       this = inr more.this;
-      others = λ x among. ⊎_elim
-          (λ (is : x ≡ a). inl is)
-          (λ (behind : IsAmong l x). inr (more.others x behind))
-          among;
+      others = λ x among. elim among [ inl is ↦ inl is | inr behind ↦ inr (more.others x behind) ];
     })
     other)
     (ids_compare id a)
@@ -135,10 +120,7 @@ module _ (w : TableState) (scan : TableScan) where
             (λ (less : j < n). more.others q.id (lists.all c j q (inr (at.0, less)) is here))
             (last_or_below j n at.1))
             has;
-        only = λ id among. ⊎_elim
-            (λ (is : id ≡ r.id). (b, n, r, found, there, sym is))
-            (λ (was : IsAmong lists.ids id). lists.only id was)
-            (more.from id among);
+        only = λ id among. elim (more.from id among) [ inl is ↦ (b, n, r, found, there, sym is) | inr was ↦ lists.only id was ];
       }
   with_slot b n lists true found None none = record {
     ids = lists.ids;
@@ -169,10 +151,7 @@ module _ (w : TableState) (scan : TableScan) where
   slots_listed b zero lists = record {
     ids = lists.ids;
     ordered = lists.ordered;
-    all = λ c j q has is here. ⊎_elim
-        (λ (low : c < b). lists.all c j q low is here)
-        (λ (at : (c ≡ b) × (j < zero)). absurd (not-suc-le-zero at.1))
-        has;
+    all = λ c j q has is here. elim has [ inl low ↦ lists.all c j q low is here | inr at ↦ absurd (not-suc-le-zero at.1) ];
     only = lists.only;
   }
   slots_listed b (suc n) lists = with_slot b n (slots_listed b n lists) (scan.found b n) refl (w.row b n) refl

@@ -57,10 +57,7 @@ module _ (s : ℕ) (u v : TableState) (b k : ℕ) (r : Row) (at : ℕ) where
       by (GoesOn old new onward turns only) =
           let same : new ≡ Inserts b k r at h = insert_onward u b k r at h new (subst (λ t. Onward u t new) (sym turns.was ∙ is) onward) in (
             turns.now ∙ same,
-            same_view at u v only (λ n. ⊎_elim
-                (λ (here : n ≡ s). ap v.task here ∙ turns.now ∙ same ∙ sym is ∙ ap u.task (sym here))
-                (λ (e : v.task n ≡ u.task n). e)
-                (turns.others n)),
+            same_view at u v only (λ n. elim (turns.others n) [ inl here ↦ ap v.task here ∙ turns.now ∙ same ∙ sym is ∙ ap u.task (sym here) | inr e ↦ e ]),
           )
       by (GivesLock old done turns given rows indexes) =
           absurd (insert_unmaintained u b k r at h (subst (IsMaintained u) (sym turns.was ∙ is) done))

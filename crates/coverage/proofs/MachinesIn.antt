@@ -50,10 +50,7 @@ module _ (s at : ℕ) (old new : ShownTable) (changes : ChangesIndex at old new)
     };
     others = λ i. ⊎_elim
         (λ (is : i ≡ at). inl is)
-        (λ (same : new.index i ≡ old.index i). ⊎_elim
-        (λ (is : i ≡ at). inl is)
-        (λ (same' : unnamed i ≡ u.unnamed i). inr (λ j. index_with (same j) (same' j)))
-        (apart i))
+        (λ (same : new.index i ≡ old.index i). elim (apart i) [ inl is ↦ inl is | inr same' ↦ inr (λ j. index_with (same j) (same' j)) ])
         (changes.others i);
     autosummarize = changes.autosummarize;
   }

@@ -235,10 +235,7 @@ module _ (s range : ℕ) (w v : IndexState) (sound : IsSound (index_view w)) (su
         (
           sets.frame.summarise_lock ∙ summarise_lock,
           (
-            ⊎_elim
-                (λ (at : range ≡ m). absurd (none-some _ (sym known.0 ∙ ap w.entry at ∙ known.1.2)))
-                (λ (kept : v.entry range ≡ w.entry range). kept ∙ known.0)
-                (sets.entry.others range),
+            elim (sets.entry.others range) [ inl at ↦ absurd (none-some _ (sym known.0 ∙ ap w.entry at ∙ known.1.2)) | inr kept ↦ kept ∙ known.0 ],
             set_knows s w v (Maintaining range (Evacuating m (Moving x y t u))) (Maintaining range (Evacuating m (Dropping x))) turned sound m MakesSame
                 (makes_same (index_view w) s m) MakesSame m x y t u known.1 sets locked,
             range_kept sets.frame.contents sets.frame.heap known.2,

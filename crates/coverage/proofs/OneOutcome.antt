@@ -1,5 +1,5 @@
 -- Where a statement comes by its step on an index is one thing: what stands on the pages decides it.
-use Rattle.std.proofs.Common.{◌≡◌, ◌≢◌, ◌⊎◌, ⊎_elim, ℕ, ◌+◌, ◌*◌, ◌≤◌, ◌<◌, min, Option, Some, None, true, false, length, sym, ◌∙◌, ap, subst, arith, zero, suc}
+use Rattle.std.proofs.Common.{◌≡◌, ◌≢◌, ◌⊎◌, inl, inr, ⊎_elim, ℕ, ◌+◌, ◌*◌, ◌≤◌, ◌<◌, min, Option, Some, None, true, false, length, sym, ◌∙◌, ap, subst, arith, zero, suc}
 use Rattle.std.specs.Prelude.{refl}
 use Rattle.std.proofs.lemmas.Option.{same_Some, none-some}
 use Rattle.std.proofs.lemmas.Bool.{cases_eq, false≢true}
@@ -107,10 +107,7 @@ module _ (w : IndexView) (s b k : ℕ) (r : Row) where
       → (new ≢ old) ⊎ IsLocked w.lock s x.block → Stands w (range_of_block w b) x t → t ≡ w.contents.added r t → IsFree w.lock s x.block → ⊥
   copies_or_not x old new t stands added changes stands' same free =
       let one : old ≡ t = there_same w s (range_of_block w b) x old t stands stands' in
-      ⊎_elim
-      (λ (other : new ≢ old). other (added ∙ ap (w.contents.added r) one ∙ sym same ∙ sym one))
-      (λ (locked : IsLocked w.lock s x.block). free_not_locked w s x.block free locked)
-      changes
+      elim changes [ inl other ↦ other (added ∙ ap (w.contents.added r) one ∙ sym same ∙ sym one) | inr locked ↦ free_not_locked w s x.block free locked ]
 
   insert_same : (g : OnIndex) (e f : Statement) → NextInsert w s b k r g e → NextInsert w s b k r g f → e ≡ f
   insert_same _ _ _ (GoesOn g h one) (GoesOn g' h' two) = ap (Inserting b k r) (on_index_same w s (range_of_block w b) g h h' one two)

@@ -15,24 +15,13 @@ use Rattle.coverage.specs.TableSteps.{TableStep}
 -- two places, each from the other on, are one
 from_once : (m p n q : ℕ) → IsFrom m p n q → IsFrom n q m p → (m ≡ n) × (p ≡ q)
 from_once m p n q one two = ⊎_elim
-    (λ (less : m < n). ⊎_elim
-    (λ (more : n < m). absurd (not-le_of_lt less (le_of_lt more)))
-    (λ (at : (n ≡ m) × (q ≤ p)). absurd (ne_of_lt less (sym at.0)))
-    two)
-    (λ (at : (m ≡ n) × (p ≤ q)). ⊎_elim
-    (λ (more : n < m). absurd (ne_of_lt more (sym at.0)))
-    (λ (back : (n ≡ m) × (q ≤ p)). (at.0, le_antisymm at.1 back.1))
-    two)
+    (λ (less : m < n). elim two [ inl more ↦ absurd (not-le_of_lt less (le_of_lt more)) | inr at ↦ absurd (ne_of_lt less (sym at.0)) ])
+    (λ (at : (m ≡ n) × (p ≤ q)). elim two [ inl more ↦ absurd (ne_of_lt more (sym at.0)) | inr back ↦ (at.0, le_antisymm at.1 back.1) ])
     one
 
 -- a scan with a step left neither goes to the next index nor is done
 scan_stays : (w : TableState) (scan : TableScan) → ScanHasStep w scan → scan.at < w.indexes → scan.extent ≤ first_block w scan.at scan.range → ⊥
-scan_stays w scan has inside all = ⊎_elim
-    (λ (judges : (scan.at < w.indexes) × (first_block w scan.at scan.range < scan.extent)).
-    not-le_of_lt judges.1 all)
-    (λ (reads : (scan.explains ≡ false) × (scan.at ≡ w.indexes) × ((b : ℕ) × IsTrue (scan.candidate b) × (scan.read ≤ b))).
-    ne_of_lt inside reads.1)
-    has
+scan_stays w scan has inside all = elim has [ inl judges ↦ not-le_of_lt judges.1 all | inr reads ↦ ne_of_lt inside reads.1 ]
 
 scan_reads : (w : TableState) (scan : TableScan) → ScanHasStep w scan → scan.at ≡ w.indexes
     → (scan.explains ≡ true) ⊎ ((b : ℕ) → IsTrue (scan.candidate b) → b < scan.read) → ⊥

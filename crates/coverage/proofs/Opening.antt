@@ -90,10 +90,7 @@ module _ (w v : IndexState) (kept : IsIndexKept w) (stops : Stops w v) where
 
   -- a tuple that stands there stood there before
   came : (x : Spot) (t : IndexTuple) → v.tuple x ≡ Some t → w.tuple x ≡ Some t
-  came x t here = ⊎_elim
-      (λ (same : v.tuple x ≡ w.tuple x). sym same ∙ here)
-      (λ (gone : (v.tuple x ≡ None) × ((range : ℕ) → w.entry range ≢ Some x)). absurd (none-some _ (sym gone.0 ∙ here)))
-      (stops.tuples x)
+  came x t here = elim (stops.tuples x) [ inl same ↦ sym same ∙ here | inr gone ↦ absurd (none-some _ (sym gone.0 ∙ here)) ]
 
   stopped_ordered : AreOrdered (index_view v)
   stopped_ordered = ⊎_elim
@@ -134,16 +131,10 @@ module _ (w v : IndexState) (kept : IsIndexKept w) (stops : Stops w v) where
       entries_name_tuples = λ m x named.
           let t = kept.sound.entries_name_tuples m x (sym (stops.map.entry m) ∙ named) in (
             t.0,
-            ⊎_elim
-                (λ (same : v.tuple x ≡ w.tuple x). same ∙ t.1)
-                (λ (gone : (v.tuple x ≡ None) × ((range : ℕ) → w.entry range ≢ Some x)). absurd (gone.1 m (sym (stops.map.entry m) ∙ named)))
-                (stops.tuples x),
+            elim (stops.tuples x) [ inl same ↦ same ∙ t.1 | inr gone ↦ absurd (gone.1 m (sym (stops.map.entry m) ∙ named)) ],
             t.2,
           );
-      tuples_are_named = λ x t here. ⊎_elim
-          (λ (e : v.entry t.range ≡ Some x). inl e)
-          (λ (u : IsTrue (v.unnamed x)). inr (inr u))
-          (stops.unnamed x t here);
+      tuples_are_named = λ x t here. elim (stops.unnamed x t here) [ inl e ↦ inl e | inr u ↦ inr (inr u) ];
       formed = stopped_formed;
       unnamed_tuples = stops.rest.unnamed_tuples;
       builder_holds = λ s range p is. absurd (nobody_builds' s range p is);

@@ -95,10 +95,7 @@ quiet_put w v range x y old new named before of same put map map_pages = record 
 }
   where
     stays : (z : Spot) (u : IndexTuple) → w.tuple z ≡ Some u → v.tuple z ≡ Some u
-    stays z u here = ⊎_elim
-        (λ (at : z ≡ y). absurd (none-some _ (sym put.was ∙ ap w.tuple (sym at) ∙ here)))
-        (λ (e : v.tuple z ≡ w.tuple z). e ∙ here)
-        (put.others z)
+    stays z u here = elim (put.others z) [ inl at ↦ absurd (none-some _ (sym put.was ∙ ap w.tuple (sym at) ∙ here)) | inr e ↦ e ∙ here ]
 
 -- a swap in place, likewise
 pub quiet_swap : (w v : IndexView) (range : ℕ) (x : Spot) (old new : IndexTuple) → w.entry range ≡ Some x → new.range ≡ range
@@ -128,14 +125,8 @@ pub quiet_set : (s : ℕ) (w v : IndexView) (range : ℕ) (x y : Spot) (old new 
     → w.tuple y ≡ Some new → new.placeholder ≡ old.placeholder → SetsEntry s w v range y → Quiet w v
 quiet_set s w v range x y old new named before after same sets = record {
   map_pages = ap (λ (g : Pages). g.map_pages) sets.pages;
-  vacant = λ m none. ⊎_elim
-      (λ (at : m ≡ range). absurd (none-some _ (sym none ∙ ap w.entry at ∙ named)))
-      (λ (e : v.entry m ≡ w.entry m). e ∙ none)
-      (sets.entry.others m);
-  still = λ m z is. ⊎_elim
-      (λ (at : m ≡ range). (y, ap v.entry at ∙ sets.entry.now))
-      (λ (e : v.entry m ≡ w.entry m). (z, e ∙ is))
-      (sets.entry.others m);
+  vacant = λ m none. elim (sets.entry.others m) [ inl at ↦ absurd (none-some _ (sym none ∙ ap w.entry at ∙ named)) | inr e ↦ e ∙ none ];
+  still = λ m z is. elim (sets.entry.others m) [ inl at ↦ (y, ap v.entry at ∙ sets.entry.now) | inr e ↦ (z, e ∙ is) ];
   sorts = λ m z has t there in_m.
       let h = has t (sym (sets.frame.tuples.tuple z) ∙ there) in_m in
       ⊎_elim
@@ -158,10 +149,7 @@ quiet_drop w v x unnamed gone others map map_pages = record {
       (λ (at : z ≡ x). absurd (none-some _ (sym gone ∙ ap v.tuple (sym at) ∙ there)))
       (λ (e : v.tuple z ≡ w.tuple z).
       let h = has t (sym e ∙ there) in_m in
-      ⊎_elim
-      (λ (at : h.0 ≡ x). absurd (unnamed m (h.2 ∙ ap Some at)))
-      (λ (e' : v.tuple h.0 ≡ w.tuple h.0). (h.0, h.1, map.entry m ∙ h.2, e' ∙ h.3, h.4))
-      (others h.0))
+      elim (others h.0) [ inl at ↦ absurd (unnamed m (h.2 ∙ ap Some at)) | inr e' ↦ (h.0, h.1, map.entry m ∙ h.2, e' ∙ h.3, h.4) ])
       (others z);
 }
 
@@ -189,10 +177,7 @@ module _ (s : ℕ) (d : ℕ → ℕ → Bool) (w v : IndexView) (sound : IsSound
   within_on range ExtentUnread known = tt
   within_on range (Passing extent next result) known = (
     le_trans known.0 pages.blocks,
-    ⊎_elim
-        (λ (le : next ≤ extent). inl le)
-        (λ (is : next ≡ range * w.pages_per_range). inr (is ∙ ap (λ m. range * m) (sym pages.pages_per_range)))
-        known.1,
+    elim known.1 [ inl le ↦ inl le | inr is ↦ inr (is ∙ ap (λ m. range * m) (sym pages.pages_per_range)) ],
   )
 
   phase_pages_on : w.summarise_lock ≡ Some n → (range : ℕ) (phase : Phase) → KnowsPagesOfPhase w n range phase → KnowsPagesOfPhase v n range phase

@@ -222,10 +222,7 @@ names_on_index s range m w v _ _ (MovePut x y old new verdict puts these) names 
   names.0,
   names.1,
   puts.frame.map.entry range ∙ names.2,
-  ⊎_elim
-      (λ (at : names.0 ≡ y). absurd (none-some _ (sym puts.tuple.was ∙ ap w.tuple (sym at) ∙ names.3)))
-      (λ (e : v.tuple names.0 ≡ w.tuple names.0). e ∙ names.3)
-      (puts.tuple.others names.0),
+  elim (puts.tuple.others names.0) [ inl at ↦ absurd (none-some _ (sym puts.tuple.was ∙ ap w.tuple (sym at) ∙ names.3)) | inr e ↦ e ∙ names.3 ],
   names.4,
 )
 
@@ -233,10 +230,7 @@ within_same : (range : ℕ) (w v : IndexView) (p : Progress) → SameHeap w v �
 within_same range w v ExtentUnread heap within = tt
 within_same range w v (Passing extent next result) heap within = (
   subst (λ n. extent ≤ n) (sym heap.blocks) within.0,
-  ⊎_elim
-      (λ (le : next ≤ extent). inl le)
-      (λ (is : next ≡ range * w.pages_per_range). inr (is ∙ ap (λ m. range * m) (sym heap.pages_per_range)))
-      within.1,
+  elim within.1 [ inl le ↦ inl le | inr is ↦ inr (is ∙ ap (λ m. range * m) (sym heap.pages_per_range)) ],
 )
 
 uniting : (s range : ℕ) (w v : IndexView) (extent next : ℕ) (result : IndexTuple) → extent ≤ next → (g h : OnIndex) → OnIndexStep s range w v g h
@@ -254,10 +248,7 @@ module _ (s range : ℕ) (w v : IndexView) (ordered : AreOrdered w) (held : w.su
       order_turned w v ordered (next_map_page w.pages) kind turns.page (omega arith) low started (λ is. le_refl (next_map_page w.pages)) first
       (λ x t here.
       let was : w.tuple x ≡ Some t = sym (turns.frame.tuples.tuple x) ∙ here in
-      ⊎_elim
-      (λ (at : x.block ≡ next_map_page w.pages). inl (at, holds x t at was))
-      (λ (other : x.block ≢ next_map_page w.pages). inr (other, ordered.tuples x t was))
-      (cases_eq x.block (next_map_page w.pages)))
+      elim (cases_eq x.block (next_map_page w.pages)) [ inl at ↦ inl (at, holds x t at was) | inr other ↦ inr (other, ordered.tuples x t was) ])
       (entries_same w v ordered turns.frame.map)
     where
       first : (p : ℕ) → p < next_map_page w.pages → w.pages.kind p ≢ Unstarted
@@ -313,10 +304,7 @@ module _ (s range : ℕ) (w v : IndexView) (ordered : AreOrdered w) (held : w.su
   }
 
   long_enough : (IsPastMap w.pages range → ⊥) → map_page_of range ≤ w.pages.map_pages
-  long_enough long = ⊎_elim
-      (λ (past : w.pages.map_pages < map_page_of range). absurd (long past))
-      (λ (le : map_page_of range ≤ w.pages.map_pages). le)
-      (lt_or_ge w.pages.map_pages (map_page_of range))
+  long_enough long = elim (lt_or_ge w.pages.map_pages (map_page_of range)) [ inl past ↦ absurd (long past) | inr le ↦ le ]
 
   -- where the map was read, the tuple at the place is the one that it names
   sort_read : (x : Spot) → w.entry range ≡ Some x → ReadsIndex s w v → HasNamedSort v range x
@@ -401,10 +389,7 @@ module _ (s range : ℕ) (w v : IndexView) (ordered : AreOrdered w) (held : w.su
       (
         x.block,
         record {
-          locked = λ p one. ⊎_elim
-              (λ (at : p ≡ x.block). these.locked p (inl at))
-              (λ (more : (p ≡ x.block) ⊎ ((p ≡ map_page_of range) ⊎ ⊥)). these.locked p more)
-              one;
+          locked = λ p one. elim one [ inl at ↦ these.locked p (inl at) | inr more ↦ these.locked p more ];
           only = λ p is. inr (these.only p is);
         },
       ),

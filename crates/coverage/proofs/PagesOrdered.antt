@@ -24,18 +24,12 @@ IsNoMap kind = Unit
 
 -- a page with tuples is started, and is no map page
 pub for_tuples : (w : IndexView) (p : ℕ) → IsForTuples w.pages p → IsStarted (w.pages.kind p) × IsNoMap (w.pages.kind p)
-for_tuples w p is = ⊎_elim
-    (λ (r : w.pages.kind p ≡ Regular). (subst IsStarted (sym r) tt, subst IsNoMap (sym r) tt))
-    (λ (e : w.pages.kind p ≡ Emptying). (subst IsStarted (sym e) tt, subst IsNoMap (sym e) tt))
-    is
+for_tuples w p is = elim is [ inl r ↦ (subst IsStarted (sym r) tt, subst IsNoMap (sym r) tt) | inr e ↦ (subst IsStarted (sym e) tt, subst IsNoMap (sym e) tt) ]
 
 -- a page that turns to the kind that it is of
 pub turned_same : (w v : IndexView) (page : ℕ) (kind : PageKind) → TurnsPage w.pages v.pages page kind → w.pages.kind page ≡ kind → (p : ℕ)
     → v.pages.kind p ≡ w.pages.kind p
-turned_same w v page kind turns was p = ⊎_elim
-    (λ (at : p ≡ page). ap v.pages.kind at ∙ turns.now ∙ sym was ∙ ap w.pages.kind (sym at))
-    (λ (e : v.pages.kind p ≡ w.pages.kind p). e)
-    (turns.kinds p)
+turned_same w v page kind turns was p = elim (turns.kinds p) [ inl at ↦ ap v.pages.kind at ∙ turns.now ∙ sym was ∙ ap w.pages.kind (sym at) | inr e ↦ e ]
 
 abbrev TuplesOn : IndexView → IndexView → Type 0
 TuplesOn w v = (x : Spot) (t : IndexTuple) → v.tuple x ≡ Some t → IsForTuples w.pages x.block
@@ -53,10 +47,7 @@ module _ (w v : IndexView) (ordered : AreOrdered w) where
     left_over = λ p is. subst (λ n. p ≤ n + 1) (sym map_pages) (ordered.left_over p (sym (kinds p) ∙ is));
     started = λ p q less is. kinds q ∙ ordered.started p q less (sym (kinds p) ∙ is);
     below = λ p not. subst (λ n. p < n) (sym limit) (ordered.below p (λ is. not (kinds p ∙ is)));
-    tuples = λ x t here. ⊎_elim
-        (λ (r : w.pages.kind x.block ≡ Regular). inl (kinds x.block ∙ r))
-        (λ (e : w.pages.kind x.block ≡ Emptying). inr (kinds x.block ∙ e))
-        (tuples x t here);
+    tuples = λ x t here. elim (tuples x t here) [ inl r ↦ inl (kinds x.block ∙ r) | inr e ↦ inr (kinds x.block ∙ e) ];
     entries = λ range x named. subst (λ n. map_page_of range ≤ n) (sym map_pages) (entries range x named);
   }
 
@@ -112,10 +103,7 @@ module _ (w v : IndexView) (ordered : AreOrdered w) where
   -- the next page that isn't started is started, for tuples
   module _ (page : ℕ) (lowest : IsLowestNumber (IsPageUnstarted w.pages) page) (low : page < w.pages.limit) (turns : TurnsPage w.pages v.pages page Regular) where
     past_map : w.pages.map_pages < page
-    past_map = ⊎_elim
-        (λ (less : w.pages.map_pages < page). less)
-        (λ (le : page ≤ w.pages.map_pages). absurd (subst IsStarted (sym (ordered.map page le) ∙ lowest.0) tt))
-        (lt_or_ge w.pages.map_pages page)
+    past_map = elim (lt_or_ge w.pages.map_pages page) [ inl less ↦ less | inr le ↦ absurd (subst IsStarted (sym (ordered.map page le) ∙ lowest.0) tt) ]
 
     none_before : (p : ℕ) → p < page → w.pages.kind p ≢ Unstarted
     none_before p less is = not-le_of_lt less (lowest.1 p is)
@@ -156,10 +144,7 @@ module _ (w v : IndexView) (ordered : AreOrdered w) where
     left_over = λ p is. subst (λ n. p ≤ n + 1) (sym map_pages) (omega (arith, ordered.left_over p (sym (kinds p) ∙ is)));
     started = λ p q less is. kinds q ∙ ordered.started p q less (sym (kinds p) ∙ is);
     below = λ p not. subst (λ n. p < n) (sym (ap (λ (g : Pages). g.limit) pages)) (ordered.below p (λ is. not (kinds p ∙ is)));
-    tuples = λ x t here. ⊎_elim
-        (λ (r : w.pages.kind x.block ≡ Regular). inl (kinds x.block ∙ r))
-        (λ (e : w.pages.kind x.block ≡ Emptying). inr (kinds x.block ∙ e))
-        (tuples_same same_tuples x t here);
+    tuples = λ x t here. elim (tuples_same same_tuples x t here) [ inl r ↦ inl (kinds x.block ∙ r) | inr e ↦ inr (kinds x.block ∙ e) ];
     entries = λ range x named.
         subst (λ n. map_page_of range ≤ n) (sym map_pages) (omega (arith, entries_same same_map range x named));
   }
@@ -171,10 +156,7 @@ module _ (w v : IndexView) (ordered : AreOrdered w) where
       kinds p = ap (λ (g : Pages). g.kind p) pages
 
       mapping : (p : ℕ) → p ≤ next_map_page w.pages → w.pages.kind p ≡ Mapping
-      mapping p le = ⊎_elim
-          (λ (at : p ≡ next_map_page w.pages). ap w.pages.kind at ∙ next)
-          (λ (other : p ≢ next_map_page w.pages). ordered.map p (omega arith))
-          (cases_eq p (next_map_page w.pages))
+      mapping p le = elim (cases_eq p (next_map_page w.pages)) [ inl at ↦ ap w.pages.kind at ∙ next | inr other ↦ ordered.map p (omega arith) ]
 
 -- a new index
 pub order_new : (w : IndexView) → AreNewPages w.pages → ((x : Spot) → w.tuple x ≡ None) → ((range : ℕ) → w.entry range ≡ None) → AreOrdered w
@@ -185,14 +167,8 @@ order_new w new tuples entries = record {
       (λ (low : p < 2). below p low)
       (λ (high : 2 ≤ p). absurd (subst IsStarted (sym is ∙ new.rest p high) tt))
       (lt_or_ge p 2));
-  started = λ p q less is. ⊎_elim
-      (λ (low : p < 2). absurd (subst IsStarted (sym (new.map p low) ∙ is) tt))
-      (λ (high : 2 ≤ p). new.rest q (omega arith))
-      (lt_or_ge p 2);
-  below = λ p not. ⊎_elim
-      (λ (low : p < 2). omega (arith, low, new.below))
-      (λ (high : 2 ≤ p). absurd (not (new.rest p high)))
-      (lt_or_ge p 2);
+  started = λ p q less is. elim (lt_or_ge p 2) [ inl low ↦ absurd (subst IsStarted (sym (new.map p low) ∙ is) tt) | inr high ↦ new.rest q (omega arith) ];
+  below = λ p not. elim (lt_or_ge p 2) [ inl low ↦ omega (arith, low, new.below) | inr high ↦ absurd (not (new.rest p high)) ];
   tuples = λ x t here. absurd (none-some _ (sym (tuples x) ∙ here));
   entries = λ range x named. absurd (none-some _ (sym (entries range) ∙ named));
 }

@@ -29,10 +29,7 @@ module _ (P : Spot → Type 0) (x : Spot) where
         zs,
         apart.1,
         (λ y among. (
-          ⊎_elim
-              (λ (same : y ≡ x). absurd (apart.0 (subst (IsIn zs) (same ∙ sym here) among)))
-              (λ (is : P y). is)
-              (all y (inr among)),
+          elim (all y (inr among)) [ inl same ↦ absurd (apart.0 (subst (IsIn zs) (same ∙ sym here) among)) | inr is ↦ is ],
           inr among,
         )),
         le_refl (suc (length zs)),
@@ -41,10 +38,7 @@ module _ (P : Spot → Type 0) (x : Spot) where
       let rest = without zs apart.1 (λ y among. all y (inr among)) in (
         z ∷ rest.0,
         ((λ among. apart.0 (rest.2 z among).1), rest.1),
-        (λ y among. ⊎_elim
-            (λ (same : y ≡ z). (subst P (sym same) is, inl same))
-            (λ (later : IsIn rest.0 y). ((rest.2 y later).0, inr (rest.2 y later).1))
-            among),
+        (λ y among. elim among [ inl same ↦ (subst P (sym same) is, inl same) | inr later ↦ ((rest.2 y later).0, inr (rest.2 y later).1) ]),
         omega (arith, rest.3),
       ))
       (all z (inl refl))

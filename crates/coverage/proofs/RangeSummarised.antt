@@ -14,11 +14,8 @@ use Rattle.coverage.specs.Steps.{Pass, Unite, UniteCopies, SwapFinal, Maps, Run,
 use Rattle.coverage.proofs.Opening.{new_kept}
 use Rattle.coverage.proofs.Runs.{run_kept}
 use Rattle.coverage.proofs.ExampleTuples.{contents, lawful, empty_tuple, final_tuple}
-use Rattle.coverage.proofs.SmallIndex.{no_tuples, place, one_tuple, new_kind, pages, kind_number, differ, Small, statement_at, index_of, view, at_statement, put_at, set_at, held_by}
+use Rattle.coverage.proofs.SmallIndex.{no_rows, no_tuples, place, one_tuple, new_kind, pages, kind_number, differ, Small, statement_at, index_of, view, at_statement, put_at, set_at, held_by}
 use Rattle.coverage.proofs.SmallIndex.{placed_again, turned, summarises, free, locks_these, nobody, reads, puts, sets, replaces, passes}
-
-abbrev pub no_rows : ℕ → ℕ → Option Row
-no_rows b k = None
 
 -- the states of the run, each named for the step that led to it
 abbrev new : Small
@@ -128,7 +125,7 @@ eleven : Step 0 (index_of no_rows final_swapped) range_done
 eleven = GiveSummariseLock (turned no_rows final_swapped summarised Holding Idle refl refl) (passes no_rows final_swapped (Some 0) None Idle refl refl)
     (record { counts = λ t. refl })
 
-new_pages : AreNewPages (pages new_kind)
+pub new_pages : AreNewPages (pages new_kind)
 new_pages = record { one = refl; map = map; rest = rest; below = omega arith }
   where
     map : (p : ℕ) → p < 2 → new_kind p ≡ Mapping

@@ -65,16 +65,10 @@ module _ (s range : ℕ) (w v : IndexView) where
   step_counts _ _ _ = inl (refl, le_refl range)
 
 from_mono : (at a b i m : ℕ) → a ≤ b → IsFrom at b i m → IsFrom at a i m
-from_mono at a b i m le from = ⊎_elim
-    (λ (later : at < i). inl later)
-    (λ (same : (at ≡ i) × (b ≤ m)). inr (same.0, le_trans le same.1))
-    from
+from_mono at a b i m le from = elim from [ inl later ↦ inl later | inr same ↦ inr (same.0, le_trans le same.1) ]
 
 from_not : (at range n : ℕ) → n ≡ suc range → IsFrom at n at range → ⊥
-from_not at range n is from = ⊎_elim
-    (λ (later : at < at). lt_irrefl at later)
-    (λ (same : (at ≡ at) × (n ≤ range)). omega (arith, is, same.1))
-    from
+from_not at range n is from = elim from [ inl later ↦ lt_irrefl at later | inr same ↦ omega (arith, is, same.1) ]
 
 -- where an index stays, its ranges keep their final tuples, and no others have them
 index_final : (i m : ℕ) (w v : TableState) → v.index i ≡ w.index i → NamesFinal (index_view_at i v) m → NamesFinal (index_view_at i w) m
@@ -249,10 +243,7 @@ fails : (t : Task) → (GivesFinals t → ⊥) → Acts t → GoesOnGiving t →
 fails t none acts gives = ⊎_elim none (λ (is : t ≡ Resting). subst Acts is acts) gives
 
 onward_ahead : (u : TableState) (old new : Task) → Onward u old new → (i m : ℕ) → AheadOf new i m → AheadOf old i m
-onward_ahead u _ _ (NextIndex extent at range none more) i m ahead = ⊎_elim
-    (λ (later : suc at < i). inl (omega arith))
-    (λ (same : (suc at ≡ i) × (0 ≤ m)). inl (omega (arith, same.0)))
-    ahead
+onward_ahead u _ _ (NextIndex extent at range none more) i m ahead = elim ahead [ inl later ↦ inl (omega arith) | inr same ↦ inl (omega (arith, same.0)) ]
 onward_ahead u _ _ (Pruned extent next new all onward) i m ahead = tt
 onward_ahead u _ _ (ToPage at from n p page) i m ahead = tt
 onward_ahead u _ _ (Swept at from none some) i m ahead = tt
@@ -263,10 +254,7 @@ onward_gives : (u : TableState) (old new : Task) → Onward u old new → GoesOn
 onward_gives u _ _ (Stays task has) gives = gives
 onward_gives u _ _ (ToAsk b k r at inside asks) gives = absurd (fails (Reaches b k r at) (λ x. x) tt gives)
 onward_gives u _ _ (ToIndex b k r at inside none) gives = absurd (fails (Reaches b k r at) (λ x. x) tt gives)
-onward_gives u _ _ (ToRange job at range has) gives = ⊎_elim
-    (λ (is : IsBuilder job). inl is)
-    (λ (is : Considers job at range ≡ Resting). absurd (subst Acts is tt))
-    gives
+onward_gives u _ _ (ToRange job at range has) gives = elim gives [ inl is ↦ inl is | inr is ↦ absurd (subst Acts is tt) ]
 onward_gives u _ _ (NextIndex extent at range none more) gives = inl tt
 onward_gives u _ _ (Pruned extent next new all onward) gives = onward_gives u _ _ onward (inl tt)
 onward_gives u _ _ (ToPage at from n p page) gives = inl tt
@@ -330,10 +318,7 @@ module _ (s n : ℕ) (rest : List ℕ) (w u v : TableState) (a b c : Accounts) (
       apart = more.1.apart;
       all = λ i m. (
         λ is. inr ((more.1.all i m).0 is),
-        λ makes. ⊎_elim
-            (λ (first : (n ≡ s) × IsMadeFinal w u i m). absurd (none i m first.0 first.1))
-            (λ (later : MakesFinal s i m run). (more.1.all i m).1 later)
-            makes,
+        λ makes. elim makes [ inl first ↦ absurd (none i m first.0 first.1) | inr later ↦ (more.1.all i m).1 later ],
       );
     },
     λ i m is. ahead i m (more.2 i m is),
@@ -348,10 +333,7 @@ module _ (s n : ℕ) (rest : List ℕ) (w u v : TableState) (a b c : Accounts) (
     record {
       apart = ((λ twice. past (more.2 at range twice)), more.1.apart);
       all = λ i m. (
-        λ among. ⊎_elim
-            (λ (one : IsSame (i, m) (at, range)). inl (is, back i m one))
-            (λ (later : IsIn more.0 (i, m)). inr ((more.1.all i m).0 later))
-            among,
+        λ among. elim among [ inl one ↦ inl (is, back i m one) | inr later ↦ inr ((more.1.all i m).0 later) ],
         λ makes. ⊎_elim
             (λ (one : (n ≡ s) × IsMadeFinal w u i m). let here = only i m one.1 in inl (λ j. (here.0 j, here.1 j)))
             (λ (later : MakesFinal s i m run). inr ((more.1.all i m).1 later))

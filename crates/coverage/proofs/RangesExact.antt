@@ -22,10 +22,7 @@ module _ (w : TableState) (at : ℕ) (some : 0 < (w.index at).pages_per_range) w
   pub whole_ranges : (range extent : ℕ) → HasRange w (WholeRanges extent) at range ↔ ((b : ℕ) → range_in w at b ≡ range → b < extent)
   whole_ranges range extent = (
     λ all b of. lt_of_lt_of_le (subst (λ r. b < (r + 1) * p) of (block_last b p some)) all,
-    λ below. ⊎_elim
-        (λ (less : extent < (range + 1) * p). absurd (not_below below less))
-        (λ (le : (range + 1) * p ≤ extent). le)
-        (lt_or_ge extent ((range + 1) * p)),
+    λ below. elim (lt_or_ge extent ((range + 1) * p)) [ inl less ↦ absurd (not_below below less) | inr le ↦ le ],
   )
     where
       p : ℕ
@@ -68,7 +65,4 @@ module _ (w : TableState) (at : ℕ) (some : 0 < (w.index at).pages_per_range) w
   )
     where
       later : (c j : ℕ) → b ≤ c → k ≤ j → (b < c) ⊎ ((b ≡ c) × (k ≤ j))
-      later c j le low = ⊎_elim
-          (λ (less : b < c). inl less)
-          (λ (ge : c ≤ b). inr (le_antisymm le ge, low))
-          (lt_or_ge b c)
+      later c j le low = elim (lt_or_ge b c) [ inl less ↦ inl less | inr ge ↦ inr (le_antisymm le ge, low) ]

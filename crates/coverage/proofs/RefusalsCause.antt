@@ -129,10 +129,7 @@ index_full s w v does at number is =
 
 -- where a heap isn't full, an insert has a place for its row, and nowhere else
 vacant_or_not : (w : TableState) (b k : ℕ) → IsVacantPlace w b k ⊎ (IsVacantPlace w b k → ⊥)
-vacant_or_not w b k = ⊎_elim
-    (λ (low : k < w.rows_per_page). by low (w.row b k) refl)
-    (λ (high : w.rows_per_page ≤ k). inr (λ vacant. not-le_of_lt vacant.0 high))
-    (lt_or_ge k w.rows_per_page)
+vacant_or_not w b k = elim (lt_or_ge k w.rows_per_page) [ inl low ↦ by low (w.row b k) refl | inr high ↦ inr (λ vacant. not-le_of_lt vacant.0 high) ]
   where
     by : k < w.rows_per_page → (o : Option Row) → w.row b k ≡ o → IsVacantPlace w b k ⊎ (IsVacantPlace w b k → ⊥)
     by low None is = inl (low, is)

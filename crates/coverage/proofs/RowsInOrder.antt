@@ -7,14 +7,8 @@ use Rattle.coverage.specs.RowOrder.{IsBefore, IsAmong, AreInOrder}
 -- two ids aren't each before the other
 before_once : (a b : RowId) → IsBefore a b → IsBefore b a → ⊥
 before_once a b one two = ⊎_elim
-    (λ (less : a.t < b.t). ⊎_elim
-    (λ (more : b.t < a.t). omega arith)
-    (λ (same : (b.t ≡ a.t) × (b.k < a.k)). omega (arith, less, same.0))
-    two)
-    (λ (same : (a.t ≡ b.t) × (a.k < b.k)). ⊎_elim
-    (λ (more : b.t < a.t). omega (arith, more, same.0))
-    (λ (back : (b.t ≡ a.t) × (b.k < a.k)). omega (arith, same.1, back.1))
-    two)
+    (λ (less : a.t < b.t). elim two [ inl more ↦ omega arith | inr same ↦ omega (arith, less, same.0) ])
+    (λ (same : (a.t ≡ b.t) × (a.k < b.k)). elim two [ inl more ↦ omega (arith, more, same.0) | inr back ↦ omega (arith, same.1, back.1) ])
     one
 
 not_before : (a : RowId) → IsBefore a a → ⊥
@@ -29,19 +23,13 @@ module _ (id : RowId) (rest : List RowId) (order : AreInOrder (id ∷ rest)) whe
 firsts_same : (a b : RowId) (l m : List RowId) → AreInOrder (a ∷ l) → AreInOrder (b ∷ m) → IsAmong (b ∷ m) a → IsAmong (a ∷ l) b → a ≡ b
 firsts_same a b l m one two a_in b_in = ⊎_elim
     (λ (is : a ≡ b). is)
-    (λ (behind : IsAmong m a). ⊎_elim
-    (λ (is : b ≡ a). sym is)
-    (λ (behind' : IsAmong l b). absurd (before_once a b (one.0 b behind') (two.0 a behind)))
-    b_in)
+    (λ (behind : IsAmong m a). elim b_in [ inl is ↦ sym is | inr behind' ↦ absurd (before_once a b (one.0 b behind') (two.0 a behind)) ])
     a_in
 
 -- without the firsts they have the same ids
 rests_in : (a : RowId) (l : List RowId) (b : RowId) (m : List RowId) → AreInOrder (a ∷ l) → a ≡ b
     → ((id : RowId) → IsAmong (a ∷ l) id → IsAmong (b ∷ m) id) → (id : RowId) → IsAmong l id → IsAmong m id
-rests_in a l b m order same all id among = ⊎_elim
-    (λ (is : id ≡ b). absurd (first_once a l order id among (is ∙ sym same)))
-    (λ (behind : IsAmong m id). behind)
-    (all id (inr among))
+rests_in a l b m order same all id among = elim (all id (inr among)) [ inl is ↦ absurd (first_once a l order id among (is ∙ sym same)) | inr behind ↦ behind ]
 
 pub one_order : (l m : List RowId) → AreInOrder l → AreInOrder m → ((id : RowId) → IsAmong l id → IsAmong m id) → ((id : RowId) → IsAmong m id → IsAmong l id)
     → l ≡ m

@@ -144,18 +144,12 @@ module _ (s : ℕ) (dropped : ℕ → ℕ → Bool) (w v : IndexState) (old new 
     ordered = after.ordered;
     knows = knows_after;
     knows_pages = pages_after;
-    rows = λ b k r there counted. ⊎_elim
-        (λ (was : w.row b k ≡ Some r). row_after b k r was counted)
-        (λ (fresh : new ≡ Inserting b k r Empty). inr (s, Empty, turned.now ∙ fresh))
-        (rows b k r there);
+    rows = λ b k r there counted. elim (rows b k r there) [ inl was ↦ row_after b k r was counted | inr fresh ↦ inr (s, Empty, turned.now ∙ fresh) ];
   }
 
 -- where the entry of a settled row's range names a place, a final tuple there includes the row
 settled_shows : (w : IndexView) (b : ℕ) (r : Row) (x : Spot) → w.entry (range_of_block w b) ≡ Some x → IsAccounted w b r → TupleShows w x b r
-settled_shows w b r x named settled t here of final = ⊎_elim
-    (λ (has : IsTrue (t.includes r)). has)
-    (λ (waits : (t.placeholder ≡ true) × AllAwait w b r). absurd (false≢true (sym final ∙ waits.0)))
-    (settled x t named here)
+settled_shows w b r x named settled t here of final = elim (settled x t named here) [ inl has ↦ has | inr waits ↦ absurd (false≢true (sym final ∙ waits.0)) ]
 
 module _ (w : IndexView) (b k : ℕ) (r : Row) where
   scan_row : (old new : Scan) → ScanStep w old new → IsTrue (old.sees b k) → KnowsRow w old b k r → KnowsRow w new b k r
@@ -186,10 +180,7 @@ module _ (w : IndexView) (b k : ℕ) (r : Row) where
     there = known.there;
     settled = known.settled;
     shown = known.shown;
-    kept = λ matches. ⊎_elim
-        (λ (found : IsTrue (old.found b k)). inl found)
-        (λ (left : IsTrue (old.candidate b) × (old.read ≤ b)). inr (others b k r known.there sees matches left.0, left.1))
-        (known.kept matches);
+    kept = λ matches. elim (known.kept matches) [ inl found ↦ inl found | inr left ↦ inr (others b k r known.there sees matches left.0, left.1) ];
   }
   scan_row old _ (ScanPage next found given unread first keeps page only) sees known = record {
     there = known.there;
@@ -368,10 +359,7 @@ module _ (s : ℕ) (w v : IndexState) (kept : IsIndexKept w) where
       (still_after s (index_view w) (index_view v) Holding drops.rows.pages_per_range (not_less v.blocks w.blocks drops.rows.blocks) drops.frame.map
       drops.frame.tuples drops.pages drops.frame.locks kept.ordered tt)
       spares
-      (λ b k r there. ⊎_elim
-      (λ (was : v.row b k ≡ w.row b k). inl (sym was ∙ there))
-      (λ (gone : IsTrue (dropped b k) × (v.row b k ≡ None)). absurd (none-some _ (sym gone.1 ∙ there)))
-      (drops.rows.row b k))
+      (λ b k r there. elim (drops.rows.row b k) [ inl was ↦ inl (sym was ∙ there) | inr gone ↦ absurd (none-some _ (sym gone.1 ∙ there)) ])
       (λ t counted. sym (counts.counts t) ∙ counted)
 
   scans : (old new : Scan) → Turned s w v (Scanning old) (Scanning new) → ScanStep (index_view w) old new → ReadsIndex s (index_view w) (index_view v)
@@ -414,10 +402,7 @@ module _ (s : ℕ) (w v : IndexState) (kept : IsIndexKept w) where
       first_row : (b k : ℕ) → (sees : IsTrue (scan.sees b k)) → KnowsRow (index_view w) scan b k (begins.1 b k sees).0
       first_row b k sees = let row = begins.1 b k sees in record {
         there = row.1;
-        settled = ⊎_elim
-            (λ (a : IsAccounted (index_view w) b row.0). a)
-            (λ (i : (n : ℕ) × (on_index : OnIndex) × (w.statement n ≡ Inserting b k row.0 on_index)). absurd (row.3 i.0 i.1 i.2))
-            (kept.rows b k row.0 row.1 row.2);
+        settled = elim (kept.rows b k row.0 row.1 row.2) [ inl a ↦ a | inr i ↦ absurd (row.3 i.0 i.1 i.2) ];
         shown = λ x held. absurd (none-some _ (sym begins.0 ∙ held));
         kept = λ matches. inr (row.4 matches);
       }
@@ -491,10 +476,7 @@ module _ (s : ℕ) (w v : IndexState) (kept : IsIndexKept w) where
     ordered = kept.ordered;
     knows = kept.knows;
     knows_pages = kept.knows_pages;
-    rows = λ b k r there counted. ⊎_elim
-        (λ (was : IsTrue (w.counts r.id.t)). kept.rows b k r there was)
-        (λ (none : (c j : ℕ) (q : Row) → w.row c j ≡ Some q → q.id.t ≢ r.id.t). absurd (none b k r there refl))
-        (few r.id.t counted);
+    rows = λ b k r there counted. elim (few r.id.t counted) [ inl was ↦ kept.rows b k r there was | inr none ↦ absurd (none b k r there refl) ];
   })
 
 -- a session that doesn't hold the summarise lock leaves it to its holder which ranges have an entry

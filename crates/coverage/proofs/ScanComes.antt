@@ -1,5 +1,5 @@
 -- Where the scans of a table come from, and the rows that deletes have to mark: what holds of all of them is shown case by case.
-use Rattle.std.proofs.Common.{◌≡◌, ◌≢◌, ◌⊎◌, ⊎_elim, ℕ, ◌+◌, ◌≤◌, ◌<◌, Option, Some, None, Bool, false, List, ◌∷◌, sym, ◌∙◌, ap, subst, suc}
+use Rattle.std.proofs.Common.{◌≡◌, ◌≢◌, ◌⊎◌, inl, inr, ⊎_elim, ℕ, ◌+◌, ◌≤◌, ◌<◌, Option, Some, None, Bool, false, List, ◌∷◌, sym, ◌∙◌, ap, subst, suc}
 use Rattle.std.specs.Prelude.{refl}
 use Rattle.std.proofs.lemmas.Option.{same_Some, none-some}
 use Rattle.std.proofs.lemmas.Bool.{cases_eq}
@@ -112,10 +112,7 @@ module _ (P : TableState → TableScan → Type 0) (s : ℕ) (w v : TableState) 
       → ((scan : TableScan) → v.task s ≡ Scans scan → P v scan) → OfScans P v
   scans_after others theirs own n scan is = ⊎_elim
       (λ (at : n ≡ s). own scan (ap v.task (sym at) ∙ is))
-      (λ (apart : n ≢ s). ⊎_elim
-      (λ (at : n ≡ s). absurd (apart at))
-      (λ (same : v.task n ≡ w.task n). theirs n scan apart (sym same ∙ is) (kept n scan (sym same ∙ is)))
-      (others n))
+      (λ (apart : n ≢ s). elim (others n) [ inl at ↦ absurd (apart at) | inr same ↦ theirs n scan apart (sym same ∙ is) (kept n scan (sym same ∙ is)) ])
       (cases_eq n s)
 
   pub scans_settled : ((scan : TableScan) → SameRows w v → SameIndexes w v → P w scan → P v scan)

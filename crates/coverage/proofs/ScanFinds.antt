@@ -1,5 +1,5 @@
 -- What scans find stands there and matches, and so does what deletes have to mark.
-use Rattle.std.proofs.Common.{◌≡◌, ◌≢◌, ◌⊎◌, inr, ⊎_elim, ℕ, Some, List, ◌∷◌, sym, ◌∙◌, ap, subst}
+use Rattle.std.proofs.Common.{◌≡◌, ◌≢◌, ◌⊎◌, inr, inl, ⊎_elim, ℕ, Some, List, ◌∷◌, sym, ◌∙◌, ap, subst}
 use Rattle.std.specs.Prelude.{IsTrue}
 use Rattle.std.proofs.lemmas.Option.{same_Some}
 use Rattle.std.proofs.lemmas.Bool.{cases_eq, false≢true}
@@ -66,10 +66,7 @@ module _ (s : ℕ) (w v : TableState) (kept : OfMarks w) where
       → ((scan : TableScan) (ids : List RowId) → v.task s ≡ Marks scan ids → AreToMark v scan ids) → OfMarks v
   marks_after others theirs own n scan ids is = ⊎_elim
       (λ (at : n ≡ s). own scan ids (ap v.task (sym at) ∙ is))
-      (λ (apart : n ≢ s). ⊎_elim
-      (λ (at : n ≡ s). absurd (apart at))
-      (λ (same : v.task n ≡ w.task n). theirs n scan ids apart (sym same ∙ is) (kept n scan ids (sym same ∙ is)))
-      (others n))
+      (λ (apart : n ≢ s). elim (others n) [ inl at ↦ absurd (apart at) | inr same ↦ theirs n scan ids apart (sym same ∙ is) (kept n scan ids (sym same ∙ is)) ])
       (cases_eq n s)
 
   own_marks : (scan : TableScan) (ids : List RowId) → MarksCome s w v scan ids → AreToMark v scan ids

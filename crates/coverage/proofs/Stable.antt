@@ -1,5 +1,5 @@
 -- What a statement knows stays true while others step.
-use Rattle.std.proofs.Common.{◌≡◌, ◌≢◌, ⊎_elim, ℕ, ◌/◌, Some, None, Bool, sym, ◌∙◌, ap, subst}
+use Rattle.std.proofs.Common.{◌≡◌, ◌≢◌, inl, inr, ⊎_elim, ℕ, ◌/◌, Some, None, Bool, sym, ◌∙◌, ap, subst}
 use Rattle.std.specs.Prelude.{IsTrue}
 use Rattle.std.proofs.lemmas.Option.{same_Some}
 use Rattle.block_model.specs.declared.row.Row.{Row}
@@ -64,10 +64,7 @@ module _ (a : ℕ) (d : ℕ → ℕ → Bool) (w v : IndexView) (sound : IsSound
   )
     where
       unnamed_on : (m : ℕ) → v.entry m ≢ Some x
-      unnamed_on m is = ⊎_elim
-          (λ (e : w.entry m ≡ Some x). known.1 m e)
-          (λ (e : w.loose a ≡ Some x). other (same_Some _ _ (sym known.0 ∙ sound.loose_is_locked a x e)))
-          (on.named m x is)
+      unnamed_on m is = elim (on.named m x is) [ inl e ↦ known.1 m e | inr e ↦ other (same_Some _ _ (sym known.0 ∙ sound.loose_is_locked a x e)) ]
 
   placed_on : (range : ℕ) (x : Spot) → HasPlaced w s range x → HasPlaced v s range x
   placed_on range x known =

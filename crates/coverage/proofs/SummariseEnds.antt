@@ -190,10 +190,7 @@ pub in_stays : (at : ℕ) (w u v : TableState) → StepsIn at u v → FromStays 
 in_stays at w u v stepped stays = record {
   indexes = stepped.rows.layout.indexes ∙ stays.indexes;
   blocks = stepped.rows.blocks ∙ stays.blocks;
-  index = λ i le. ⊎_elim
-      (λ (here : i ≡ at). absurd (omega arith))
-      (λ (same : v.index i ≡ u.index i). same ∙ stays.index i le)
-      (stepped.others i);
+  index = λ i le. elim (stepped.others i) [ inl here ↦ absurd (omega arith) | inr same ↦ same ∙ stays.index i le ];
 }
 
 -- of what is left, so many steps are for the indexes behind this one, which are as they were in the table w0

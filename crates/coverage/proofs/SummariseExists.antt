@@ -33,10 +33,7 @@ free_two w s p q one two n among = ⊎_elim
     among
 
 free_three : (w : IndexView) (s p q m : ℕ) → IsFree w.lock s p → IsFree w.lock s q → IsFree w.lock s m → (n : ℕ) → IsOneOf (p ∷ q ∷ m ∷ []) n → IsFree w.lock s n
-free_three w s p q m one two three n among = ⊎_elim
-    (λ (is : n ≡ p). subst (IsFree w.lock s) (sym is) one)
-    (λ (more : IsOneOf (q ∷ m ∷ []) n). free_two w s q m two three n more)
-    among
+free_three w s p q m one two three n among = elim among [ inl is ↦ subst (IsFree w.lock s) (sym is) one | inr more ↦ free_two w s q m two three n more ]
 
 -- the view after a put, with these locks
 module _ (s : ℕ) (w : IndexView) (y : Spot) (t : IndexTuple) (these : List ℕ) (free : (p : ℕ) → IsOneOf these p → IsFree w.lock s p) where
@@ -190,10 +187,7 @@ module _ (s range : ℕ) (w : IndexView) (slots : HasFreeSlots w.tuple) (blocks 
             places = λ y. ⊎_elim
                 (λ (is : y ≡ x). inr (ap (λ (z : Spot). z.block) is ∙ next.on, is))
                 (λ (other : y ≢ x). inl (
-                  ⊎_elim
-                      (λ (is : y ≡ x). absurd (other is))
-                      (λ (e : tuple_with w.tuple x None y ≡ w.tuple y). e)
-                      (tuple_there w.tuple x None y),
+                  elim (tuple_there w.tuple x None y) [ inl is ↦ absurd (other is) | inr e ↦ e ],
                   kept y other,
                 ))
                 (place_is y x);
@@ -207,10 +201,7 @@ module _ (s range : ℕ) (w : IndexView) (slots : HasFreeSlots w.tuple) (blocks 
         where
           by : (o : Option Spot) → w.entry t.range ≡ o → (w.entry t.range ≡ Some x) ⊎ (w.entry t.range ≢ Some x)
           by None is = inr (λ named. none-some _ (sym is ∙ named))
-          by (Some y) is = ⊎_elim
-              (λ (same : y ≡ x). inl (is ∙ ap Some same))
-              (λ (other : y ≢ x). inr (λ named. other (same_Some _ _ (sym is ∙ named))))
-              (place_is y x)
+          by (Some y) is = elim (place_is y x) [ inl same ↦ inl (is ∙ ap Some same) | inr other ↦ inr (λ named. other (same_Some _ _ (sym is ∙ named))) ]
 
       none_next : (x : Spot) (t : IndexTuple) → IsNextTuple w.tuple (next_map_page w.pages) x t → ⊥
       none_next x t next = ⊎_elim

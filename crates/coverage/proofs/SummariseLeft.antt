@@ -154,10 +154,7 @@ module _ (s range per most later tail : ℕ) (w v : IndexView) where
 
   -- after a put one tuple more stands
   put_taken : (y : Spot) (t : IndexTuple) → PutsTuple s w v y t → (z : Spot) → IsTaken v z → (z ≡ y) ⊎ IsTaken w z
-  put_taken y t puts z taken = ⊎_elim
-      (λ (here : z ≡ y). inl here)
-      (λ (same : v.tuple z ≡ w.tuple z). inr (λ none. taken (same ∙ none)))
-      (puts.tuple.others z)
+  put_taken y t puts z taken = elim (puts.tuple.others z) [ inl here ↦ inl here | inr same ↦ inr (λ none. taken (same ∙ none)) ]
 
   puts_on : (g tuples : ℕ) (unput : Bool) (y : Spot) (t : IndexTuple) → PutsTuple s w v y t → Base w per most later g tuples false unput
       → Base v per most later g tuples true unput
@@ -410,10 +407,7 @@ module _ (s range per most later tail n : ℕ) (w v : IndexView) where
       )
     where
       sub : (z : Spot) → IsTaken v z → IsTaken w z
-      sub z taken none = ⊎_elim
-          (λ (same : IsUntouched w v z). taken (same.0 ∙ none))
-          (λ (swept : (z.block ≡ next_map_page w.pages) × (z ≡ x)). taken (ap v.tuple swept.1 ∙ (sweeps.gone x refl).0))
-          (sweeps.places z)
+      sub z taken none = elim (sweeps.places z) [ inl same ↦ taken (same.0 ∙ none) | inr swept ↦ taken (ap v.tuple swept.1 ∙ (sweeps.gone x refl).0) ]
 
       kind_on : (page : ℕ) → w.pages.kind page ≡ Emptying → v.pages.kind page ≡ Emptying
       kind_on page is = ⊎_elim

@@ -57,10 +57,7 @@ does_ranges s w v (BeginsScan scan begins turns only) = indexes_ranges w v only.
 does_ranges s w v (Judges old new inside low step turns only) = indexes_ranges w v only.indexes
 does_ranges s w v (ReadsBlock scan next found reads turns only) = indexes_ranges w v only.indexes
 does_ranges s w v (RefusesScan scan t turns how) =
-    ⊎_elim
-    (λ (fails : (scan.explains ≡ false) × Fails w v t). indexes_ranges w v fails.1.indexes)
-    (λ (only : (scan.explains ≡ true) × OnlyTurns w v). indexes_ranges w v only.1.indexes)
-    how
+    elim how [ inl fails ↦ indexes_ranges w v fails.1.indexes | inr only ↦ indexes_ranges w v only.1.indexes ]
 does_ranges s w v (MarksRow scan id rest turns only) = indexes_ranges w v only.indexes
 does_ranges s w v (Conflicts scan id rest t turns fails) = indexes_ranges w v fails.indexes
 does_ranges s w v (Blocked task blocked turns only) = indexes_ranges w v only.indexes
@@ -96,10 +93,7 @@ module _ (old : TableScan) (keeps : Bool) where
 
   here_or_not : (i range : ℕ) → IsHere i range ⊎ IsElsewhere i range
   here_or_not i range = ⊎_elim
-      (λ (at : i ≡ old.at). ⊎_elim
-      (λ (is : range ≡ old.range). inl (at, is))
-      (λ (other : range ≢ old.range). inr (inr other))
-      (cases_eq range old.range))
+      (λ (at : i ≡ old.at). elim (cases_eq range old.range) [ inl is ↦ inl (at, is) | inr other ↦ inr (inr other) ])
       (λ (other : i ≢ old.at). inr (inl other))
       (cases_eq i old.at)
 
@@ -117,10 +111,7 @@ module _ (old : TableScan) (keeps : Bool) where
 module _ (w : TableState) (old : TableScan) (exact : JudgesExactly w old) where
   -- the range at hand isn't judged before
   fresh : old.judged old.at old.range ≢ None → ⊥
-  fresh some = ⊎_elim
-      (λ (before : old.at < old.at). lt_irrefl old.at before)
-      (λ (at : (old.at ≡ old.at) × (old.range < old.range)). lt_irrefl old.range at.1)
-      (exact.behind old.at old.range some)
+  fresh some = elim (exact.behind old.at old.range some) [ inl before ↦ lt_irrefl old.at before | inr at ↦ lt_irrefl old.range at.1 ]
 
   not_false : (i range : ℕ) → IsHere old true i range → old.judged i range ≡ Some false → ⊥
   not_false i range is e =
@@ -230,10 +221,7 @@ next_exact w scan exact all = record {
       (last_or_below i scan.at less))
       (λ (at : (i ≡ suc scan.at) × (m < 0)). absurd (not-suc-le-zero at.1))
       behind;
-  behind = λ i m some. ⊎_elim
-      (λ (before : i < scan.at). inl (below_next before))
-      (λ (at : (i ≡ scan.at) × (m < scan.range)). inl (omega (arith, at.0)))
-      (exact.behind i m some);
+  behind = λ i m some. elim (exact.behind i m some) [ inl before ↦ inl (below_next before) | inr at ↦ inl (omega (arith, at.0)) ];
 }
   where
     lower : (i m : ℕ) → i ≡ scan.at → first_block w i m < scan.extent → m < scan.range
@@ -286,10 +274,7 @@ all_kept : (n : ℕ) (judged : ℕ → Option Bool) → ((i : ℕ) → i < n →
 all_kept zero judged not = inl (λ i below. absurd (not-suc-le-zero below))
 all_kept (suc n) judged not = ⊎_elim
     (λ (all : (i : ℕ) → i < n → judged i ≡ Some true). ⊎_elim
-    (λ (kept : judged n ≡ Some true). inl (λ i below. ⊎_elim
-    (λ (is : i ≡ n). ap judged is ∙ kept)
-    (λ (less : i < n). all i less)
-    (last_or_below i n below)))
+    (λ (kept : judged n ≡ Some true). inl (λ i below. elim (last_or_below i n below) [ inl is ↦ ap judged is ∙ kept | inr less ↦ all i less ]))
     (λ (none : judged n ≡ None). inr (n, lt-suc_self n, none))
     (kept_or_not (judged n) (not n (lt-suc_self n))))
     (λ (one : (i : ℕ) × (i < n) × (judged i ≡ None)). inr (one.0, below_next one.1, one.2))
@@ -298,10 +283,7 @@ all_kept (suc n) judged not = ⊎_elim
 pub given_or_unjudged : (w : TableState) (scan : TableScan) (b : ℕ) → JudgesExactly w scan → IsTrue (scan.candidate b) → IsGiven w scan b ⊎ IsUnjudged w scan b
 given_or_unjudged w scan b exact is =
     let h = (exact.candidate b).0 is in
-    ⊎_elim
-    (λ (all : (i : ℕ) → i < w.indexes → scan.judged i (range_in w i b) ≡ Some true). inl (h.0, all))
-    (λ (one : (i : ℕ) × (i < w.indexes) × (scan.judged i (range_in w i b) ≡ None)). inr one)
-    (all_kept w.indexes (λ i. scan.judged i (range_in w i b)) h.1)
+    elim (all_kept w.indexes (λ i. scan.judged i (range_in w i b)) h.1) [ inl all ↦ inl (h.0, all) | inr one ↦ inr one ]
 
 -- when a scan replies, each block below the extent is judged in every index
 pub replied_given : (w : TableState) (scan : TableScan) → JudgesExactly w scan → Onward w (Scans scan) Resting → (b : ℕ)

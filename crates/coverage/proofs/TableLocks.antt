@@ -1,5 +1,5 @@
 -- The summarise lock is held for maintenance, and for nothing else.
-use Rattle.std.proofs.Common.{◌≡◌, ◌⊎◌, inr, ⊎_elim, ℕ, Some, None, true, false, sym, ◌∙◌, ap, subst, suc}
+use Rattle.std.proofs.Common.{◌≡◌, ◌⊎◌, inr, inl, ⊎_elim, ℕ, Some, None, true, false, sym, ◌∙◌, ap, subst, suc}
 use Rattle.std.proofs.lemmas.Option.{same_Some, none-some}
 use Rattle.block_model.specs.declared.row.Row.{Row}
 use Rattle.coverage.specs.Statements.{Idle, Inserting, Maintaining, Holding}
@@ -71,10 +71,7 @@ module _ (s : ℕ) (w v : TableState) (others : (n : ℕ) → (n ≡ s) ⊎ (v.t
   taken : (new : Task) → v.task s ≡ new → IsMaintenance new → w.summarise_lock ≡ None → v.summarise_lock ≡ Some s → IsHeldForMaintenance v
   taken new now is free held n = (
     λ by. subst (λ m. IsMaintenance (v.task m)) (same_Some _ _ (sym held ∙ by)) (subst IsMaintenance (sym now) is),
-    λ maintains. ⊎_elim
-        (λ (at : n ≡ s). held ∙ ap Some (sym at))
-        (λ (e : v.task n ≡ w.task n). absurd (none-some _ (sym free ∙ (kept n).1 (subst IsMaintenance e maintains))))
-        (others n),
+    λ maintains. elim (others n) [ inl at ↦ held ∙ ap Some (sym at) | inr e ↦ absurd (none-some _ (sym free ∙ (kept n).1 (subst IsMaintenance e maintains))) ],
   )
 
   given : (old : Task) → w.task s ≡ old → IsMaintenance old → v.task s ≡ Resting → v.summarise_lock ≡ None → IsHeldForMaintenance v
@@ -126,10 +123,7 @@ does_lock s w v kept (ReadsBlock scan next found reads turns only) =
     stays s w v turns.others kept _ _ turns.was turns.now ((λ m. m), λ m. m) only.summarise_lock
 does_lock s w v kept (RefusesScan scan t turns how) =
     stays s w v turns.others kept _ _ turns.was turns.now ((λ m. m), λ m. m)
-    (⊎_elim
-    (λ (fails : (scan.explains ≡ false) × Fails w v t). fails.1.summarise_lock)
-    (λ (only : (scan.explains ≡ true) × OnlyTurns w v). only.1.summarise_lock)
-    how)
+    (elim how [ inl fails ↦ fails.1.summarise_lock | inr only ↦ only.1.summarise_lock ])
 does_lock s w v kept (MarksRow scan id rest turns only) =
     stays s w v turns.others kept _ _ turns.was turns.now ((λ m. m), λ m. m) only.summarise_lock
 does_lock s w v kept (Conflicts scan id rest t turns fails) =

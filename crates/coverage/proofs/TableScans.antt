@@ -56,14 +56,8 @@ same_candidates : (w : IndexView) (old : TableScan) (f g : ℕ → Bool)
     → ((b : ℕ) → ((range_of_block w b ≡ old.range) × (f b ≡ false)) ⊎ ((range_of_block w b ≢ old.range) × (f b ≡ old.candidate b)))
     → ((b : ℕ) → ((range_of_block w b ≡ old.range) × (g b ≡ false)) ⊎ ((range_of_block w b ≢ old.range) × (g b ≡ old.candidate b))) → (b : ℕ) → f b ≡ g b
 same_candidates w old f g one two b = ⊎_elim
-    (λ (out : (range_of_block w b ≡ old.range) × (f b ≡ false)). ⊎_elim
-    (λ (out' : (range_of_block w b ≡ old.range) × (g b ≡ false)). out.1 ∙ sym out'.1)
-    (λ (in' : (range_of_block w b ≢ old.range) × (g b ≡ old.candidate b)). absurd (in'.0 out.0))
-    (two b))
-    (λ (in1 : (range_of_block w b ≢ old.range) × (f b ≡ old.candidate b)). ⊎_elim
-    (λ (out' : (range_of_block w b ≡ old.range) × (g b ≡ false)). absurd (in1.0 out'.0))
-    (λ (in' : (range_of_block w b ≢ old.range) × (g b ≡ old.candidate b)). in1.1 ∙ sym in'.1)
-    (two b))
+    (λ (out : (range_of_block w b ≡ old.range) × (f b ≡ false)). elim (two b) [ inl out' ↦ out.1 ∙ sym out'.1 | inr in' ↦ absurd (in'.0 out.0) ])
+    (λ (in1 : (range_of_block w b ≢ old.range) × (f b ≡ old.candidate b)). elim (two b) [ inl out' ↦ absurd (in1.0 out'.0) | inr in' ↦ in1.1 ∙ sym in'.1 ])
     (one b)
 
 module _ (w : IndexView) (old : TableScan) where
@@ -141,10 +135,7 @@ replied_finds w s b k scan kept is onward reads sees =
     let row = kept.scans s scan is b k sees in (
       row.0,
       row.1,
-      λ matches. ⊎_elim
-          (λ (found : IsTrue (scan.found b k)). found)
-          (λ (left : IsTrue (scan.candidate b) × (scan.read ≤ b)). absurd (not-le_of_lt (replied_reads w scan onward reads b left.0) left.1))
-          (row.2 matches),
+      λ matches. elim (row.2 matches) [ inl found ↦ found | inr left ↦ absurd (not-le_of_lt (replied_reads w scan onward reads b left.0) left.1) ],
     )
 
 -- a delete that comes to its marks has found each matching row that it sees, and lists it

@@ -80,10 +80,7 @@ module _ (s : ℕ) (w v : TableState) (kept : IsTableKept w) where
       (λ scan is. own_seen scan (scan_comes s w v does scan is))
 
   below_after : Leaves s w v → (b k : ℕ) (r : Row) → v.row b k ≡ Some r → b < v.blocks
-  below_after leaves b k r there = ⊎_elim
-      (λ (was : w.row b k ≡ Some r). lt_of_lt_of_le (kept.rows_below b k r was) leaves.blocks)
-      (λ (inside : b < v.blocks). inside)
-      (leaves.from b k r there)
+  below_after leaves b k r there = elim (leaves.from b k r there) [ inl was ↦ lt_of_lt_of_le (kept.rows_below b k r was) leaves.blocks | inr inside ↦ inside ]
 
 settles_seen : (s : ℕ) (w v : TableState) → OfScans SeesRows w → Settles s w v → OfScans SeesRows v
 settles_seen s w v kept settles = scans_settled SeesRows s w v kept (λ scan rows indexes. rows_same w v rows.row scan) (λ scan inside all seen. seen) settles

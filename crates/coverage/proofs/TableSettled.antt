@@ -107,10 +107,7 @@ does_layout s w v (BeginsScan scan begins turns only) = only.rows.layout.indexes
 does_layout s w v (Judges old new inside low step turns only) = only.rows.layout.indexes
 does_layout s w v (ReadsBlock scan next found reads turns only) = only.rows.layout.indexes
 does_layout s w v (RefusesScan scan t turns how) =
-    ⊎_elim
-    (λ (fails : (scan.explains ≡ false) × Fails w v t). fails.1.layout.indexes)
-    (λ (only : (scan.explains ≡ true) × OnlyTurns w v). only.1.rows.layout.indexes)
-    how
+    elim how [ inl fails ↦ fails.1.layout.indexes | inr only ↦ only.1.rows.layout.indexes ]
 does_layout s w v (MarksRow scan id rest turns only) = only.rows.layout.indexes
 does_layout s w v (Conflicts scan id rest t turns fails) = fails.layout.indexes
 does_layout s w v (Blocked task blocked turns only) = only.rows.layout.indexes

@@ -12,11 +12,11 @@ use Rattle.coverage.specs.IsCovered.{IndexState, IsIndexKept}
 use Rattle.coverage.specs.Steps.{Step, PutRow, InsertOnIndex, InsertCopies, InsertSet, InsertDrop, Maps, MovePut, Run, Done, Next}
 use Rattle.coverage.proofs.Runs.{step_kept}
 use Rattle.coverage.proofs.ExampleTuples.{final_tuple, wide_tuple}
-use Rattle.coverage.proofs.SmallIndex.{at_number, place, no_tuples, placed_others, differ, Small, index_of, at_statement, put_at, set_at, drop_at, turned, inserts}
+use Rattle.coverage.proofs.SmallIndex.{no_rows, one_row, place, no_tuples, placed_others, differ, Small, index_of, at_statement, put_at, set_at, drop_at, turned, inserts}
 use Rattle.coverage.proofs.SmallIndex.{free, locks_these, nobody, reads, puts, sets, drops}
 use Rattle.coverage.specs.Steps.{Stops}
 use Rattle.coverage.proofs.Opening.{stopped_kept}
-use Rattle.coverage.proofs.RangeSummarised.{no_rows, idle}
+use Rattle.coverage.proofs.RangeSummarised.{idle}
 use Rattle.coverage.proofs.MapGrown.{moved_place, page_flagged, flagged_kept, none_regular, lowest}
 
 -- the state after the stop: nobody is at work, and the page is still flagged
@@ -46,9 +46,6 @@ cuts_off = record {
 
 cut_kept : IsIndexKept (index_of no_rows cut_off)
 cut_kept = stopped_kept (index_of no_rows page_flagged) (index_of no_rows cut_off) flagged_kept cuts_off
-
-abbrev one_row : Row → ℕ → ℕ → Option Row
-one_row r b k = at_number b 0 (at_number k 0 (Some r) None) None
 
 -- the insert of this row, in this state on the index
 abbrev insert : Row → OnIndex → Statement

@@ -185,10 +185,7 @@ module _ (w : TableState) (s at page : ℕ) where
 
   sweepable_or_not : (x : Spot) → IsSweepable x ⊎ (IsSweepable x → ⊥)
   sweepable_or_not x = ⊎_elim
-      (λ (on : x.block ≡ page). ⊎_elim
-      (λ (unnamed : IsUnnamed view x). inl (on, unnamed))
-      (λ (not : IsUnnamed view x → ⊥). inr (λ is. not is.1))
-      (unnamed_or_not x))
+      (λ (on : x.block ≡ page). elim (unnamed_or_not x) [ inl unnamed ↦ inl (on, unnamed) | inr not ↦ inr (λ is. not is.1) ])
       (λ (off : x.block ≢ page). inr (λ is. off is.0))
       (cases_eq x.block page)
 

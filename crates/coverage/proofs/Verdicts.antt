@@ -94,10 +94,7 @@ put_past_map w s range need y ordered verdict = ⊎_elim
     (λ (started : (w.pages.map_pages < y.block) × (w.pages.kind y.block ≡ Regular) × (need ≤ page_room (bytes_of w.tuple) y.block)).
     (started.0, ordered.below y.block (λ is. subst IsNotStarted (sym is ∙ started.1) tt)))
     (λ (next : (w.pages.kind y.block ≡ Unstarted) × (y.block < w.pages.limit)). (
-      ⊎_elim
-          (λ (past : w.pages.map_pages < y.block). past)
-          (λ (inside : y.block ≤ w.pages.map_pages). absurd (subst IsNotStarted (sym next.0 ∙ ordered.map y.block inside) tt))
-          (lt_or_ge w.pages.map_pages y.block),
+      elim (lt_or_ge w.pages.map_pages y.block) [ inl past ↦ past | inr inside ↦ absurd (subst IsNotStarted (sym next.0 ∙ ordered.map y.block inside) tt) ],
       next.1,
     ))
     (put_place w s range need y verdict).1
@@ -106,10 +103,7 @@ put_past_map w s range need y ordered verdict = ⊎_elim
 fits_or_moves : (w : IndexView) (x : Spot) (new : IndexTuple) → w.pages.kind x.block ≡ Regular → length new.bytes ≤ place_room (bytes_of w.tuple) x
     → MustMove w.pages (bytes_of w.tuple) x (length new.bytes)
     → ⊥
-fits_or_moves w x new regular room must = ⊎_elim
-    (λ (other : w.pages.kind x.block ≢ Regular). other regular)
-    (λ (tight : place_room (bytes_of w.tuple) x < length new.bytes). not-le_of_lt tight room)
-    must
+fits_or_moves w x new regular room must = elim must [ inl other ↦ other regular | inr tight ↦ not-le_of_lt tight room ]
 
 pub swap_once : (w : IndexView) (s range : ℕ) (x : Spot) (old new : IndexTuple) (p q : Verdict) → SwapVerdict w s range x old new p
     → SwapVerdict w s range x old new q → p ≡ q
