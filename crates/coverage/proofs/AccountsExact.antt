@@ -1,5 +1,5 @@
 -- What a step adds to accounts and queue is one thing, and the queue keeps its order and its limit.
-use Rattle.std.proofs.Common.{◌≡◌, ◌⊎◌, inl, inr, ℕ, ◌+◌, ◌≤◌, ◌<◌, Option, Some, List, [], ◌∷◌, ◌++◌, length, sym, ◌∙◌, ap, subst, arith, suc, length-append}
+use Rattle.std.proofs.Common.{◌≡◌, ◌⊎◌, inl, inr, ℕ, ◌+◌, ◌≤◌, ◌<◌, Option, Some, List, [], ◌∷◌, ◌++◌, length, sym, ◌∙◌, ap, subst, arith, length-append}
 use Rattle.std.proofs.lemmas.Option.{none-some}
 use Rattle.std.proofs.Math.Nat.{not-le_of_lt}
 use Rattle.block_model.specs.declared.reply.Point.{Point}
@@ -7,13 +7,10 @@ use Rattle.block_model.specs.declared.place.Spot.{Spot}
 use Rattle.coverage.specs.Counts.{HasGone}
 use Rattle.coverage.proofs.Counted.{count_once}
 use Rattle.coverage.specs.Table.{Task, TableState}
-use Rattle.coverage.specs.TableSteps.{BeginsWith, Summarize, SummarizeOne, Work, Desummarize, Vacuum, Does, PutsRow, RefusesRow, AsksSummary, InsertGoes}
-use Rattle.coverage.specs.TableSteps.{InsertCompletes, RefusesInsert, TakesLock, MaintainGoes, MaintainCompletes, RefusesMaintain, RefusesVacuum}
-use Rattle.coverage.specs.TableSteps.{PrunesBlock, SweepsPage, RestartsIndex, BeginsScan, Judges, ReadsBlock, RefusesScan, MarksRow, Conflicts, Blocked}
-use Rattle.coverage.specs.TableSteps.{Transacts, range_in}
+use Rattle.coverage.specs.TableSteps.{BeginsWith, Work, Does, AsksSummary, TakesLock, PrunesBlock, SweepsPage, Transacts, range_in}
 use Rattle.coverage.specs.TablePoints.{does_point}
-use Rattle.coverage.specs.Accounts.{Asked, queue_limit, Account, no_account, Accounts, AccountIs, Asking, HasEntry, Joins, IsDropped, Begins}
-use Rattle.coverage.specs.Accounts.{AsksElsewhere, QueueStays, JoinsElsewhere, TakenElsewhere, Adds, AccountsStep}
+use Rattle.coverage.specs.Accounts.{Asked, queue_limit, Account, no_account, Accounts, AccountIs, Asking, HasEntry, Joins, IsDropped, Begins, AsksElsewhere}
+use Rattle.coverage.specs.Accounts.{QueueStays, JoinsElsewhere, TakenElsewhere, Adds, AccountsStep}
 
 -- the queue, and the account of the session that steps
 abbrev SameOwn : ℕ → Accounts → Accounts → Type 0

@@ -3,17 +3,15 @@ use Rattle.std.proofs.Common.{◌≡◌, ◌⊎◌, inl, inr, ℕ, ◌+◌, ◌�
 use Rattle.std.specs.Prelude.{refl}
 use Rattle.std.proofs.lemmas.Option.{none-some}
 use Rattle.block_model.specs.declared.row.Row.{Row}
-use Rattle.coverage.specs.IndexView.{PageKind, Unstarted, Mapping}
 use Rattle.coverage.specs.Statements.{Empty, NotBuilding}
-use Rattle.coverage.specs.PageOrder.{AreNewPages}
 use Rattle.coverage.specs.Steps.{ReadsIndex, InsertNoEntry}
 use Rattle.coverage.proofs.SmallIndex.{at_number, no_rows, one_row, new_kind, pages}
 use Rattle.coverage.proofs.SmallTable.{first_at, others_rest, table, same_rows, only_turns}
 use Rattle.coverage.proofs.RangeSummarised.{new_pages}
 use Rattle.coverage.proofs.ExampleTuples.{contents, lawful}
 use Rattle.coverage.specs.Table.{Index, OneRange, Task, Resting, Reaches, Asks, Inserts, Considers, Maintains, TableState, index_view_at}
-use Rattle.coverage.specs.TableSteps.{TaskTurns, SameRows, OnlyTurns, StepsIn, TableTakesRow, Work, PutsRow}
-use Rattle.coverage.specs.TableSteps.{AsksSummary, InsertCompletes, TakesLock, Stays, ToAsk, ToIndex, Inserted, ToRange, GoesOn, TableStep}
+use Rattle.coverage.specs.TableSteps.{TaskTurns, OnlyTurns, StepsIn, TableTakesRow, Work, PutsRow, AsksSummary, InsertCompletes, TakesLock, Stays, ToAsk}
+use Rattle.coverage.specs.TableSteps.{ToIndex, Inserted, ToRange, GoesOn, TableStep}
 use Rattle.coverage.specs.TableCovered.{IsTableKept}
 use Rattle.coverage.specs.Accounts.{Asked, no_account, Accounts, Joins, AccountsRun, AccountsDone, AccountsNext}
 use Rattle.coverage.proofs.TableOpening.{new_table_kept}

@@ -4,12 +4,9 @@ use Rattle.std.specs.Prelude.{refl}
 use Rattle.std.proofs.Math.Nat.{le_of_lt}
 use Rattle.block_model.specs.declared.reply.Point.{Point}
 use Rattle.block_model.specs.declared.reply.Point.TheVariants as points
-use Rattle.coverage.specs.IndexView.{IndexView}
+use Rattle.coverage.specs.IndexView.{IndexView, Progress, Passing}
 use Rattle.coverage.specs.Statements.{OnIndex, Phase, IsAt, Statement}
-use Rattle.coverage.specs.Steps.{OnIndexStep, Maps, Gone, Again, MovePut, GrowthStep, Grow, CountLeftOver, Count, Flag, EvacuatePut, EvacuateSet, EvacuateDrop}
-use Rattle.coverage.specs.IndexView.{Progress, Passing}
-use Rattle.coverage.specs.Steps.{EvacuateSweep, Turn, SummariseStep, LookMap, LookGone, IsFinal, Found, ReadNoEntry, GrowMap, Put, Set, Extent, Pass, Unite}
-use Rattle.coverage.specs.Steps.{UniteCopies, SwapFinal, SetFinal, DropOld, DesummariseStep, ClearMap, ClearNone, Clear, ClearAgain, DropCleared}
+use Rattle.coverage.specs.Steps.{OnIndexStep, Maps, GrowthStep, Grow, SummariseStep, GrowMap, Unite, DesummariseStep, ClearMap}
 use Rattle.coverage.specs.Points.{on_index_point, growth_point, summarise_point, desummarise_point}
 use Rattle.coverage.specs.Counts.{IsCountBelow, NoneBelow, OneMoreBelow, NotThisOne, IsCountOf, summarise_count, desummarise_count}
 use Rattle.coverage.proofs.NextSteps.{summarise_one_point, desummarise_one_point}

@@ -5,15 +5,13 @@ use Rattle.std.proofs.lemmas.Option.{same_Some, none-some}
 use Rattle.std.proofs.lemmas.Bool.{false≢true}
 use Rattle.block_model.specs.declared.place.Spot.{Spot}
 use Rattle.coverage.specs.IndexView.{IndexTuple, Progress, ExtentUnread, Passing, IndexView, NamesPlaceholder}
-use Rattle.coverage.specs.Changes.{IsUntouched}
-use Rattle.coverage.specs.Statements.{OnIndex, Copied, Moving, Phase, NotBuilding, Vacant, Growing, Evacuating, Placing, IsAt, Statement}
-use Rattle.coverage.specs.Statements.{Maintaining}
+use Rattle.coverage.specs.Statements.{OnIndex, Copied, Moving, Phase, NotBuilding, Vacant, Placing, IsAt, Statement, Maintaining}
 use Rattle.coverage.specs.Knowing.{MakesUnited, KnowsPhase, Knows}
 use Rattle.coverage.specs.PageOrder.{KnowsPagesOfPhase, KnowsPages}
 use Rattle.coverage.specs.IsCovered.{IndexState, index_view, IsIndexKept}
-use Rattle.coverage.specs.Steps.{ReadsIndex, DropsTuple, IsUnnamed, SweepsTuples, SummariseStep, LookMap, LookGone, IsFinal, Found, ReadNoEntry, GrowMap, Put, Set}
-use Rattle.coverage.specs.Steps.{Extent, Pass, Unite, UniteCopies, SwapFinal, SetFinal, DropOld, DesummariseStep, ClearMap, ClearNone, Clear, ClearAgain, DropCleared}
-use Rattle.coverage.specs.Steps.{GrowthStep, Grow, CountLeftOver, Count, Flag, EvacuatePut, EvacuateSet, EvacuateDrop, EvacuateSweep, Turn}
+use Rattle.coverage.specs.Steps.{ReadsIndex, DropsTuple, IsUnnamed, SweepsTuples, SummariseStep, LookMap, LookGone, IsFinal, Found, ReadNoEntry, GrowMap, Put}
+use Rattle.coverage.specs.Steps.{Set, Extent, Pass, Unite, UniteCopies, SwapFinal, SetFinal, DropOld, DesummariseStep, ClearMap, ClearNone, Clear, ClearAgain}
+use Rattle.coverage.specs.Steps.{DropCleared, GrowthStep, Grow}
 use Rattle.coverage.specs.Counts.{HasGone, NamesFinal, summarise_count, desummarise_count}
 use Rattle.coverage.proofs.Stable.{held_named}
 

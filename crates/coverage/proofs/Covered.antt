@@ -4,10 +4,9 @@ use Rattle.std.specs.Prelude.{IsTrue}
 use Rattle.std.proofs.lemmas.Option.{same_Some}
 use Rattle.block_model.specs.declared.place.Spot.{Spot}
 use Rattle.coverage.specs.IndexView.{IndexTuple, IndexView, range_of_block, IsTupleOf}
-use Rattle.coverage.specs.IsSettled.{IsAccounted}
 use Rattle.coverage.specs.GoesOn.{IsHeld}
-use Rattle.coverage.specs.Statements.{OnIndex, Empty, Held, Copied, Moving, Dropping, Phase, NotBuilding, Vacant, Growing, Evacuating, Placing, IsAt, Statement}
-use Rattle.coverage.specs.Statements.{Idle, Inserting, Maintaining, Holding, Scanning, IsAdded, loose_of}
+use Rattle.coverage.specs.Statements.{OnIndex, Held, Copied, Phase, NotBuilding, Evacuating, IsAt, Statement, Idle, Inserting, Maintaining, Holding, Scanning}
+use Rattle.coverage.specs.Statements.{IsAdded, loose_of}
 use Rattle.coverage.specs.Knowing.{KnowsOnIndex, MakesUnited, MakesNone, MakesSame, KnowsPhase, Knows}
 use Rattle.coverage.specs.IsCovered.{IndexState, index_view, OnIndexHolds, PhaseHolds, StatementHolds, IsCovered, IsIndexKept}
 use Rattle.coverage.proofs.Settled.{accounted_settled}

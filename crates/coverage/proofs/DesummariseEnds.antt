@@ -6,13 +6,12 @@ use Rattle.coverage.specs.IndexView.{IndexView}
 use Rattle.coverage.specs.Statements.{Held, Phase, NotBuilding, Statement, Maintaining, Holding}
 use Rattle.coverage.specs.Steps.{DesummariseStep, ClearMap, ClearNone, Clear, ClearAgain, DropCleared}
 use Rattle.coverage.proofs.Verdicts.{clear_differs}
-use Rattle.coverage.specs.Table.{Job, EachRange, OneRange, WholeRanges, Desummarising, Index, Task, Resting, Considers, Maintains}
-use Rattle.coverage.specs.Table.{TableState, index_view_at}
+use Rattle.coverage.specs.Table.{Job, Desummarising, Index, Task, Resting, Considers, Maintains, TableState, index_view_at}
 use Rattle.coverage.specs.TableSteps.{OnlyTurns, JobStep, Onward, Stays, ToRange, IsMaintained, TableStep}
 use Rattle.coverage.specs.GoingOn.{StepsAlone, LastAlone, OneMoreAlone}
 use Rattle.coverage.specs.StepsLeft.{desummarise_steps}
 use Rattle.coverage.specs.TableCovered.{IsInTable, IsTableKept}
-use Rattle.coverage.proofs.StepDid.{Did, DidBegin, DidAsk, DidInsert, DidComplete, DidMaintain, DidRange, DidPrune, DidSweep, DidRestart, DidJudge, DidRead, DidMark, step_did, step_settles}
+use Rattle.coverage.proofs.StepDid.{Did, DidMaintain, DidRange, step_did, step_settles}
 use Rattle.coverage.proofs.TableSeen.{table_step_kept}
 
 -- so many steps are within what is left, by the entry of the range

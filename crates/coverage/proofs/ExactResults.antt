@@ -9,9 +9,8 @@ use Rattle.coverage.specs.Statements.{OnIndex, Empty, Copied, Moving, Phase, IsA
 use Rattle.coverage.specs.Knowing.{KnowsPhase, Knows}
 use Rattle.coverage.specs.PageOrder.{IsPassWithin, KnowsPagesOfPhase, KnowsPages}
 use Rattle.coverage.specs.IsCovered.{IndexState, index_view, IsIndexKept}
-use Rattle.coverage.specs.Steps.{ReplacesTuple, SetsEntry, OnIndexStep, Maps, Gone, Again, MovePut, SummariseStep, LookMap, LookGone, IsFinal, Found, ReadNoEntry, GrowMap, Put, Set}
-use Rattle.coverage.specs.Steps.{Extent, Pass, Unite, UniteCopies, SwapFinal, SetFinal, DropOld}
-use Rattle.coverage.specs.Steps.{GrowthStep, Grow, CountLeftOver, Count, Flag, EvacuatePut, EvacuateSet, EvacuateDrop, EvacuateSweep, Turn}
+use Rattle.coverage.specs.Steps.{ReplacesTuple, SetsEntry, OnIndexStep, Maps, Gone, Again, MovePut, SummariseStep, Found, GrowMap, Set, Extent, Pass, Unite}
+use Rattle.coverage.specs.Steps.{UniteCopies, SwapFinal, SetFinal, GrowthStep, Grow}
 use Rattle.coverage.specs.Counts.{summarise_count}
 use Rattle.coverage.specs.ExactResults.{IsPassed, NonePassed, OneMorePassed, IsPassedIn, UnitesExactly, IsExact, IsExactAfter, NamesExactFinal}
 use Rattle.coverage.proofs.Stable.{held_named}

@@ -8,8 +8,8 @@ use Rattle.block_model.specs.declared.place.Spot.{Spot}
 use Rattle.coverage.specs.IndexView.{IndexTuple, Contents, IsFormed, Progress, IndexView, IsRangeOf, IsTupleOf}
 use Rattle.coverage.specs.IsSound.{IsSound}
 use Rattle.coverage.specs.GoesOn.{IsHeld}
-use Rattle.coverage.specs.Changes.{SameHeap, SameTuples, SameUnnamed, PutsRow, Places, Names, Turn, Swaps, MovePuts, MoveSets, DropsLoose, Clears, IsUntouched}
-use Rattle.coverage.specs.Changes.{IsSwept, Sweeps, Prunes, Takes, Ends, TurnsLocks}
+use Rattle.coverage.specs.Changes.{SameHeap, SameTuples, SameUnnamed, PutsRow, Places, Names, Turn, Swaps, MovePuts, MoveSets, DropsLoose, Clears, Sweeps}
+use Rattle.coverage.specs.Changes.{Prunes, Takes, Ends, TurnsLocks}
 
 -- tuples of one index with the same bytes are one
 pub same_bytes : (contents : Contents) (t u : IndexTuple) → IsFormed contents t → IsFormed contents u → t.bytes ≡ u.bytes → t ≡ u

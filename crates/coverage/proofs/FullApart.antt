@@ -10,12 +10,11 @@ use Rattle.coverage.specs.Rooms.{bytes_of}
 use Rattle.coverage.proofs.Numbers.{lt_or_ge}
 use Rattle.coverage.specs.Statements.{OnIndex, Copied, Phase, Statement, loose_in, loose_at}
 use Rattle.coverage.specs.Steps.{InsertStep, SummariseStep}
-use Rattle.coverage.specs.Waiting.{IsNextTuple}
-use Rattle.coverage.specs.Waiting.{IsInsertEnded, EndsBefore, EndsFull, IsPhaseFull, FinalFull, PlaceFull, MapFull, EvacuateFull}
+use Rattle.coverage.specs.Waiting.{IsNextTuple, IsInsertEnded, EndsBefore, EndsFull, IsPhaseFull, FinalFull, PlaceFull, MapFull, EvacuateFull}
 use Rattle.coverage.proofs.Verdicts.{put_once, swap_once}
 use Rattle.coverage.proofs.NextSteps.{next_once, named_or_not}
-use Rattle.coverage.proofs.OneOutcome.{NextOnIndex, Changed, Moved, NextInsert, GoesOn, Swapped, NextGrowth, MovesNext, SweepsNext, Turns, NextPhase, Lengthens, Places}
-use Rattle.coverage.proofs.OneOutcome.{Unites, SwapsFinal, insert_next, summarise_next}
+use Rattle.coverage.proofs.OneOutcome.{NextOnIndex, Changed, Moved, NextInsert, GoesOn, Swapped, NextGrowth, MovesNext, SweepsNext, Turns, NextPhase, Lengthens}
+use Rattle.coverage.proofs.OneOutcome.{Places, Unites, SwapsFinal, insert_next, summarise_next}
 
 abbrev IsFull : Verdict → Type 0
 IsFull (Full number) = Unit

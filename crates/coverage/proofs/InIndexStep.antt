@@ -1,20 +1,19 @@
 -- A step in one index, as a step of the table that the statement's session makes.
-use Rattle.std.proofs.Common.{◌≡◌, ◌⊎◌, inl, inr, ⊎_elim, ℕ, ◌≤◌, ◌<◌, Option, sym, ◌∙◌, ap, subst, arith, suc}
+use Rattle.std.proofs.Common.{◌≡◌, ◌⊎◌, inl, inr, ⊎_elim, ℕ, ◌≤◌, ◌<◌, Option, sym, ◌∙◌, ap, subst, suc}
 use Rattle.std.specs.Prelude.{refl}
 use Rattle.std.proofs.Math.Nat.{le_antisymm}
 use Rattle.block_model.specs.declared.row.Row.{Row}
 use Rattle.block_model.specs.declared.place.Spot.{Spot}
 use Rattle.coverage.specs.IndexView.{Building, IndexView}
 use Rattle.coverage.specs.Statements.{OnIndex, Empty, Phase, Statement, Idle, Inserting, Maintaining, Holding, building_of, loose_of}
-use Rattle.coverage.specs.Steps.{InsertStep, InsertOnIndex, InsertNoEntry, InsertCopies, InsertUnchanged, InsertSwap, InsertSet, InsertDrop}
-use Rattle.coverage.specs.Steps.{SummariseStep, LookMap, LookGone, IsFinal, Found, ReadNoEntry, GrowMap, Put, Set, Extent, Pass, Unite, UniteCopies, SwapFinal}
-use Rattle.coverage.specs.Steps.{SetFinal, DropOld, DesummariseStep, ClearMap, ClearNone, Clear, ClearAgain, DropCleared}
+use Rattle.coverage.specs.Steps.{InsertStep, InsertOnIndex, InsertCopies, InsertSet, SummariseStep, IsFinal, GrowMap, SwapFinal, DropOld, DesummariseStep}
+use Rattle.coverage.specs.Steps.{ClearNone, DropCleared}
 use Rattle.coverage.specs.Points.{insert_point}
 use Rattle.coverage.proofs.Numbers.{lt_or_ge}
 use Rattle.coverage.specs.Table.{Index, Job, EachRange, OneRange, WholeRanges, Desummarising, Task, Resting, Reaches, Asks, Inserts, Considers, Maintains}
 use Rattle.coverage.specs.Table.{Restarts, TableState, pick, seen_by, index_view_at}
-use Rattle.coverage.specs.TableSteps.{TaskTurns, StepsIn, JobStep, InsertGoes, InsertCompletes, MaintainGoes, MaintainCompletes, Onward}
-use Rattle.coverage.specs.TableSteps.{Stays, ToAsk, ToIndex, Inserted, ToRange, NextIndex, IsMaintained, RangesDone}
+use Rattle.coverage.specs.TableSteps.{TaskTurns, StepsIn, JobStep, InsertGoes, InsertCompletes, MaintainGoes, MaintainCompletes, Onward, Stays, ToAsk, ToIndex}
+use Rattle.coverage.specs.TableSteps.{Inserted, ToRange, NextIndex, IsMaintained, RangesDone}
 use Rattle.coverage.specs.TablePoints.{job_point, IsTableStuck}
 use Rattle.coverage.proofs.Views.{pick_same, pick_there}
 use Rattle.coverage.proofs.VacuumGoesOn.{no_onward, no_end}

@@ -2,16 +2,15 @@
 use Rattle.std.proofs.Common.{◌≡◌, ◌⊎◌, ⊎_elim, ℕ, ◌+◌, ◌*◌, ◌≤◌, ◌<◌, sym, ap, subst, arith, suc}
 use Rattle.std.proofs.Math.Nat.{le_of_lt, le_refl, le_trans}
 use Rattle.coverage.specs.IndexView.{IndexView}
-use Rattle.coverage.specs.Statements.{Empty, Phase, NotBuilding, Statement, Idle, Inserting, Maintaining, Holding, Scanning}
-use Rattle.coverage.specs.Steps.{ClearMap, ClearNone, Clear, ClearAgain, DropCleared}
-use Rattle.coverage.specs.Table.{Job, EachRange, OneRange, WholeRanges, Desummarising, TableScan, Task, Resting, Reaches, Asks, Inserts, Considers}
-use Rattle.coverage.specs.Table.{Maintains, Prunes, SweepsFrom, Sweeps, Restarts, Scans, Marks, TableState, index_view_at}
-use Rattle.coverage.specs.TableSteps.{BeginsWith, Summarize, SummarizeOne, Work, Desummarize, Vacuum, HasRange, JobStep, JudgeStep, JudgeMap, JudgeNoEntry}
-use Rattle.coverage.specs.TableSteps.{JudgeGone, JudgeKeeps, JudgeDrops, Does, PutsRow, RefusesRow, AsksSummary, InsertGoes, InsertCompletes}
-use Rattle.coverage.specs.TableSteps.{RefusesInsert, TakesLock, MaintainGoes, MaintainCompletes, RefusesMaintain, RefusesVacuum, PrunesBlock}
-use Rattle.coverage.specs.TableSteps.{SweepsPage, RestartsIndex, BeginsScan, Judges, ReadsBlock, RefusesScan, MarksRow, Conflicts, Blocked, Transacts}
-use Rattle.coverage.specs.TableSteps.{Onward, Stays, ToAsk, ToIndex, Inserted, ToRange, NextIndex, Pruned, ToPage, Swept, JudgesNext, Scanned, ToMarks}
-use Rattle.coverage.specs.TableSteps.{Marked, Settles, GoesOn, GivesLock}
+use Rattle.coverage.specs.Statements.{Empty, Phase, NotBuilding, Statement, Maintaining}
+use Rattle.coverage.specs.Steps.{ClearMap}
+use Rattle.coverage.specs.Table.{Job, EachRange, OneRange, WholeRanges, Desummarising, TableScan, Task, Resting, Reaches, Asks, Inserts, Considers, Maintains}
+use Rattle.coverage.specs.Table.{Prunes, SweepsFrom, Sweeps, Restarts, Scans, TableState, index_view_at}
+use Rattle.coverage.specs.TableSteps.{BeginsWith, Summarize, SummarizeOne, Work, Desummarize, Vacuum, HasRange, JobStep, JudgeStep, JudgeMap, Does, PutsRow}
+use Rattle.coverage.specs.TableSteps.{RefusesRow, AsksSummary, InsertGoes, InsertCompletes, RefusesInsert, TakesLock, MaintainGoes, MaintainCompletes}
+use Rattle.coverage.specs.TableSteps.{RefusesMaintain, RefusesVacuum, PrunesBlock, SweepsPage, RestartsIndex, BeginsScan, Judges, ReadsBlock, RefusesScan}
+use Rattle.coverage.specs.TableSteps.{MarksRow, Conflicts, Blocked, Transacts, Onward, Stays, ToAsk, ToIndex, ToRange, NextIndex, Pruned, ToPage, Swept}
+use Rattle.coverage.specs.TableSteps.{JudgesNext, Settles, GoesOn, GivesLock}
 use Rattle.coverage.specs.TableCovered.{IsExtentWithin, IsPhaseOf, IsInTable}
 use Rattle.coverage.proofs.Leaves.{does_leaves, settles_leaves}
 use Rattle.coverage.proofs.TableSettled.{does_layout, settles_layout}

@@ -5,7 +5,7 @@ use Rattle.block_model.specs.declared.place.Spot.{Spot}
 use Rattle.coverage.specs.IndexView.{IndexTuple, IndexView, range_of_block}
 use Rattle.coverage.specs.Verdicts.{Differs, SwapVerdict}
 use Rattle.coverage.specs.Statements.{OnIndex, Empty, Held, Copied, Moving, Dropping, Statement, Inserting}
-use Rattle.coverage.specs.Steps.{ReadsIndex, IsGone, Stands, OnIndexStep, Maps, Gone, Again, MovePut, InsertStep, InsertOnIndex, InsertNoEntry, InsertCopies, InsertUnchanged, InsertSwap, InsertSet, InsertDrop}
+use Rattle.coverage.specs.Steps.{ReadsIndex, IsGone, Stands, OnIndexStep, Maps, Gone, Again, MovePut, InsertStep, InsertOnIndex, InsertCopies, InsertSet}
 use Rattle.coverage.specs.Stuck.{InsertsAlone, LastStep, OneMore, AreNamed}
 use Rattle.coverage.proofs.Verdicts.{swap_differs}
 

@@ -5,13 +5,12 @@ use Rattle.block_model.specs.declared.row.Row.{Row}
 use Rattle.coverage.specs.Statements.{OnIndex, Empty, Idle, Inserting, building_of, loose_of}
 use Rattle.coverage.specs.Stuck.{InsertsAlone, LastStep, OneMore, AreNamed}
 use Rattle.coverage.proofs.InsertsEnd.{insert_bound, begun_bound}
-use Rattle.coverage.specs.Table.{Index, Task, Resting, Reaches, Asks, Inserts, Considers, Maintains, Prunes, SweepsFrom, Sweeps, Restarts, Scans, Marks}
-use Rattle.coverage.specs.Table.{TableState, seen_by, index_view_at}
+use Rattle.coverage.specs.Table.{Index, Task, Resting, Reaches, Asks, Inserts, TableState, seen_by, index_view_at}
 use Rattle.coverage.specs.TableSteps.{OnlyTurns, Onward, Stays, ToAsk, ToIndex, Inserted, IsMaintained, Settles, GoesOn, GivesLock, TableStep}
 use Rattle.coverage.specs.GoingOn.{IsInserting, StepsAlone, LastAlone, OneMoreAlone}
 use Rattle.coverage.specs.TableCovered.{IsInTable, IsTableKept}
 use Rattle.coverage.proofs.TableSettled.{does_layout, settles_layout}
-use Rattle.coverage.proofs.StepDid.{Did, DidBegin, DidAsk, DidInsert, DidComplete, DidMaintain, DidRange, DidPrune, DidSweep, DidRestart, DidJudge, DidRead, DidMark, step_did}
+use Rattle.coverage.proofs.StepDid.{Did, DidAsk, DidInsert, DidComplete, step_did}
 use Rattle.coverage.proofs.TableSeen.{table_step_kept}
 
 -- where it comes by that

@@ -3,10 +3,10 @@ use Rattle.std.proofs.Common.{◌≡◌, ◌≢◌, ◌⊎◌, inl, inr, ⊎_eli
 use Rattle.std.proofs.Math.Nat.{le_refl}
 use Rattle.block_model.specs.declared.row.Row.{Row}
 use Rattle.coverage.specs.Table.{Task, Resting, TableState}
-use Rattle.coverage.specs.TableSteps.{TaskTurns, OnlyTurns, SeesPlace, Fails, Does, PutsRow, RefusesRow, AsksSummary, InsertGoes}
-use Rattle.coverage.specs.TableSteps.{InsertCompletes, RefusesInsert, TakesLock, MaintainGoes, MaintainCompletes, RefusesMaintain, RefusesVacuum}
-use Rattle.coverage.specs.TableSteps.{PrunesBlock, SweepsPage, RestartsIndex, BeginsScan, Judges, ReadsBlock, RefusesScan, MarksRow, Conflicts, Blocked}
-use Rattle.coverage.specs.TableSteps.{Transacts, Settles, GoesOn, GivesLock}
+use Rattle.coverage.specs.TableSteps.{TaskTurns, OnlyTurns, SeesPlace, Fails, Does, PutsRow, RefusesRow, AsksSummary, InsertGoes, InsertCompletes}
+use Rattle.coverage.specs.TableSteps.{RefusesInsert, TakesLock, MaintainGoes, MaintainCompletes, RefusesMaintain, RefusesVacuum, PrunesBlock, SweepsPage}
+use Rattle.coverage.specs.TableSteps.{RestartsIndex, BeginsScan, Judges, ReadsBlock, RefusesScan, MarksRow, Conflicts, Blocked, Transacts, Settles, GoesOn}
+use Rattle.coverage.specs.TableSteps.{GivesLock}
 
 -- what a step leaves to the scans of others
 pub record Leaves (s : ℕ) (w v : TableState) : Type 0 where

@@ -9,8 +9,7 @@ use Rattle.coverage.specs.PageOrder.{KnowsPages}
 use Rattle.coverage.specs.Table.{Index, Job, Task, Inserts, Maintains, TableState, inserting_of, seen_by, index_view_at}
 use Rattle.coverage.specs.TableSteps.{TaskTurns, StepsIn, InsertGoes, MaintainGoes, GoesOn, Stays}
 use Rattle.coverage.specs.TableCovered.{IsTableKept}
-use Rattle.coverage.specs.Machines.{ShownIndex, ShownTable, Unseen, table_state, task_turned, MachineSteps, ChangesIndex, InsertStepsIn}
-use Rattle.coverage.specs.Machines.{MaintainStepsIn}
+use Rattle.coverage.specs.Machines.{ShownIndex, ShownTable, Unseen, table_state, task_turned, MachineSteps, ChangesIndex, InsertStepsIn, MaintainStepsIn}
 use Rattle.coverage.proofs.Views.{pick_same, pick_there, on_index_here}
 
 abbrev unnamed_as : Unseen → (ℕ → Spot → Bool) → Unseen

@@ -11,10 +11,10 @@ use Rattle.coverage.specs.Statements.{OnIndex, Empty, Held, Copied, Moving, Drop
 use Rattle.coverage.specs.Statements.{Maintaining, Holding, IsUnited, loose_at, loose_of, building_at, building_of}
 use Rattle.coverage.specs.Knowing.{LocksNone, MakesUnited, MakesNone, MakesSame, IsResultFormed, KnowsPhase, Knows}
 use Rattle.coverage.specs.IsCovered.{IndexState, index_view}
-use Rattle.coverage.specs.Steps.{PutsTuple, SetsEntry, ClearsEntry, IsUnnamed, SweepsTuples, GrowthStep, Grow, CountLeftOver, Count, Flag}
-use Rattle.coverage.specs.Steps.{EvacuatePut, EvacuateSet, EvacuateDrop, EvacuateSweep, Turn, SummariseStep, LookMap, LookGone, IsFinal, Found, ReadNoEntry}
-use Rattle.coverage.specs.Steps.{GrowMap, Put, Set, Extent, Pass, Unite, UniteCopies, SwapFinal, SetFinal, DropOld, DesummariseStep, ClearMap, ClearNone, Clear}
-use Rattle.coverage.specs.Steps.{ClearAgain, DropCleared, MaintainStep, Summarises, Desummarises, Turned}
+use Rattle.coverage.specs.Steps.{PutsTuple, SetsEntry, ClearsEntry, IsUnnamed, SweepsTuples, GrowthStep, Grow, CountLeftOver, Count, Flag, EvacuatePut}
+use Rattle.coverage.specs.Steps.{EvacuateSet, EvacuateDrop, EvacuateSweep, Turn, SummariseStep, LookMap, LookGone, IsFinal, Found, ReadNoEntry, GrowMap, Put}
+use Rattle.coverage.specs.Steps.{Set, Extent, Pass, Unite, UniteCopies, SwapFinal, SetFinal, DropOld, DesummariseStep, ClearMap, ClearNone, Clear, ClearAgain}
+use Rattle.coverage.specs.Steps.{DropCleared, MaintainStep, Summarises, Desummarises, Turned}
 use Rattle.coverage.proofs.Sound.{places_sound, names_sound, turn_sound, clears_sound, sweeps_sound}
 use Rattle.coverage.proofs.RowsAdded.{rows_formed, rows_wider, rows_has}
 use Rattle.coverage.proofs.Formed.{range_of_on, no_less, named_formed, held_formed, its_range}

@@ -1,13 +1,13 @@
 -- A maintenance statement goes from a range to the next one, and a vacuum from a block of the heap, or an index page, to the next one.
-use Rattle.std.proofs.Common.{◌≡◌, ◌⊎◌, inl, inr, ℕ, ◌≤◌, ◌<◌, ◌∷◌, sym, ap, subst, arith, zero, suc}
+use Rattle.std.proofs.Common.{◌≡◌, ◌⊎◌, inl, inr, ℕ, ◌≤◌, ◌∷◌, sym, ap, subst, arith, zero, suc}
 use Rattle.coverage.specs.Statements.{Empty, Phase, NotBuilding}
 use Rattle.coverage.specs.Table.{Job, EachRange, OneRange, WholeRanges, Desummarising, Task, Resting, Reaches, Asks, Inserts, Considers, Maintains, Prunes}
 use Rattle.coverage.specs.Table.{SweepsFrom, Sweeps, Restarts, Scans, Marks, TableState}
-use Rattle.coverage.specs.TableSteps.{BeginsWith, Summarize, SummarizeOne, Work, Desummarize, Vacuum, HasRange, IsFrom}
-use Rattle.coverage.specs.TableSteps.{TaskTurns, Does, PutsRow, RefusesRow, AsksSummary, InsertGoes, InsertCompletes, RefusesInsert, TakesLock, MaintainGoes}
-use Rattle.coverage.specs.TableSteps.{MaintainCompletes, RefusesMaintain, RefusesVacuum, PrunesBlock, SweepsPage, RestartsIndex, BeginsScan, Judges}
-use Rattle.coverage.specs.TableSteps.{ReadsBlock, RefusesScan, MarksRow, Conflicts, Blocked, Transacts, Onward, Stays, ToAsk, ToIndex, Inserted, ToRange, NextIndex, Pruned}
-use Rattle.coverage.specs.TableSteps.{ToPage, Swept, JudgesNext, Scanned, ToMarks, Marked, Settles, GoesOn, GivesLock, TableStep}
+use Rattle.coverage.specs.TableSteps.{BeginsWith, Summarize, SummarizeOne, Work, Desummarize, Vacuum, HasRange, IsFrom, TaskTurns, Does, PutsRow, RefusesRow}
+use Rattle.coverage.specs.TableSteps.{AsksSummary, InsertGoes, InsertCompletes, RefusesInsert, TakesLock, MaintainGoes, MaintainCompletes, RefusesMaintain}
+use Rattle.coverage.specs.TableSteps.{RefusesVacuum, PrunesBlock, SweepsPage, RestartsIndex, BeginsScan, Judges, ReadsBlock, RefusesScan, MarksRow, Conflicts}
+use Rattle.coverage.specs.TableSteps.{Blocked, Transacts, Onward, Stays, ToRange, NextIndex, Pruned, ToPage, Swept, JudgesNext, Settles, GoesOn, GivesLock}
+use Rattle.coverage.specs.TableSteps.{TableStep}
 use Rattle.coverage.specs.NextTasks.{AtFirst, AfterRange, AfterBlock, AfterPage, AfterRestart}
 
 -- a statement that isn't maintenance, before its begin or in hand

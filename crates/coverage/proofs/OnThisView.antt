@@ -4,8 +4,8 @@ use Rattle.std.specs.Prelude.{refl}
 use Rattle.block_model.specs.declared.row.Row.{Row}
 use Rattle.block_model.specs.declared.place.Spot.{Spot}
 use Rattle.coverage.specs.IndexView.{IndexTuple, Building, PageKind, IndexView, range_of_block}
-use Rattle.coverage.specs.Changes.{Touched, TouchesNothing, TouchesRows, TouchesEntries, TouchesTuples}
-use Rattle.coverage.specs.Changes.{TouchesUnnamed, TouchesSummariseLock, KeepsHeap, KeepsMap, KeepsTuples, KeepsUnnamed, KeepsSummariseLock, Frame}
+use Rattle.coverage.specs.Changes.{Touched, TouchesNothing, TouchesRows, TouchesEntries, TouchesTuples, TouchesUnnamed, TouchesSummariseLock, KeepsHeap}
+use Rattle.coverage.specs.Changes.{KeepsMap, KeepsTuples, KeepsUnnamed, KeepsSummariseLock, Frame}
 use Rattle.coverage.specs.Statements.{OnIndex, Phase, Statement}
 use Rattle.coverage.specs.IndexPart.{part_of, with_part, InsertMakes, SummariseMakes, DesummariseMakes, SweepMakes}
 use Rattle.coverage.specs.Points.{on_index_point, insert_point, growth_point, summarise_point, desummarise_point}

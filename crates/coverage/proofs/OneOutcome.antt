@@ -13,11 +13,10 @@ use Rattle.coverage.specs.Verdicts.{IsLocked, Verdict, Differs, Fits, Puts, PutV
 use Rattle.coverage.specs.Statements.{OnIndex, Empty, Held, Copied, Moving, Dropping, Phase, NotBuilding, Vacant, Growing, Evacuating, Placing, IsAt, Statement}
 use Rattle.coverage.specs.Statements.{Idle, Inserting, Maintaining, Holding, rows_added, row_added, HasNoMoreRows}
 use Rattle.coverage.specs.Steps.{IsUnnamed, IsGone, Stands, OnIndexStep, Maps, Gone, Again, MovePut, InsertStep, InsertOnIndex, InsertNoEntry, InsertCopies}
-use Rattle.coverage.specs.Steps.{InsertUnchanged, InsertSwap, InsertSet, InsertDrop, GrowthStep, Grow, CountLeftOver, Count, Flag}
+use Rattle.coverage.specs.Steps.{InsertUnchanged, InsertSwap, InsertSet, InsertDrop, GrowthStep, Grow, CountLeftOver, Count, Flag, EvacuatePut, EvacuateSet}
+use Rattle.coverage.specs.Steps.{EvacuateDrop, EvacuateSweep, Turn, SummariseStep, LookMap, LookGone, IsFinal, Found, ReadNoEntry, GrowMap, Put, Set, Extent}
+use Rattle.coverage.specs.Steps.{Pass, Unite, UniteCopies, SwapFinal, SetFinal, DropOld, DesummariseStep, ClearMap, ClearNone, Clear, ClearAgain, DropCleared}
 use Rattle.coverage.specs.Waiting.{IsNextTuple, Grows}
-use Rattle.coverage.specs.Steps.{EvacuatePut, EvacuateSet, EvacuateDrop, EvacuateSweep, Turn, SummariseStep, LookMap, LookGone, IsFinal, Found, ReadNoEntry}
-use Rattle.coverage.specs.Steps.{GrowMap, Put, Set, Extent, Pass, Unite, UniteCopies, SwapFinal, SetFinal, DropOld, DesummariseStep, ClearMap, ClearNone, Clear}
-use Rattle.coverage.specs.Steps.{ClearAgain, DropCleared}
 use Rattle.coverage.proofs.Numbers.{lt_or_ge}
 use Rattle.coverage.proofs.Verdicts.{free_not_locked, put_once, swap_once, clear_once}
 use Rattle.coverage.proofs.NextSteps.{next_once, named_or_not}

@@ -1,16 +1,15 @@
 -- Where a statement comes by its step is one thing.
-use Rattle.std.proofs.Common.{◌≡◌, ◌⊎◌, inl, inr, ⊎_elim, ℕ, ◌*◌, ◌≤◌, ◌<◌, true, false, List, [], ◌∷◌, sym, ◌∙◌, ap, subst, arith, suc}
+use Rattle.std.proofs.Common.{◌≡◌, ◌⊎◌, inl, inr, ⊎_elim, ℕ, ◌*◌, ◌≤◌, ◌<◌, true, false, List, ◌∷◌, sym, ◌∙◌, ap, subst, arith, suc}
 use Rattle.std.specs.Prelude.{refl, IsTrue}
 use Rattle.std.proofs.lemmas.Bool.{false≢true}
 use Rattle.std.proofs.Math.Nat.{le_antisymm, le_of_lt, ne_of_lt, not-le_of_lt}
-use Rattle.coverage.specs.Table.{Index, TableScan, Task, Resting, Reaches, Asks, Inserts, Considers, Maintains, Prunes, SweepsFrom, Sweeps, Restarts}
+use Rattle.coverage.specs.Table.{Index, TableScan, Task, SweepsFrom, Sweeps, Scans, Marks, TableState}
 use Rattle.block_model.specs.declared.row.RowId.{RowId}
 use Rattle.coverage.specs.RowOrder.{IsAmong}
 use Rattle.coverage.proofs.RowsInOrder.{one_order}
-use Rattle.coverage.specs.Table.{Scans, Marks, TableState}
-use Rattle.coverage.specs.TableSteps.{first_block, IsFrom, ScanHasStep, HasStep, Onward, Stays, ToAsk, ToIndex, Inserted, ToRange, NextIndex, Pruned}
-use Rattle.coverage.specs.TableSteps.{ToPage, Swept, JudgesNext, Scanned, ToMarks, Marked, HasNothingToMark, ListsFound, IsMaintained, RangesDone, NothingToSweep, OnlyTurns, Settles, GoesOn, GivesLock}
-use Rattle.coverage.specs.TableSteps.{TableStep}
+use Rattle.coverage.specs.TableSteps.{first_block, IsFrom, ScanHasStep, HasStep, Onward, Stays, ToAsk, ToIndex, Inserted, ToRange, NextIndex, Pruned, ToPage}
+use Rattle.coverage.specs.TableSteps.{Swept, JudgesNext, Scanned, ToMarks, HasNothingToMark, ListsFound, IsMaintained, RangesDone, NothingToSweep, OnlyTurns}
+use Rattle.coverage.specs.TableSteps.{Settles, GoesOn, GivesLock, TableStep}
 
 -- two places, each from the other on, are one
 from_once : (m p n q : ℕ) → IsFrom m p n q → IsFrom n q m p → (m ≡ n) × (p ≡ q)

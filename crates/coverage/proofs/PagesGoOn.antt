@@ -4,13 +4,12 @@ use Rattle.std.specs.Prelude.{refl}
 use Rattle.std.proofs.lemmas.Option.{same_Some, none-some}
 use Rattle.std.proofs.Math.Nat.{le_trans}
 use Rattle.block_model.specs.declared.place.Spot.{Spot}
-use Rattle.coverage.specs.IndexView.{IndexTuple, Progress, ExtentUnread, Passing, PageKind, Pages, IndexView, map_page_of, next_map_page}
-use Rattle.coverage.specs.IndexView.{range_of_block}
+use Rattle.coverage.specs.IndexView.{IndexTuple, Progress, ExtentUnread, Passing, PageKind, Pages, IndexView, map_page_of, next_map_page, range_of_block}
 use Rattle.coverage.specs.IsSound.{IsSound}
 use Rattle.coverage.specs.GoesOn.{GoesOn}
 use Rattle.coverage.specs.Changes.{ChangesAt, SameHeap, SameMap, SameTuples, OwnLocks, IsFree}
-use Rattle.coverage.specs.Statements.{OnIndex, Empty, Held, Copied, Moving, Dropping, Phase, NotBuilding, Vacant, Growing, Evacuating, Placing, IsAt, Statement}
-use Rattle.coverage.specs.Statements.{Idle, Inserting, Maintaining, Holding, Scanning}
+use Rattle.coverage.specs.Statements.{OnIndex, Held, Moving, Dropping, Phase, NotBuilding, Vacant, Growing, Evacuating, Placing, IsAt, Statement, Inserting}
+use Rattle.coverage.specs.Statements.{Maintaining}
 use Rattle.coverage.specs.Knowing.{LocksThese, Knows}
 use Rattle.coverage.specs.PageOrder.{AreOrdered, HasNamedSort, LocksOnIndex, KnowsSort, IsPassWithin, KnowsPagesOfPhase, KnowsPages}
 use Rattle.coverage.specs.Steps.{TurnsPage, SetsEntry}

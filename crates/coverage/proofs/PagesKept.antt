@@ -1,34 +1,33 @@
 -- What each step leaves of the pages' order, and of what its own statement knows of pages and page locks.
-use Rattle.std.proofs.Common.{◌≡◌, ◌≢◌, ◌⊎◌, inl, inr, ⊎_elim, ℕ, ◌+◌, ◌*◌, ◌/◌, ◌≤◌, ◌<◌, min, Option, Some, None, List, [], ◌∷◌, length, sym, ◌∙◌, ap, subst, arith}
+use Rattle.std.proofs.Common.{◌≡◌, ◌≢◌, ◌⊎◌, inl, inr, ⊎_elim, ℕ, ◌+◌, ◌*◌, ◌/◌, ◌≤◌, ◌<◌, Option, Some, None, List, [], ◌∷◌, length, sym, ◌∙◌, ap, subst, arith}
 use Rattle.std.specs.Prelude.{refl}
 use Rattle.std.proofs.lemmas.Option.{none-some}
 use Rattle.std.proofs.lemmas.Bool.{cases_eq}
 use Rattle.std.proofs.Math.Nat.{le_refl}
 use Rattle.block_model.specs.declared.row.Row.{Row}
 use Rattle.block_model.specs.declared.place.Spot.{Spot}
-use Rattle.coverage.specs.IndexView.{IndexTuple, Progress, ExtentUnread, Passing, PageKind, Unstarted, Mapping, Regular, Emptying, Pages, IndexView, placeholder_length}
-use Rattle.coverage.specs.IndexView.{map_page_of, next_map_page, IsPastMap, range_of_block, NamesPlaceholder}
+use Rattle.coverage.specs.IndexView.{IndexTuple, Progress, ExtentUnread, Passing, PageKind, Unstarted, Mapping, Regular, Emptying, Pages, IndexView}
+use Rattle.coverage.specs.IndexView.{placeholder_length, map_page_of, next_map_page, IsPastMap, range_of_block, NamesPlaceholder}
 use Rattle.coverage.specs.IsSound.{IsSound}
 use Rattle.coverage.specs.Changes.{SameHeap, OwnLocks, IsUntouched}
 use Rattle.coverage.specs.Rooms.{bytes_of}
 use Rattle.coverage.specs.Verdicts.{Puts, Fits, IsTarget, PutVerdict, PutGoes, SwapVerdict, SwapFits, SwapMoves}
-use Rattle.coverage.specs.Statements.{OnIndex, Empty, Held, Copied, Dropping, Phase, NotBuilding, Vacant, Growing, IsAt, Statement}
-use Rattle.coverage.specs.Statements.{Idle, Inserting, Maintaining, Holding, IsAdded}
+use Rattle.coverage.specs.Statements.{OnIndex, Empty, Held, Copied, Dropping, Phase, NotBuilding, Vacant, Growing, IsAt, Statement, Idle, Inserting}
+use Rattle.coverage.specs.Statements.{Maintaining, Holding, IsAdded}
 use Rattle.coverage.specs.Knowing.{LocksThese, KnowsOnIndex, KnowsPhase}
 use Rattle.coverage.specs.PageOrder.{AreOrdered, IsForTuples, HasNamedSort, LocksOnIndex, IsPassWithin, IsTurnToUnite, KnowsPagesOfPhase, KnowsPages}
-use Rattle.coverage.specs.Steps.{ReadsIndex, ReplacesTuple, SetsEntry, SameLocks, ClearsEntry, DropsTuple, SweepsTuples, OnIndexStep}
-use Rattle.coverage.specs.Steps.{Maps, Gone, Again, MovePut, InsertStep, InsertOnIndex, InsertNoEntry, InsertCopies, InsertUnchanged, InsertSwap, InsertSet}
-use Rattle.coverage.specs.Steps.{InsertDrop, TurnsKind, CountsPage, GrowthStep, Grow, CountLeftOver, Count, Flag, EvacuatePut, EvacuateSet}
+use Rattle.coverage.specs.Steps.{ReadsIndex, ReplacesTuple, SetsEntry, SameLocks, ClearsEntry, DropsTuple, SweepsTuples, OnIndexStep, Maps, Gone, Again}
+use Rattle.coverage.specs.Steps.{MovePut, InsertStep, InsertOnIndex, InsertNoEntry, InsertCopies, InsertUnchanged, InsertSwap, InsertSet, InsertDrop, TurnsKind}
+use Rattle.coverage.specs.Steps.{CountsPage, GrowthStep, Grow, CountLeftOver, Count, Flag, EvacuatePut, EvacuateSet, EvacuateDrop, EvacuateSweep, Turn}
+use Rattle.coverage.specs.Steps.{SummariseStep, LookMap, LookGone, IsFinal, Found, ReadNoEntry, GrowMap, Put, Set, Extent, Pass, Unite, UniteCopies, SwapFinal}
+use Rattle.coverage.specs.Steps.{SetFinal, DropOld, DesummariseStep, ClearMap, ClearNone, Clear, ClearAgain, DropCleared, MaintainStep, Summarises}
+use Rattle.coverage.specs.Steps.{Desummarises}
 use Rattle.coverage.specs.Waiting.{IsNextTuple}
-use Rattle.coverage.specs.Steps.{EvacuateDrop, EvacuateSweep, Turn, SummariseStep, LookMap, LookGone, IsFinal, Found, ReadNoEntry, GrowMap, Put, Set, Extent}
-use Rattle.coverage.specs.Steps.{Pass, Unite, UniteCopies, SwapFinal, SetFinal, DropOld, DesummariseStep, ClearMap, ClearNone, Clear, ClearAgain, DropCleared}
-use Rattle.coverage.specs.Steps.{MaintainStep, Summarises, Desummarises}
 use Rattle.coverage.proofs.Numbers.{lt_or_ge, lowest_below}
 use Rattle.coverage.proofs.Stable.{held_named}
 use Rattle.coverage.proofs.OnIndexSteps.{move_compares}
 use Rattle.coverage.proofs.InsertSteps.{on_index_keeps}
-use Rattle.coverage.proofs.PagesOrdered.{IsStarted, for_tuples, turned_same, order_same, entries_same, tuples_same, order_turned, order_puts}
-use Rattle.coverage.proofs.PagesOrdered.{order_counted}
+use Rattle.coverage.proofs.PagesOrdered.{IsStarted, for_tuples, turned_same, order_same, entries_same, tuples_same, order_turned, order_puts, order_counted}
 use Rattle.coverage.proofs.PagesGoOn.{Quiet, PagesGoOn, PagesAfter, same_blocks, quiet_same, kinds_turned, still_after, quiet_put, quiet_swap, quiet_set, quiet_drop}
 
 -- the page of a put is the target that was chosen

@@ -11,12 +11,15 @@ fewer P Q n sub most xs apart all = most xs apart (λ x among. sub x (all x amon
 -- one of them leaves
 pub one_less : (P Q : Spot → Type 0) (x : Spot) (n : ℕ) → P x → ((y : Spot) → Q y → P y × (y ≢ x)) → AreAtMost P n
     → (m : ℕ) × (n ≡ suc m) × AreAtMost Q m
-one_less P Q x zero is sub most = absurd (omega (arith, most (x ∷ []) ((λ among. among), tt) (λ y among. ⊎_elim (λ (same : y ≡ x). subst P (sym same) is) (λ (no : ⊥). absurd no) among)))
+one_less P Q x zero is sub most =
+    let one = most (x ∷ []) ((λ among. among), tt) (λ y among. elim among [ inl same ↦ subst P (sym same) is | inr none ↦ absurd none ]) in absurd (omega arith)
 one_less P Q x (suc m) is sub most = (
   m,
   refl,
-  λ xs apart all. omega (arith, most (x ∷ xs) ((λ among. (sub x (all x among)).1 refl), apart)
-      (λ y among. ⊎_elim (λ (same : y ≡ x). subst P (sym same) is) (λ (in_rest : IsIn xs y). (sub y (all y in_rest)).0) among)),
+  λ xs apart all.
+      let with_x = most (x ∷ xs) ((λ among. (sub x (all x among)).1 refl), apart)
+          (λ y among. elim among [ inl same ↦ subst P (sym same) is | inr in_rest ↦ (sub y (all y in_rest)).0 ]) in
+      omega arith,
 )
 
 -- without one place a list is shorter by one at most

@@ -1,21 +1,19 @@
 -- A run that takes a range of a new index to its final tuple: the steps, one after the other.
-use Rattle.std.proofs.Common.{◌≡◌, ℕ, ◌+◌, ◌<◌, ◌≤◌, Option, Some, None, false, [], ◌∷◌, sym, ap, subst, arith, zero, suc}
+use Rattle.std.proofs.Common.{◌≡◌, ℕ, ◌<◌, ◌≤◌, Some, None, false, [], ◌∷◌, sym, ap, subst, arith, zero, suc}
 use Rattle.std.specs.Prelude.{refl}
-use Rattle.block_model.specs.declared.row.Row.{Row}
 use Rattle.coverage.specs.IndexView.{ExtentUnread, Passing, Unstarted, Mapping, Regular}
 use Rattle.coverage.specs.Statements.{Empty, Held, Copied, NotBuilding, Vacant, Placing, IsAt, Idle, Maintaining, Holding}
 use Rattle.coverage.specs.Verdicts.{OnNew, PutGoes, SwapFits}
-use Rattle.index_layout.specs.IndexReading.{free_of}
 use Rattle.coverage.specs.PageOrder.{AreNewPages}
-use Rattle.coverage.specs.Rooms.{bytes_of, slots_on}
 use Rattle.coverage.specs.IsCovered.{IndexState, new_index, IsIndexKept}
-use Rattle.coverage.specs.Steps.{Step, TakeSummariseLock, BeginRange, GiveSummariseLock, ReadNoEntry, Put, Set, Extent}
-use Rattle.coverage.specs.Steps.{Pass, Unite, UniteCopies, SwapFinal, Maps, Run, Done, Next}
+use Rattle.coverage.specs.Steps.{Step, TakeSummariseLock, BeginRange, GiveSummariseLock, ReadNoEntry, Put, Set, Extent, Pass, Unite, UniteCopies, SwapFinal}
+use Rattle.coverage.specs.Steps.{Maps, Run, Done, Next}
 use Rattle.coverage.proofs.Opening.{new_kept}
 use Rattle.coverage.proofs.Runs.{run_kept}
 use Rattle.coverage.proofs.ExampleTuples.{contents, lawful, empty_tuple, final_tuple}
-use Rattle.coverage.proofs.SmallIndex.{no_rows, no_tuples, place, one_tuple, new_kind, pages, kind_number, differ, Small, statement_at, index_of, view, at_statement, put_at, set_at, held_by}
-use Rattle.coverage.proofs.SmallIndex.{placed_again, turned, summarises, free, locks_these, nobody, reads, puts, sets, replaces, passes}
+use Rattle.coverage.proofs.SmallIndex.{no_rows, no_tuples, place, one_tuple, new_kind, pages, kind_number, differ, Small, statement_at, index_of, at_statement}
+use Rattle.coverage.proofs.SmallIndex.{put_at, set_at, held_by, placed_again, turned, summarises, free, locks_these, nobody, reads, puts, sets, replaces}
+use Rattle.coverage.proofs.SmallIndex.{passes}
 
 -- the states of the run, each named for the step that led to it
 abbrev new : Small

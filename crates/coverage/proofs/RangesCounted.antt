@@ -6,18 +6,17 @@ use Rattle.std.proofs.Math.Nat.{le-suc, le_refl, le_trans, lt_irrefl}
 use Rattle.coverage.specs.IndexView.{IndexView}
 use Rattle.coverage.specs.Statements.{Dropping, Phase, NotBuilding, Statement, Maintaining, Holding}
 use Rattle.coverage.specs.Knowing.{Knows}
-use Rattle.coverage.specs.Steps.{SummariseStep, LookMap, LookGone, IsFinal, Found, ReadNoEntry, GrowMap, Put, Set, Extent, Pass, Unite, UniteCopies}
-use Rattle.coverage.specs.Steps.{SwapFinal, SetFinal, DropOld, GrowthStep, Grow, CountLeftOver, Count, Flag, EvacuatePut, EvacuateSet, EvacuateDrop, EvacuateSweep, Turn}
+use Rattle.coverage.specs.Steps.{SummariseStep, IsFinal, GrowMap, SwapFinal, SetFinal, DropOld, GrowthStep, Grow}
 use Rattle.coverage.specs.Counts.{NamesFinal, summarise_count}
 use Rattle.coverage.proofs.CountsExact.{summarise_exact}
 use Rattle.coverage.proofs.FinalsElsewhere.{same_final, sweeps_final, summarise_elsewhere}
-use Rattle.coverage.specs.Table.{Index, Job, EachRange, OneRange, WholeRanges, Desummarising, Task, Resting, Reaches, Considers, Maintains}
-use Rattle.coverage.specs.Table.{Prunes, SweepsFrom, Sweeps, Restarts, Scans, TableState, seen_by, index_state, index_view_at}
-use Rattle.coverage.specs.TableSteps.{TaskTurns, StepsIn, JobStep, BeginsWith, Summarize, SummarizeOne, Work, Desummarize, Vacuum, IndexFull}
-use Rattle.coverage.specs.TableSteps.{Does, PutsRow, RefusesRow, AsksSummary, InsertGoes, InsertCompletes, RefusesInsert, TakesLock, MaintainGoes}
-use Rattle.coverage.specs.TableSteps.{MaintainCompletes, RefusesMaintain, RefusesVacuum, PrunesBlock, SweepsPage, RestartsIndex, BeginsScan, Judges}
-use Rattle.coverage.specs.TableSteps.{ReadsBlock, RefusesScan, MarksRow, Conflicts, Blocked, Transacts, IsFrom, Onward, Stays, ToAsk, ToIndex, Inserted}
-use Rattle.coverage.specs.TableSteps.{ToRange, NextIndex, Pruned, ToPage, Swept, JudgesNext, Scanned, ToMarks, Marked, Settles, GoesOn, GivesLock, TableStep}
+use Rattle.coverage.specs.Table.{Index, Job, Desummarising, Task, Resting, Reaches, Considers, Maintains, Prunes, SweepsFrom, Sweeps, Restarts, Scans}
+use Rattle.coverage.specs.Table.{TableState, seen_by, index_state, index_view_at}
+use Rattle.coverage.specs.TableSteps.{TaskTurns, StepsIn, JobStep, BeginsWith, Work, IndexFull, Does, PutsRow, RefusesRow, AsksSummary, InsertGoes}
+use Rattle.coverage.specs.TableSteps.{InsertCompletes, RefusesInsert, TakesLock, MaintainGoes, MaintainCompletes, RefusesMaintain, RefusesVacuum, PrunesBlock}
+use Rattle.coverage.specs.TableSteps.{SweepsPage, RestartsIndex, BeginsScan, Judges, ReadsBlock, RefusesScan, MarksRow, Conflicts, Blocked, Transacts, IsFrom}
+use Rattle.coverage.specs.TableSteps.{Onward, Stays, ToAsk, ToIndex, ToRange, NextIndex, Pruned, ToPage, Swept, JudgesNext, ToMarks, Settles, GoesOn, GivesLock}
+use Rattle.coverage.specs.TableSteps.{TableStep}
 use Rattle.coverage.specs.StepsLeft.{IsIn}
 use Rattle.coverage.specs.TableCovered.{IsTableKept}
 use Rattle.coverage.specs.Accounts.{Account, Accounts, Begins, Adds, job_count, AccountsStep, AccountsRun, AccountsDone, AccountsNext}

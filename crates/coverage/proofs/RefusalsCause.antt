@@ -9,13 +9,11 @@ use Rattle.coverage.specs.IndexView.{IndexView}
 use Rattle.coverage.specs.Statements.{Phase}
 use Rattle.coverage.proofs.Numbers.{lt_or_ge, lowest_below}
 use Rattle.coverage.proofs.FullApart.{full_swap, full_phase}
-use Rattle.coverage.specs.Table.{Job, Task, Resting, Inserts, Maintains, Prunes, Sweeps, Restarts, Scans}
-use Rattle.coverage.specs.Table.{Marks, Considers, Reaches, Asks, SweepsFrom, TableState, index_view_at}
-use Rattle.coverage.specs.TableSteps.{range_in, IsVacantPlace, IsFirstPlace, IsHeapFull, IsVacuuming, IsRowRefused, HeapFull, RowLacksMemory}
-use Rattle.coverage.specs.TableSteps.{IsInsertRefused, IndexFull, IsMaintainRefused, NoPage, Does, PutsRow, RefusesRow, AsksSummary, InsertGoes}
-use Rattle.coverage.specs.TableSteps.{InsertCompletes, RefusesInsert, TakesLock, MaintainGoes, MaintainCompletes, RefusesMaintain, RefusesVacuum}
-use Rattle.coverage.specs.TableSteps.{PrunesBlock, SweepsPage, RestartsIndex, BeginsScan, Judges, ReadsBlock, RefusesScan, MarksRow, Conflicts, Blocked}
-use Rattle.coverage.specs.TableSteps.{Transacts}
+use Rattle.coverage.specs.Table.{Job, Task, Resting, Maintains, Prunes, Sweeps, Restarts, Scans, TableState, index_view_at}
+use Rattle.coverage.specs.TableSteps.{range_in, IsVacantPlace, IsFirstPlace, IsHeapFull, IsVacuuming, IsRowRefused, HeapFull, RowLacksMemory, IsInsertRefused}
+use Rattle.coverage.specs.TableSteps.{IndexFull, IsMaintainRefused, NoPage, Does, PutsRow, RefusesRow, AsksSummary, InsertGoes, InsertCompletes, RefusesInsert}
+use Rattle.coverage.specs.TableSteps.{TakesLock, MaintainGoes, MaintainCompletes, RefusesMaintain, RefusesVacuum, PrunesBlock, SweepsPage, RestartsIndex}
+use Rattle.coverage.specs.TableSteps.{BeginsScan, Judges, ReadsBlock, RefusesScan, MarksRow, Conflicts, Blocked, Transacts}
 use Rattle.coverage.specs.Refusals.{Relation, Heap, IndexNumber, Refusal, LacksMemory, IsFull, HasConflict, row_refusal, insert_refusal, maintain_refusal}
 use Rattle.coverage.specs.Refusals.{does_refusal, MayLackMemory, IsTaskFull, InsertFull, MaintainFull}
 

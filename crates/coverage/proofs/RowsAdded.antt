@@ -1,5 +1,5 @@
 -- The rows of a block that are added to a tuple of an index are included by it, and it is one of the index still.
-use Rattle.std.proofs.Common.{◌≡◌, ⊎_elim, ℕ, ◌≤◌, ◌<◌, Option, Some, None, sym, ◌∙◌, ap, subst, arith, zero, suc}
+use Rattle.std.proofs.Common.{◌≡◌, ⊎_elim, ℕ, ◌≤◌, ◌<◌, Option, Some, None, sym, ◌∙◌, ap, subst, zero, suc}
 use Rattle.std.specs.Prelude.{IsTrue}
 use Rattle.std.proofs.lemmas.Option.{same_Some, none-some}
 use Rattle.std.proofs.Math.Nat.{not-suc-le-zero}

@@ -1,5 +1,5 @@
 -- Ids in order, and the same ones, are one list.
-use Rattle.std.proofs.Common.{◌≡◌, inl, inr, ⊎_elim, ℕ, ◌<◌, List, [], ◌∷◌, sym, ◌∙◌, subst, arith}
+use Rattle.std.proofs.Common.{◌≡◌, inl, inr, ⊎_elim, ◌<◌, List, [], ◌∷◌, sym, ◌∙◌, subst, arith}
 use Rattle.std.specs.Prelude.{refl}
 use Rattle.block_model.specs.declared.row.RowId.{RowId}
 use Rattle.coverage.specs.RowOrder.{IsBefore, IsAmong, AreInOrder}

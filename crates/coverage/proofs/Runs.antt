@@ -1,29 +1,27 @@
 -- Every step of every statement keeps what the index rests on.
-use Rattle.std.proofs.Common.{◌≡◌, ◌≢◌, ◌⊎◌, inl, inr, ⊎_elim, ℕ, ◌+◌, ◌/◌, ◌≤◌, ◌<◌, Option, Some, None, Bool, true, false, sym, ◌∙◌, ap, subst, arith}
-use Rattle.std.specs.Prelude.{refl, IsTrue, ◌↔◌}
+use Rattle.std.proofs.Common.{◌≡◌, ◌≢◌, ◌⊎◌, inl, inr, ⊎_elim, ℕ, ◌/◌, ◌≤◌, ◌<◌, Option, Some, None, Bool, false, sym, ◌∙◌, ap, subst, arith}
+use Rattle.std.specs.Prelude.{refl, IsTrue, ◌↔◌, List}
 use Rattle.std.proofs.lemmas.Option.{same_Some, none-some}
 use Rattle.std.proofs.lemmas.Bool.{cases_eq, false≢true}
 use Rattle.std.proofs.Math.Nat.{le_refl, le_trans}
 use Rattle.block_model.specs.declared.row.Row.{Row}
 use Rattle.block_model.specs.declared.place.Spot.{Spot}
 use Rattle.coverage.specs.IndexView.{Pages, IndexView, range_of_block}
-use Rattle.coverage.specs.IsSettled.{AllAwait, IsAccounted, TupleShows}
+use Rattle.coverage.specs.IsSettled.{IsAccounted, TupleShows}
 use Rattle.coverage.specs.GoesOn.{IsHeld, GoesOn}
 use Rattle.coverage.specs.Changes.{TouchesNothing, Frame, SameHeap, PutsRow, Prunes, Takes, Ends}
 use Rattle.coverage.specs.Statements.{OnIndex, Empty, Phase, NotBuilding, Scan, Statement, Idle, Inserting, Maintaining, Holding, Scanning, loose_in, loose_of}
 use Rattle.coverage.specs.Statements.{building_of}
 use Rattle.coverage.specs.Knowing.{KnowsRow, Knows, Spares}
 use Rattle.coverage.specs.PageOrder.{KnowsPages}
-use Rattle.std.specs.Prelude.{List}
 use Rattle.coverage.specs.IsCovered.{IndexState, index_view, IsIndexKept}
-use Rattle.coverage.specs.Steps.{ReadsIndex, RowsDropped, IsUnnamed, InsertStep, InsertOnIndex, InsertNoEntry}
-use Rattle.coverage.specs.Steps.{InsertCopies, InsertUnchanged, InsertSwap, InsertSet, InsertDrop, GrowthStep, Grow, CountLeftOver, Count, Flag, EvacuatePut}
-use Rattle.coverage.specs.Steps.{EvacuateSet, EvacuateDrop, EvacuateSweep, Turn, SummariseStep, LookMap, LookGone, IsFinal, Found, ReadNoEntry, GrowMap, Put}
-use Rattle.coverage.specs.Steps.{Set, Extent, Pass, Unite, UniteCopies, SwapFinal, SetFinal, DropOld, DesummariseStep, ClearMap, ClearNone, Clear, ClearAgain}
-use Rattle.coverage.specs.Steps.{DropCleared, MaintainStep, Summarises, Desummarises, ScanStep, ScanMap, ScanNoEntry, ScanGone, ScanKeeps, ScanDrops}
-use Rattle.coverage.specs.Steps.{ScanElsewhere, ScanPage, Turned, SameCounts, RowPut, SummariseLockPasses, ScanBegins, Rests, Step, PutRow, Insert, Refused}
-use Rattle.coverage.specs.Steps.{TakeSummariseLock, BeginRange, Maintain, Prune, Sweep, GiveSummariseLock, Abandon, BeginScan, Scans, EndScan, Elsewhere}
-use Rattle.coverage.specs.Steps.{Counts, Run, Done, Next}
+use Rattle.coverage.specs.Steps.{ReadsIndex, RowsDropped, IsUnnamed, InsertStep, InsertOnIndex, InsertNoEntry, InsertCopies, InsertUnchanged, InsertSwap}
+use Rattle.coverage.specs.Steps.{InsertSet, InsertDrop, GrowthStep, Grow, CountLeftOver, Count, Flag, EvacuatePut, EvacuateSet, EvacuateDrop, EvacuateSweep}
+use Rattle.coverage.specs.Steps.{Turn, SummariseStep, LookMap, LookGone, IsFinal, Found, ReadNoEntry, GrowMap, Put, Set, Extent, Pass, Unite, UniteCopies}
+use Rattle.coverage.specs.Steps.{SwapFinal, SetFinal, DropOld, DesummariseStep, ClearMap, ClearNone, Clear, ClearAgain, DropCleared, MaintainStep, Summarises}
+use Rattle.coverage.specs.Steps.{Desummarises, ScanStep, ScanMap, ScanNoEntry, ScanGone, ScanKeeps, ScanDrops, ScanElsewhere, ScanPage, Turned, SameCounts}
+use Rattle.coverage.specs.Steps.{RowPut, SummariseLockPasses, ScanBegins, Rests, Step, PutRow, Insert, Refused, TakeSummariseLock, BeginRange, Maintain, Prune}
+use Rattle.coverage.specs.Steps.{Sweep, GiveSummariseLock, Abandon, BeginScan, Scans, EndScan, Elsewhere, Counts, Run, Done, Next}
 use Rattle.coverage.proofs.Sound.{puts_row_sound, prunes_sound, takes_sound, ends_sound}
 use Rattle.coverage.proofs.OthersGoOn.{puts_row_go_on, prunes_go_on, takes_go_on, ends_go_on}
 use Rattle.coverage.proofs.Stable.{knows_on}
@@ -37,52 +35,19 @@ use Rattle.coverage.proofs.Numbers.{lt_or_ge}
 use Rattle.coverage.proofs.FullApart.{ended_loose, full_loose}
 
 pub insert_keeps : (s b k : ℕ) (r : Row) (w v : IndexView) (h : OnIndex) (e : Statement) → InsertStep s b k r w v h e → KeepsHeapAndLock w v
-insert_keeps s b k r w v _ _ (InsertOnIndex old new step) = on_index_keeps s (range_of_block w b) w v old new step
-insert_keeps s b k r w v _ _ (InsertNoEntry none reads) = (reads.frame.heap, reads.frame.summarise_lock)
-insert_keeps s b k r w v _ _ (InsertCopies x old new stands added changes reads) = (reads.frame.heap, reads.frame.summarise_lock)
-insert_keeps s b k r w v _ _ (InsertUnchanged x t stands added free reads) = (reads.frame.heap, reads.frame.summarise_lock)
-insert_keeps s b k r w v _ _ (InsertSwap x old new verdict swap) = (swap.frame.heap, swap.frame.summarise_lock)
-insert_keeps s b k r w v _ _ (InsertSet x y old new sets same) = (sets.frame.heap, sets.frame.summarise_lock)
-insert_keeps s b k r w v _ _ (InsertDrop x drops) = (drops.frame.heap, drops.frame.summarise_lock)
+insert_keeps s b k r w v h e step = grind (arith, on_index_keeps)
 
 growth_keeps : (s range : ℕ) (w v : IndexView) (old new : Phase) → GrowthStep s range w v old new → KeepsHeapAndLock w v
-growth_keeps s range w v _ _ (Grow grows free meta turns) = (turns.frame.heap, turns.frame.summarise_lock)
-growth_keeps s range w v _ _ (CountLeftOver grows meta counts) = (counts.frame.heap, counts.frame.summarise_lock)
-growth_keeps s range w v _ _ (Count counts) = (counts.frame.heap, counts.frame.summarise_lock)
-growth_keeps s range w v _ _ (Flag grows free turns) = (turns.frame.heap, turns.frame.summarise_lock)
-growth_keeps s range w v _ _ (EvacuatePut x y t grows next named free verdict puts these) = (puts.frame.heap, puts.frame.summarise_lock)
-growth_keeps s range w v _ _ (EvacuateSet m x y t u sets same) = (sets.frame.heap, sets.frame.summarise_lock)
-growth_keeps s range w v _ _ (EvacuateDrop m x drops) = (drops.frame.heap, drops.frame.summarise_lock)
-growth_keeps s range w v _ _ (EvacuateSweep x t grows next unnamed sweeps) = (sweeps.frame.heap, sweeps.frame.summarise_lock)
-growth_keeps s range w v _ _ (Turn grows empty free meta turns) = (turns.frame.heap, turns.frame.summarise_lock)
+growth_keeps s range w v old new step = grind arith
 
 pub summarise_keeps : (s range : ℕ) (w v : IndexView) (old : Phase) (new : Statement) → SummariseStep s range w v old new → KeepsHeapAndLock w v
-summarise_keeps s range w v _ _ (LookMap x named reads) = (reads.frame.heap, reads.frame.summarise_lock)
-summarise_keeps s range w v _ _ (LookGone x gone reads) = (reads.frame.heap, reads.frame.summarise_lock)
-summarise_keeps s range w v _ _ (IsFinal x t stands final reads) = (reads.frame.heap, reads.frame.summarise_lock)
-summarise_keeps s range w v _ _ (Found x t stands flag reads) = (reads.frame.heap, reads.frame.summarise_lock)
-summarise_keeps s range w v _ _ (ReadNoEntry none of reads) = (reads.frame.heap, reads.frame.summarise_lock)
-summarise_keeps s range w v _ _ (GrowMap old new step) = growth_keeps s range w v old new step
-summarise_keeps s range w v _ _ (Put x t is long verdict puts these) = (puts.frame.heap, puts.frame.summarise_lock)
-summarise_keeps s range w v _ _ (Set x sets none) = (sets.frame.heap, sets.frame.summarise_lock)
-summarise_keeps s range w v _ _ (Extent extent result start is reads) = (reads.frame.heap, reads.frame.summarise_lock)
-summarise_keeps s range w v _ _ (Pass extent next slots result wider below none made reads) = (reads.frame.heap, reads.frame.summarise_lock)
-summarise_keeps s range w v _ _ (Unite extent next result old new all step) = on_index_keeps s range w v old new step
-summarise_keeps s range w v _ _ (UniteCopies extent next result x old new all stands united reads) = (reads.frame.heap, reads.frame.summarise_lock)
-summarise_keeps s range w v _ _ (SwapFinal p x old new verdict swap) = (swap.frame.heap, swap.frame.summarise_lock)
-summarise_keeps s range w v _ _ (SetFinal p x y old new sets same) = (sets.frame.heap, sets.frame.summarise_lock)
-summarise_keeps s range w v _ _ (DropOld x drops) = (drops.frame.heap, drops.frame.summarise_lock)
+summarise_keeps s range w v old new step = grind (arith, growth_keeps, on_index_keeps)
 
 pub desummarise_keeps : (s range : ℕ) (w v : IndexView) (old : Phase) (new : Statement) → DesummariseStep s range w v old new → KeepsHeapAndLock w v
-desummarise_keeps s range w v _ _ (ClearMap x named reads) = (reads.frame.heap, reads.frame.summarise_lock)
-desummarise_keeps s range w v _ _ (ClearNone none reads) = (reads.frame.heap, reads.frame.summarise_lock)
-desummarise_keeps s range w v _ _ (Clear x verdict clears these) = (clears.frame.heap, clears.frame.summarise_lock)
-desummarise_keeps s range w v _ _ (ClearAgain x verdict reads) = (reads.frame.heap, reads.frame.summarise_lock)
-desummarise_keeps s range w v _ _ (DropCleared x drops) = (drops.frame.heap, drops.frame.summarise_lock)
+desummarise_keeps s range w v old new step = grind arith
 
 pub maintain_keeps : (s range : ℕ) (w v : IndexView) (old : Phase) (new : Statement) → MaintainStep s range w v old new → KeepsHeapAndLock w v
-maintain_keeps s range w v old new (Summarises step) = summarise_keeps s range w v old new step
-maintain_keeps s range w v old new (Desummarises step) = desummarise_keeps s range w v old new step
+maintain_keeps s range w v old new step = grind (arith, summarise_keeps, desummarise_keeps)
 
 spares_never : (d : Statement) → Spares never d
 spares_never (Inserting b k r on_index) = λ dead. false≢true dead
@@ -532,23 +497,7 @@ run_kept _ _ _ kept (Next s rest w u v step more) = run_kept rest u v (step_kept
 
 -- blocks of the table are never taken away
 step_blocks : (s : ℕ) (w v : IndexState) → Step s w v → w.blocks ≤ v.blocks
-step_blocks s w v (PutRow b k r turned puts counts) = puts.row.grown
-step_blocks s w v (Insert b k r on_index new turned step counts) =
-    same_blocks (index_view w) (index_view v) (insert_keeps s b k r (index_view w) (index_view v) on_index new step).0
-step_blocks s w v (Refused b k r on_index ended turned reads fails counts) = same_blocks (index_view w) (index_view v) reads.frame.heap
-step_blocks s w v (TakeSummariseLock turned passes counts) = same_blocks (index_view w) (index_view v) passes.frame.heap
-step_blocks s w v (BeginRange range turned reads counts) = same_blocks (index_view w) (index_view v) reads.frame.heap
-step_blocks s w v (Maintain range old new turned step counts) =
-    same_blocks (index_view w) (index_view v) (maintain_keeps s range (index_view w) (index_view v) old new step).0
-step_blocks s w v (Prune dropped spares turned drops counts) = not_less v.blocks w.blocks drops.rows.blocks
-step_blocks s w v (Sweep page turned sweeps counts) = same_blocks (index_view w) (index_view v) sweeps.frame.heap
-step_blocks s w v (GiveSummariseLock turned passes counts) = same_blocks (index_view w) (index_view v) passes.frame.heap
-step_blocks s w v (Abandon range number phase full turned passes counts) = same_blocks (index_view w) (index_view v) passes.frame.heap
-step_blocks s w v (BeginScan scan begins turned reads counts) = same_blocks (index_view w) (index_view v) reads.frame.heap
-step_blocks s w v (Scans old new turned step reads counts) = same_blocks (index_view w) (index_view v) reads.frame.heap
-step_blocks s w v (EndScan scan turned reads counts) = same_blocks (index_view w) (index_view v) reads.frame.heap
-step_blocks s w v (Elsewhere rests) = same_blocks (index_view w) (index_view v) rests.heap
-step_blocks s w v (Counts counts few same) = not_less v.blocks w.blocks (ap (λ (u : IndexState). u.blocks) same)
+step_blocks s w v step = grind (arith, insert_keeps, maintain_keeps)
 
 pub run_blocks : (steps : List ℕ) (w v : IndexState) → Run steps w v → w.blocks ≤ v.blocks
 run_blocks _ _ _ (Done w) = le_refl w.blocks

@@ -5,12 +5,11 @@ use Rattle.std.proofs.lemmas.Option.{same_Some, none-some}
 use Rattle.std.proofs.lemmas.Bool.{cases_eq}
 use Rattle.block_model.specs.declared.row.RowId.{RowId}
 use Rattle.coverage.specs.Table.{TableScan, Task, Resting, SweepsFrom, Scans, Marks, TableState, index_view_at}
-use Rattle.coverage.specs.TableSteps.{OnlyTurns, SameRows, SameIndexes, first_block, JudgeStep, ReadsPage, ScanBegins, BeginsWith, Summarize}
-use Rattle.coverage.specs.TableSteps.{SummarizeOne, Work, Desummarize, Vacuum, Does, PutsRow, RefusesRow, AsksSummary, InsertGoes, InsertCompletes}
-use Rattle.coverage.specs.TableSteps.{RefusesInsert, TakesLock, MaintainGoes, MaintainCompletes, RefusesMaintain, RefusesVacuum, PrunesBlock}
-use Rattle.coverage.specs.TableSteps.{SweepsPage, RestartsIndex, BeginsScan, Judges, ReadsBlock, RefusesScan, MarksRow, Conflicts, Blocked, Transacts}
-use Rattle.coverage.specs.TableSteps.{Onward, Stays, ToAsk, ToIndex, Inserted, ToRange, NextIndex, Pruned, ToPage, Swept, JudgesNext, Scanned, ToMarks}
-use Rattle.coverage.specs.TableSteps.{Marked, IsScanRead, ListsFound, Settles, GoesOn, GivesLock}
+use Rattle.coverage.specs.TableSteps.{OnlyTurns, SameRows, SameIndexes, first_block, JudgeStep, ReadsPage, ScanBegins, BeginsWith, Summarize, Does, PutsRow}
+use Rattle.coverage.specs.TableSteps.{RefusesRow, AsksSummary, InsertGoes, InsertCompletes, RefusesInsert, TakesLock, MaintainGoes, MaintainCompletes}
+use Rattle.coverage.specs.TableSteps.{RefusesMaintain, RefusesVacuum, PrunesBlock, SweepsPage, RestartsIndex, BeginsScan, Judges, ReadsBlock, RefusesScan}
+use Rattle.coverage.specs.TableSteps.{MarksRow, Conflicts, Blocked, Transacts, Onward, Stays, Pruned, JudgesNext, ToMarks, IsScanRead, ListsFound, Settles}
+use Rattle.coverage.specs.TableSteps.{GoesOn, GivesLock}
 use Rattle.coverage.proofs.Views.{scan_of, begins_no_scan}
 
 -- how the scan of a session that stepped came about

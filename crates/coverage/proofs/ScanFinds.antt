@@ -6,12 +6,11 @@ use Rattle.std.proofs.lemmas.Bool.{cases_eq, false≢true}
 use Rattle.block_model.specs.declared.row.Row.{Row}
 use Rattle.block_model.specs.declared.row.RowId.{RowId}
 use Rattle.coverage.specs.Table.{TableScan, Marks, TableState, index_view_at}
-use Rattle.coverage.specs.TableSteps.{SeesPlace, JudgeStep, JudgeMap, JudgeNoEntry, JudgeGone, JudgeKeeps, JudgeDrops}
-use Rattle.coverage.specs.TableSteps.{Does, ListsFound, Settles, GoesOn, GivesLock}
+use Rattle.coverage.specs.TableSteps.{SeesPlace, JudgeStep, JudgeMap, Does, ListsFound, Settles, GoesOn, GivesLock}
 use Rattle.coverage.specs.TableCovered.{FindsOnly, AreToMark}
 use Rattle.coverage.proofs.Leaves.{does_leaves}
-use Rattle.coverage.proofs.ScanComes.{ScanComes, ScanBegan, ScanJudged, ScanRead, ScanStayed, scan_comes, OfScans, scans_after, scans_settled}
-use Rattle.coverage.proofs.ScanComes.{MarksCome, MarkedOne, MarksStayed, marks_come, onward_marks, marks_differ}
+use Rattle.coverage.proofs.ScanComes.{ScanComes, ScanBegan, ScanJudged, ScanRead, ScanStayed, scan_comes, OfScans, scans_after, scans_settled, MarksCome}
+use Rattle.coverage.proofs.ScanComes.{MarkedOne, MarksStayed, marks_come, onward_marks, marks_differ}
 
 found_on : (w v : TableState) → ((b k : ℕ) → v.row b k ≡ w.row b k) → (scan : TableScan) → FindsOnly w scan → FindsOnly v scan
 found_on w v rows scan finds b k has = let row = finds b k has in (row.0, rows b k ∙ row.1, row.2, row.3)

@@ -9,15 +9,14 @@ use Rattle.block_model.specs.declared.row.RowId.{RowId}
 use Rattle.block_model.specs.declared.place.Spot.{Spot}
 use Rattle.coverage.specs.IndexView.{IndexTuple}
 use Rattle.coverage.specs.Steps.{Stands}
-use Rattle.coverage.specs.Table.{TableScan, Task, Resting, Reaches, Asks, Inserts, Considers, Maintains, Prunes, SweepsFrom, Sweeps, Restarts}
-use Rattle.coverage.specs.Table.{Scans, Marks, TableState, index_view_at}
-use Rattle.coverage.specs.TableSteps.{first_block, OnlyTurns, ReadsPage, JudgeStep, JudgeMap, JudgeNoEntry, JudgeGone, JudgeKeeps, JudgeDrops}
-use Rattle.coverage.specs.TableSteps.{Onward, Stays, JudgesNext, Scanned, ToMarks, Marked, IsMaintained, RangesDone, NothingToSweep, Settles, TableStep, ListsFound}
+use Rattle.coverage.specs.Table.{TableScan, Task, Resting, Scans, Marks, TableState, index_view_at}
+use Rattle.coverage.specs.TableSteps.{first_block, OnlyTurns, ReadsPage, JudgeStep, JudgeMap, JudgeNoEntry, JudgeGone, JudgeKeeps, JudgeDrops, Onward, Stays}
+use Rattle.coverage.specs.TableSteps.{JudgesNext, Scanned, ToMarks, Marked, IsMaintained, RangesDone, NothingToSweep, Settles, TableStep, ListsFound}
 use Rattle.coverage.specs.GoingOn.{StepsAlone, LastAlone, OneMoreAlone}
 use Rattle.coverage.specs.StepsLeft.{sum_below, ranges_below, unjudged_ranges, held_steps, unread_blocks, scan_steps, HasAtMostToMark}
 use Rattle.coverage.specs.TableCovered.{FindsOnly, AreToMark, IsTableKept}
 use Rattle.coverage.proofs.Sums.{sum_grows}
-use Rattle.coverage.proofs.StepDid.{Did, DidBegin, DidAsk, DidInsert, DidComplete, DidMaintain, DidRange, DidPrune, DidSweep, DidRestart, DidJudge, DidRead, DidMark, step_did, step_settles}
+use Rattle.coverage.proofs.StepDid.{Did, DidJudge, DidRead, DidMark, step_did, step_settles}
 use Rattle.coverage.proofs.TableSeen.{table_step_kept, table_between_kept}
 
 -- a scan or a delete's marks
@@ -53,8 +52,10 @@ module _ (per extent range : ℕ) (ranged : 0 < per) where
   one_of_whole_ranges low = le-div (suc range) extent per ranged (subst (λ n. n * per ≤ extent) (add-one range) low)
 
   none_of_ranges : extent ≤ range * per → (extent + per - 1) / per ≤ range
-  none_of_ranges high = omega (arith, (div-lt_iff_lt-mul {k = per} {x = extent + per - 1} {y = suc range} ranged).1
-      (subst (λ n. extent + per - 1 < n) (sym (suc-mul range per)) (omega arith)))
+  none_of_ranges high =
+      let below = (div-lt_iff_lt-mul {k = per} {x = extent + per - 1} {y = suc range} ranged).1
+          (subst (λ n. extent + per - 1 < n) (sym (suc-mul range per)) (omega arith)) in
+      omega arith
 
 -- a tuple of the range stands at the place that the scan holds
 abbrev HoldsTuple : TableState → TableScan → Type 0
@@ -135,7 +136,6 @@ module _ (rows n : ℕ) (w : TableState) (old : TableScan) (inside : old.at < w.
 -- a block is read
 module _ (rows n : ℕ) (z w : TableState) (scan : TableScan) (next : ℕ) (found : ℕ → ℕ → Bool) (reads : ReadsPage w scan next found)
     (all : scan.at ≡ z.indexes) (below : next < scan.extent) where
-
   read_within : Within rows n z (Scans (record scan { read = next + 1; found = found })) → Within rows (suc n) z (Scans scan)
   read_within left = (
     (λ inside holds. absurd (ne_of_lt inside all)),
@@ -145,7 +145,6 @@ module _ (rows n : ℕ) (z w : TableState) (scan : TableScan) (next : ℕ) (foun
 
 -- where a scan comes by its step: what is left there was left before it went on
 module _ (rows n : ℕ) (u : TableState) (ranged : (i : ℕ) → i < u.indexes → 0 < (u.index i).pages_per_range) where
-
   no_range_left : (m k : ℕ) → m ≤ k → k ≤ m → k ≡ m
   no_range_left m k le ge = omega arith
 
@@ -251,8 +250,9 @@ module _ (s rows : ℕ) where
         (λ inside. absurd (omega (arith, reads.judged, only.rows.layout.indexes, inside))) few)
     step_within _ _ (DidMark scan id rest only) was now few =
         let settled = scan_settles s u v step.settles (Marks scan rest) tt now in
-        omega (arith, marks_within rows n u (λ i below. (kept_u.indexes i below).sound.ranged) scan rest (v.task s) settled.0 ends
-        (subst (λ z. Within rows n z (v.task s)) (same_table u v settled.1) (more (to_mark scan rest (v.task s) settled.0))))
+        let fewer = marks_within rows n u (λ i below. (kept_u.indexes i below).sound.ranged) scan rest (v.task s) settled.0 ends
+            (subst (λ z. Within rows n z (v.task s)) (same_table u v settled.1) (more (to_mark scan rest (v.task s) settled.0))) in
+        omega arith
       where
         to_mark : (scan : TableScan) (ids : List RowId) (t : Task) → Onward u (Marks scan ids) t → ToMark rows (table_of v) t
         to_mark scan ids _ (Stays _ has) = tt

@@ -5,13 +5,13 @@ use Rattle.std.proofs.lemmas.Option.{same_Some, none-some}
 use Rattle.block_model.specs.declared.row.Row.{Row}
 use Rattle.block_model.specs.declared.place.Spot.{Spot}
 use Rattle.coverage.specs.IndexView.{IndexTuple, PageKind, Unstarted, Mapping, Regular, Emptying, Pages, IndexView}
-use Rattle.coverage.specs.Changes.{ChangesAt, OwnLocks, Touched, TouchesNothing, TouchesRows, TouchesEntries, TouchesTuples, TouchesUnnamed, TouchesSummariseLock}
-use Rattle.coverage.specs.Changes.{KeepsHeap, KeepsMap, KeepsTuples, KeepsUnnamed, KeepsSummariseLock, Frame}
+use Rattle.coverage.specs.Changes.{ChangesAt, OwnLocks, Touched, TouchesNothing, TouchesRows, TouchesEntries, TouchesTuples, TouchesUnnamed}
+use Rattle.coverage.specs.Changes.{TouchesSummariseLock, KeepsHeap, KeepsMap, KeepsTuples, KeepsUnnamed, KeepsSummariseLock, Frame}
 use Rattle.coverage.specs.Statements.{OnIndex, Phase, Statement, Idle, Inserting, Maintaining}
 use Rattle.coverage.specs.Knowing.{IsOneOf, LocksThese}
 use Rattle.coverage.specs.IsCovered.{IndexState, index_view}
-use Rattle.coverage.specs.Steps.{ReadsIndex, PutsTuple, ReplacesTuple, SetsEntry, DropsTuple, TurnsKind, CountsPage, InsertStep, SummariseStep, Summarises, Turned}
-use Rattle.coverage.specs.Steps.{SummariseLockPasses, Step, Insert, Maintain}
+use Rattle.coverage.specs.Steps.{ReadsIndex, PutsTuple, ReplacesTuple, SetsEntry, DropsTuple, TurnsKind, CountsPage, InsertStep, SummariseStep, Summarises}
+use Rattle.coverage.specs.Steps.{Turned, SummariseLockPasses, Step, Insert, Maintain}
 use Rattle.coverage.proofs.ExampleTuples.{contents}
 
 -- the first where the numbers are the same

@@ -1,9 +1,9 @@
 -- Small tables for the runs: blocks of one slot, rows that count for nobody, and all sessions at rest but the first one.
-use Rattle.std.proofs.Common.{◌≡◌, ◌⊎◌, inl, inr, ℕ, Option, Some, None, false, zero, suc}
+use Rattle.std.proofs.Common.{◌≡◌, ◌⊎◌, inl, inr, ℕ, Option, false, zero, suc}
 use Rattle.std.specs.Prelude.{refl}
 use Rattle.block_model.specs.declared.row.Row.{Row}
 use Rattle.coverage.specs.Table.{Index, Task, Resting, TableState}
-use Rattle.coverage.specs.TableSteps.{TaskTurns, SameRows, OnlyTurns}
+use Rattle.coverage.specs.TableSteps.{SameRows, OnlyTurns}
 
 -- the first session is at this task, and the others rest
 abbrev pub first_at : Task → ℕ → Task

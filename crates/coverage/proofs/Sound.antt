@@ -8,8 +8,8 @@ use Rattle.coverage.specs.Statements.{AreLawful}
 use Rattle.coverage.specs.IsSound.{IsSound}
 use Rattle.coverage.specs.Changes.{OwnLocks, IsLooseLocked, PutsRow, Places, Names, Turn, Swaps, MovePuts, MoveSets, DropsLoose, Clears, Sweeps, Prunes, Takes}
 use Rattle.coverage.specs.Changes.{Ends, TurnsLocks}
-use Rattle.coverage.proofs.Formed.{puts_row_formed, places_formed, names_formed, turn_formed, swaps_formed, move_puts_formed, move_sets_formed}
-use Rattle.coverage.proofs.Formed.{drops_formed, clears_formed, sweeps_formed, prunes_formed, takes_formed, ends_formed, turns_locks_formed}
+use Rattle.coverage.proofs.Formed.{puts_row_formed, places_formed, names_formed, turn_formed, swaps_formed, move_puts_formed, move_sets_formed, drops_formed}
+use Rattle.coverage.proofs.Formed.{clears_formed, sweeps_formed, prunes_formed, takes_formed, ends_formed, turns_locks_formed}
 
 -- a loose tuple's page stays locked
 lock_kept : (s : ℕ) (w v : IndexView) → IsSound w → OwnLocks s w.lock v.lock → IsLooseLocked s v → ((n : ℕ) → (n ≡ s) ⊎ (v.loose n ≡ w.loose n))

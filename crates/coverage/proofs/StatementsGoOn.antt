@@ -8,17 +8,17 @@ use Rattle.block_model.specs.declared.reply.Point.TheVariants as points
 use Rattle.block_model.specs.declared.row.Row.{Row}
 use Rattle.block_model.specs.declared.row.RowId.{RowId}
 use Rattle.coverage.specs.IndexView.{IndexView}
-use Rattle.coverage.specs.Statements.{OnIndex, Empty, Copied, Phase, NotBuilding, Vacant, Growing, Evacuating, Placing, IsAt, Statement}
+use Rattle.coverage.specs.Statements.{OnIndex, Empty, Copied, Phase, NotBuilding, Statement}
 use Rattle.coverage.specs.Steps.{SummariseStep}
 use Rattle.coverage.specs.Waiting.{IsPhaseWaiting, IsPhaseFull}
 use Rattle.coverage.proofs.StepsExist.{insert_has_step, desummarise_has_step}
 use Rattle.coverage.proofs.SummariseExists.{summarise_has_step}
 use Rattle.coverage.proofs.Numbers.{lt_or_ge}
-use Rattle.coverage.specs.Table.{Job, EachRange, OneRange, WholeRanges, Desummarising, TableScan, Task, Resting, Reaches, Asks, Inserts, Considers}
-use Rattle.coverage.specs.Table.{Maintains, Prunes, SweepsFrom, Sweeps, Restarts, Scans, Marks, TableState, index_view_at}
+use Rattle.coverage.specs.Table.{Job, EachRange, OneRange, WholeRanges, Desummarising, TableScan, Task, Resting, Asks, Inserts, Maintains, Prunes, Sweeps}
+use Rattle.coverage.specs.Table.{Restarts, Scans, Marks, TableState, index_view_at}
 use Rattle.coverage.specs.TableSteps.{first_block, HasRange, IsBlocked, InsertWaits, SummariseWaits, DesummariseWaits, SweepWaits, JudgeStep, JudgeMap}
-use Rattle.coverage.specs.TableSteps.{JudgeNoEntry, JudgeGone, JudgeKeeps, JudgeDrops, IndexFull, NoPage, ListsFound, Does, AsksSummary, Judges, ReadsBlock}
-use Rattle.coverage.specs.TableSteps.{MarksRow, HasStep, ScanHasStep, Onward, Stays, JudgesNext, Scanned, ToMarks, Marked}
+use Rattle.coverage.specs.TableSteps.{JudgeNoEntry, IndexFull, NoPage, ListsFound, Does, AsksSummary, Judges, ReadsBlock, MarksRow, HasStep, ScanHasStep}
+use Rattle.coverage.specs.TableSteps.{Onward, Stays, JudgesNext, Scanned, ToMarks, Marked}
 use Rattle.coverage.specs.TablePoints.{judge_point, IsTableStuck}
 use Rattle.coverage.specs.Refusals.{IsTaskFull, InsertFull, MaintainFull}
 use Rattle.coverage.specs.GoingOn.{CanGoOn, IsScanHonest}

@@ -6,12 +6,11 @@ use Rattle.block_model.specs.declared.row.Row.{Row}
 use Rattle.block_model.specs.declared.row.RowId.{RowId}
 use Rattle.coverage.specs.Statements.{OnIndex, Empty, Phase, Idle, Inserting, Maintaining, Holding}
 use Rattle.coverage.specs.Steps.{IsUnnamed, SweepsTuples, InsertStep}
-use Rattle.coverage.specs.Table.{Job, WholeRanges, TableScan, Task, Resting, Reaches, Asks, Inserts, Considers, Maintains, Prunes, SweepsFrom, Sweeps}
-use Rattle.coverage.specs.Table.{Restarts, Scans, Marks, TableState, index_view_at}
-use Rattle.coverage.specs.TableSteps.{first_block, OnlyTurns, StepsIn, TaskTurns, DropsRows, ReadsPage, JobStep, JudgeStep, Does, PutsRow, RefusesRow}
-use Rattle.coverage.specs.TableSteps.{AsksSummary, InsertGoes, InsertCompletes, RefusesInsert, TakesLock, MaintainGoes, MaintainCompletes}
-use Rattle.coverage.specs.TableSteps.{RefusesMaintain, RefusesVacuum, PrunesBlock, SweepsPage, RestartsIndex, BeginsScan, Judges, ReadsBlock, RefusesScan}
-use Rattle.coverage.specs.TableSteps.{MarksRow, Conflicts, Blocked, Transacts, Onward, IsMaintained, Settles, GoesOn, GivesLock}
+use Rattle.coverage.specs.Table.{Job, WholeRanges, TableScan, Task, Resting, Reaches, Asks, Inserts, Considers, Maintains, Prunes, SweepsFrom, Sweeps, Restarts}
+use Rattle.coverage.specs.Table.{Scans, Marks, TableState, index_view_at}
+use Rattle.coverage.specs.TableSteps.{first_block, OnlyTurns, StepsIn, TaskTurns, DropsRows, ReadsPage, JobStep, JudgeStep, Does, PutsRow, AsksSummary}
+use Rattle.coverage.specs.TableSteps.{InsertGoes, InsertCompletes, TakesLock, MaintainGoes, MaintainCompletes, PrunesBlock, SweepsPage, RestartsIndex}
+use Rattle.coverage.specs.TableSteps.{BeginsScan, Judges, ReadsBlock, MarksRow, Onward, IsMaintained, Settles, GoesOn, GivesLock}
 use Rattle.coverage.specs.TablePoints.{does_point}
 
 pub data Did (s : ℕ) (w u : TableState) : Task → Task → Type 0 where

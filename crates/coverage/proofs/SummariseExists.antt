@@ -1,25 +1,24 @@
 -- A summariser has a step, or waits, or lacks a page: the steps are there to be made.
-use Rattle.std.proofs.Common.{◌≡◌, ◌≢◌, ◌⊎◌, inl, inr, ⊎_elim, ℕ, ◌+◌, ◌*◌, ◌≤◌, ◌<◌, min, Option, Some, None, Bool, true, false, sym, ◌∙◌, ap, subst, arith, rules}
+use Rattle.std.proofs.Common.{◌≡◌, ◌≢◌, ◌⊎◌, inl, inr, ⊎_elim, ℕ, ◌+◌, ◌*◌, ◌≤◌, ◌<◌, min, Option, Some, None, Bool, true, false, sym, ◌∙◌, ap, subst, rules}
 use Rattle.std.specs.Prelude.{refl, List, [], ◌∷◌, length}
 use Rattle.std.proofs.lemmas.Option.{same_Some, none-some}
 use Rattle.std.proofs.lemmas.Bool.{cases_eq}
 use Rattle.std.proofs.Math.Nat.{not-le_of_lt}
 use Rattle.block_model.specs.declared.place.Spot.{Spot}
-use Rattle.coverage.specs.IndexView.{IndexTuple, Progress, ExtentUnread, Passing, PageKind, Unstarted, Mapping, Regular, Emptying, IndexView, placeholder_length, IsRangeOf}
-use Rattle.coverage.specs.IndexView.{map_page_of, next_map_page, IsPastMap, NamesPlaceholder}
+use Rattle.coverage.specs.IndexView.{IndexTuple, Progress, ExtentUnread, Passing, PageKind, Unstarted, Mapping, Regular, Emptying, IndexView}
+use Rattle.coverage.specs.IndexView.{placeholder_length, IsRangeOf, map_page_of, next_map_page, IsPastMap, NamesPlaceholder}
 use Rattle.coverage.specs.Changes.{IsFree}
 use Rattle.coverage.specs.Verdicts.{IsLocked, IsFirstLocked, HasFreeSlots, Verdict, Waits, Differs, Fits, Puts, Full, PutVerdict, PutGoes, SwapVerdict}
 use Rattle.coverage.specs.Verdicts.{SwapFits, SwapMoves}
-use Rattle.coverage.specs.Statements.{OnIndex, Empty, Held, Copied, Moving, Dropping, Phase, NotBuilding, Vacant, Growing, Evacuating, Placing, IsAt, Maintaining}
-use Rattle.coverage.specs.Statements.{Holding, rows_added}
+use Rattle.coverage.specs.Statements.{OnIndex, Empty, Held, Copied, Moving, Dropping, Phase, NotBuilding, Vacant, Growing, Evacuating, Placing, IsAt}
+use Rattle.coverage.specs.Statements.{Maintaining, Holding, rows_added}
 use Rattle.coverage.specs.Knowing.{LocksNone, IsOneOf, LocksThese, Knows}
 use Rattle.coverage.specs.PageOrder.{KnowsPages}
-use Rattle.coverage.specs.Steps.{PutsTuple, Maps, Gone, Again, MovePut, TurnsKind, CountsPage, SweepsTuples, Grow}
-use Rattle.coverage.specs.Steps.{CountLeftOver, Count, Flag, EvacuatePut, EvacuateSet, EvacuateDrop, EvacuateSweep, Turn, LookMap, LookGone, IsFinal, Found}
-use Rattle.coverage.specs.Steps.{ReadNoEntry, GrowMap, Put, Set, Extent, Pass, Unite, UniteCopies, SwapFinal, SetFinal, DropOld}
-use Rattle.coverage.specs.Waiting.{FinalWaits, PlaceWaits, GrowWaits, CountWaits, FlagWaits, EvacuateWaits, EvacuatePutWaits, TurnWaits}
-use Rattle.coverage.specs.Waiting.{FinalFull, PlaceFull, MapFull, EvacuateFull}
-use Rattle.coverage.specs.Waiting.{IsNextTuple, Grows}
+use Rattle.coverage.specs.Steps.{PutsTuple, Maps, Gone, Again, MovePut, TurnsKind, CountsPage, SweepsTuples, Grow, CountLeftOver, Count, Flag, EvacuatePut}
+use Rattle.coverage.specs.Steps.{EvacuateSet, EvacuateDrop, EvacuateSweep, Turn, LookMap, LookGone, IsFinal, Found, ReadNoEntry, GrowMap, Put, Set, Extent}
+use Rattle.coverage.specs.Steps.{Pass, Unite, UniteCopies, SwapFinal, SetFinal, DropOld}
+use Rattle.coverage.specs.Waiting.{FinalWaits, PlaceWaits, GrowWaits, CountWaits, FlagWaits, EvacuateWaits, EvacuatePutWaits, TurnWaits, FinalFull, PlaceFull}
+use Rattle.coverage.specs.Waiting.{MapFull, EvacuateFull, IsNextTuple, Grows}
 use Rattle.coverage.specs.Stuck.{IsSummariseStuck, IsPhaseFree, HasBlocksOfRows}
 use Rattle.coverage.proofs.Numbers.{lt_or_ge}
 use Rattle.coverage.proofs.Verdicts.{locked_or_free, two_pages, some_put, some_swap}

@@ -1,16 +1,15 @@
 -- Each step of a summariser, and of the growth of the map for it, leaves it fewer steps to go on its range.
-use Rattle.std.proofs.Common.{◌≡◌, ◌≢◌, ◌⊎◌, inl, inr, ⊎_elim, ℕ, ◌+◌, ◌-◌, ◌*◌, ◌≤◌, ◌<◌, min, List, [], ◌∷◌, length, Bool, true, false, Some, None, sym, ◌∙◌, ap, subst, arith, suc, suc-mul, add-one}
+use Rattle.std.proofs.Common.{◌≡◌, ◌≢◌, ◌⊎◌, inl, inr, ⊎_elim, ℕ, ◌+◌, ◌-◌, ◌*◌, ◌≤◌, ◌<◌, List, [], ◌∷◌, length, Bool, true, false, Some, None, sym, ◌∙◌, ap, subst, arith, suc, suc-mul, add-one}
 use Rattle.std.specs.Prelude.{refl}
 use Rattle.std.proofs.lemmas.Option.{none-some}
 use Rattle.std.proofs.Math.Nat.{le_of_lt}
 use Rattle.block_model.specs.declared.place.Spot.{Spot}
 use Rattle.coverage.specs.IndexView.{IndexTuple, Progress, ExtentUnread, Passing, PageKind, Unstarted, Mapping, Regular, Emptying, Pages, IndexView, map_page_of, next_map_page, IsPastMap}
-use Rattle.coverage.specs.Changes.{IsUntouched}
 use Rattle.coverage.specs.Waiting.{Grows}
 use Rattle.coverage.specs.Statements.{OnIndex, Empty, Held, Copied, Moving, Dropping, Phase, NotBuilding, Vacant, Growing, Evacuating, Placing, IsAt, Statement, Maintaining}
 use Rattle.coverage.specs.Steps.{ReadsIndex, PutsTuple, ReplacesTuple, DropsTuple, TurnsKind, CountsPage, IsGone, OnIndexStep, Maps, Gone, Again, MovePut}
-use Rattle.coverage.specs.Steps.{SummariseStep, LookMap, LookGone, IsFinal, Found, ReadNoEntry, GrowMap, Put, Set, Extent, Pass, Unite, UniteCopies}
-use Rattle.coverage.specs.Steps.{SwapFinal, SetFinal, DropOld, GrowthStep, Grow, CountLeftOver, Count, Flag, EvacuatePut, EvacuateSet, EvacuateDrop, EvacuateSweep, Turn}
+use Rattle.coverage.specs.Steps.{SummariseStep, LookMap, LookGone, IsFinal, Found, ReadNoEntry, GrowMap, Put, Set, Extent, Pass, Unite, UniteCopies, SwapFinal}
+use Rattle.coverage.specs.Steps.{SetFinal, DropOld, GrowthStep, Grow, CountLeftOver, Count, Flag, EvacuatePut, EvacuateSet, EvacuateDrop, EvacuateSweep, Turn}
 use Rattle.coverage.specs.Rooms.{bytes_of, page_room}
 use Rattle.coverage.specs.Stuck.{AreNamed}
 use Rattle.coverage.proofs.OnIndexSteps.{move_compares}

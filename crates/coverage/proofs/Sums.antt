@@ -14,7 +14,6 @@ sum_grows f m zero le = subst (λ k. sum_below k f ≤ 0) (sym (none m le)) (le_
   where
     none : (m : ℕ) → m ≤ zero → m ≡ 0
     none m le = omega arith
-
 sum_grows f m (suc n) le = ⊎_elim
     (λ (less : m < suc n). omega (arith, sum_grows f m n (omega arith)))
     (λ (all : suc n ≤ m). subst (λ k. sum_below k f ≤ sum_below n f + f n) (le_antisymm all le) (le_refl (sum_below n f + f n)))

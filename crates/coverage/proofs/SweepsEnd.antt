@@ -9,7 +9,7 @@ use Rattle.coverage.specs.TablePoints.{does_point}
 use Rattle.coverage.specs.StepsLeft.{sum_below, IsCleaning, page_limit, cleaning_steps}
 use Rattle.coverage.specs.TableCovered.{IsTableKept}
 use Rattle.coverage.proofs.Sums.{sum_same, sum_grows}
-use Rattle.coverage.proofs.StepDid.{Did, DidBegin, DidAsk, DidInsert, DidComplete, DidMaintain, DidRange, DidPrune, DidSweep, DidRestart, DidJudge, DidRead, DidMark, step_did, step_settles}
+use Rattle.coverage.proofs.StepDid.{Did, DidPrune, DidSweep, step_did, step_settles}
 use Rattle.coverage.proofs.TableSeen.{table_between_kept}
 
 abbrev IsForNoTuples : PageKind → Type 0

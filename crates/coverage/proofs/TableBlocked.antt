@@ -8,13 +8,13 @@ use Rattle.coverage.specs.IndexView.{IndexView}
 use Rattle.coverage.specs.Statements.{OnIndex, Held, Phase, NotBuilding, Statement}
 use Rattle.coverage.specs.Verdicts.{Waits}
 use Rattle.coverage.specs.Steps.{SweepsTuples, InsertStep, DesummariseStep, IsUnnamed}
-use Rattle.coverage.specs.Table.{Job, EachRange, OneRange, WholeRanges, Desummarising, TableScan, Task, Resting, Asks, Inserts, Maintains, Prunes, Sweeps}
-use Rattle.coverage.specs.Table.{Restarts, Scans, Marks, TableState, index_view_at}
-use Rattle.coverage.specs.TableSteps.{range_in, OnlyTurns, JobStep, IsBlocked, SummariseLockHeld, InsertWaits, SummariseWaits, DesummariseWaits, SweepWaits, Does, PutsRow}
-use Rattle.coverage.specs.TableSteps.{AsksSummary, InsertGoes, InsertCompletes, RefusesInsert, TakesLock, MaintainGoes, MaintainCompletes}
+use Rattle.coverage.specs.Table.{Job, Desummarising, TableScan, Task, Resting, Asks, Inserts, Maintains, Prunes, Sweeps, Restarts, Scans, Marks, TableState}
+use Rattle.coverage.specs.Table.{index_view_at}
+use Rattle.coverage.specs.TableSteps.{range_in, OnlyTurns, JobStep, IsBlocked, SummariseLockHeld, InsertWaits, SummariseWaits, DesummariseWaits, SweepWaits}
+use Rattle.coverage.specs.TableSteps.{Does, PutsRow, AsksSummary, InsertGoes, InsertCompletes, RefusesInsert, TakesLock, MaintainGoes, MaintainCompletes}
 use Rattle.coverage.specs.TableSteps.{RefusesMaintain, RefusesVacuum, PrunesBlock, SweepsPage, RestartsIndex, BeginsScan, Judges, ReadsBlock, RefusesScan}
 use Rattle.coverage.specs.TableSteps.{RefusesRow, MarksRow, Conflicts, Blocked, Transacts}
-use Rattle.coverage.specs.Waiting.{IsPhaseWaiting, FinalWaits, PlaceWaits, GrowWaits, CountWaits, FlagWaits, EvacuateWaits, EvacuatePutWaits, TurnWaits}
+use Rattle.coverage.specs.Waiting.{IsPhaseWaiting, FinalWaits}
 use Rattle.coverage.proofs.Verdicts.{free_not_locked, swap_once, clear_once, swap_waits, clear_waits}
 use Rattle.coverage.proofs.WaitsOnce.{waits_same, phase_wait_once, phase_wait_locked}
 use Rattle.coverage.specs.TablePoints.{does_point, PageLock, waits_for, IsHeldBy}

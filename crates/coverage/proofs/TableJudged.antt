@@ -9,11 +9,10 @@ use Rattle.coverage.specs.Statements.{Idle, Inserting, Maintaining, Holding}
 use Rattle.coverage.proofs.Runs.{insert_keeps}
 use Rattle.coverage.proofs.Numbers.{last_or_below, below_next}
 use Rattle.coverage.specs.Table.{Index, TableScan, Resting, Scans, TableState, pick, judged_with, index_view_at}
-use Rattle.coverage.specs.TableSteps.{SameIndexes, OnlyTurns, StepsIn, range_in, first_block, JudgeStep, JudgeMap, JudgeNoEntry, JudgeGone}
-use Rattle.coverage.specs.TableSteps.{JudgeKeeps, JudgeDrops, Fails, ScanBegins, Does, PutsRow, AsksSummary, InsertGoes, InsertCompletes, RefusesInsert}
-use Rattle.coverage.specs.TableSteps.{TakesLock, MaintainGoes, MaintainCompletes, RefusesMaintain, RefusesVacuum, PrunesBlock, SweepsPage, RestartsIndex}
-use Rattle.coverage.specs.TableSteps.{RefusesRow, MarksRow, Conflicts, BeginsScan, Judges, ReadsBlock, RefusesScan, Blocked, Transacts, Onward}
-use Rattle.coverage.specs.TableSteps.{JudgesNext, Scanned, Settles}
+use Rattle.coverage.specs.TableSteps.{SameIndexes, StepsIn, range_in, first_block, JudgeStep, JudgeMap, JudgeGone, JudgeDrops, ScanBegins, Does, PutsRow}
+use Rattle.coverage.specs.TableSteps.{AsksSummary, InsertGoes, InsertCompletes, RefusesInsert, TakesLock, MaintainGoes, MaintainCompletes, RefusesMaintain}
+use Rattle.coverage.specs.TableSteps.{RefusesVacuum, PrunesBlock, SweepsPage, RestartsIndex, RefusesRow, MarksRow, Conflicts, BeginsScan, Judges, ReadsBlock}
+use Rattle.coverage.specs.TableSteps.{RefusesScan, Blocked, Transacts, Onward, JudgesNext, Scanned, Settles}
 use Rattle.coverage.specs.TableCovered.{IsBehind, JudgesExactly, IsGiven, IsUnjudged}
 use Rattle.coverage.proofs.Views.{pick_same, pick_other, pick_both}
 use Rattle.coverage.proofs.Leaves.{does_leaves}

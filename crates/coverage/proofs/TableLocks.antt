@@ -1,16 +1,15 @@
 -- The summarise lock is held for maintenance, and for nothing else.
-use Rattle.std.proofs.Common.{◌≡◌, ◌⊎◌, inr, inl, ⊎_elim, ℕ, Some, None, true, false, sym, ◌∙◌, ap, subst, suc}
+use Rattle.std.proofs.Common.{◌≡◌, ◌⊎◌, inr, inl, ⊎_elim, ℕ, Some, None, sym, ◌∙◌, ap, subst, suc}
 use Rattle.std.proofs.lemmas.Option.{same_Some, none-some}
 use Rattle.block_model.specs.declared.row.Row.{Row}
 use Rattle.coverage.specs.Statements.{Idle, Inserting, Maintaining, Holding}
 use Rattle.coverage.proofs.Runs.{insert_keeps}
-use Rattle.coverage.specs.Table.{Task, Resting, Reaches, Asks, Inserts, Considers, Maintains, Prunes, SweepsFrom, Sweeps, Restarts, Scans, Marks}
-use Rattle.coverage.specs.Table.{TableState, index_view_at}
-use Rattle.coverage.specs.TableSteps.{OnlyTurns, BeginsWith, Summarize, SummarizeOne, Work, Desummarize, Vacuum, IsInsertRefused}
-use Rattle.coverage.specs.TableSteps.{IndexFull, IsVacuuming, Fails, Does, PutsRow, RefusesRow, AsksSummary, InsertGoes, InsertCompletes, RefusesInsert, TakesLock}
-use Rattle.coverage.specs.TableSteps.{MaintainGoes, MaintainCompletes, RefusesMaintain, RefusesVacuum, PrunesBlock, SweepsPage, RestartsIndex, BeginsScan}
-use Rattle.coverage.specs.TableSteps.{Judges, ReadsBlock, RefusesScan, MarksRow, Conflicts, Blocked, Transacts, Onward, Stays, ToAsk, ToIndex, Inserted, ToRange, NextIndex}
-use Rattle.coverage.specs.TableSteps.{Pruned, ToPage, Swept, JudgesNext, Scanned, ToMarks, Marked, IsMaintained, RangesDone, NothingToSweep, Settles, GoesOn, GivesLock}
+use Rattle.coverage.specs.Table.{Task, Resting, Considers, Maintains, Prunes, SweepsFrom, Sweeps, Restarts, Scans, TableState, index_view_at}
+use Rattle.coverage.specs.TableSteps.{BeginsWith, Summarize, IsInsertRefused, IndexFull, IsVacuuming, Does, PutsRow, RefusesRow, AsksSummary, InsertGoes}
+use Rattle.coverage.specs.TableSteps.{InsertCompletes, RefusesInsert, TakesLock, MaintainGoes, MaintainCompletes, RefusesMaintain, RefusesVacuum, PrunesBlock}
+use Rattle.coverage.specs.TableSteps.{SweepsPage, RestartsIndex, BeginsScan, Judges, ReadsBlock, RefusesScan, MarksRow, Conflicts, Blocked, Transacts, Onward}
+use Rattle.coverage.specs.TableSteps.{ToRange, NextIndex, Pruned, ToPage, Swept, JudgesNext, IsMaintained, RangesDone, NothingToSweep, Settles, GoesOn}
+use Rattle.coverage.specs.TableSteps.{GivesLock}
 use Rattle.coverage.specs.TableCovered.{IsMaintenance, IsHeldForMaintenance}
 use Rattle.coverage.proofs.TableSettled.{job_lock_kept}
 

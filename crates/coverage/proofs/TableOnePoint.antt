@@ -1,5 +1,5 @@
 -- Of the steps that a running statement of a table could take at a moment there is one point alone.
-use Rattle.std.proofs.Common.{◌≡◌, ℕ, ◌+◌, ◌<◌, Option, Some, None, Bool, List, ◌∷◌, sym, ◌∙◌, ap, subst, arith, suc}
+use Rattle.std.proofs.Common.{◌≡◌, ℕ, ◌+◌, ◌<◌, Option, Some, None, Bool, List, ◌∷◌, sym, ◌∙◌, ap, subst, suc}
 use Rattle.std.specs.Prelude.{refl}
 use Rattle.std.proofs.lemmas.Option.{same_Some, none-some}
 use Rattle.std.proofs.Math.Nat.{ne_of_lt}
@@ -15,11 +15,11 @@ use Rattle.coverage.specs.Points.{insert_point}
 use Rattle.coverage.proofs.NextSteps.{insert_one_point, summarise_one_point, desummarise_one_point}
 use Rattle.coverage.proofs.OneOutcome.{insert_one_outcome, summarise_one_outcome, desummarise_one_outcome}
 use Rattle.coverage.proofs.TableScans.{judge_once, reads_once}
-use Rattle.coverage.specs.Table.{Job, EachRange, OneRange, WholeRanges, Desummarising, TableScan, Task, Resting, Reaches, Asks, Inserts, Considers, Maintains, Prunes}
-use Rattle.coverage.specs.Table.{SweepsFrom, Sweeps, Restarts, Scans, Marks, TableState, index_view_at}
-use Rattle.coverage.specs.TableSteps.{TaskTurns, ReadsPage, JobStep, JudgeStep, JudgeMap, JudgeNoEntry, JudgeGone, JudgeKeeps, JudgeDrops, Does, PutsRow, RefusesRow, AsksSummary, InsertGoes}
-use Rattle.coverage.specs.TableSteps.{InsertCompletes, RefusesInsert, TakesLock, MaintainGoes, MaintainCompletes, RefusesMaintain, RefusesVacuum}
-use Rattle.coverage.specs.TableSteps.{PrunesBlock, SweepsPage, RestartsIndex, BeginsScan, Judges, ReadsBlock, RefusesScan, MarksRow, Conflicts, Blocked, Transacts}
+use Rattle.coverage.specs.Table.{Job, WholeRanges, Desummarising, TableScan, Task, Resting, Reaches, Asks, Inserts, Considers, Maintains, Prunes, SweepsFrom}
+use Rattle.coverage.specs.Table.{Sweeps, Restarts, Scans, Marks, TableState, index_view_at}
+use Rattle.coverage.specs.TableSteps.{TaskTurns, ReadsPage, JobStep, JudgeStep, JudgeMap, JudgeNoEntry, JudgeGone, JudgeKeeps, JudgeDrops, Does, PutsRow}
+use Rattle.coverage.specs.TableSteps.{RefusesRow, AsksSummary, InsertGoes, InsertCompletes, TakesLock, MaintainGoes, MaintainCompletes, PrunesBlock, SweepsPage}
+use Rattle.coverage.specs.TableSteps.{RestartsIndex, BeginsScan, Judges, ReadsBlock, MarksRow}
 use Rattle.coverage.specs.TablePoints.{job_point, judge_point, does_point}
 
 -- what an insert and a maintenance statement are at after a step in an index

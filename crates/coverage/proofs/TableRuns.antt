@@ -14,14 +14,11 @@ use Rattle.coverage.specs.Steps.{IsUnnamed, SweepsTuples, Excludes, InsertStep, 
 use Rattle.coverage.specs.Steps.{ScanDrops, ScanElsewhere, ScanPage, SummariseLockPasses, Step, PutRow, Insert, Refused, TakeSummariseLock, Maintain, Prune}
 use Rattle.coverage.specs.Steps.{Sweep, GiveSummariseLock, Abandon, BeginScan, Scans as StepScans, EndScan, Elsewhere, Counts}
 use Rattle.coverage.specs.Waiting.{IsPhaseFull, IsInsertEnded, EndsBefore, EndsFull}
-use Rattle.coverage.specs.Table.{Index, Job, EachRange, OneRange, WholeRanges, Desummarising, TableScan, Task, Resting, Reaches, Asks, Inserts, Considers}
-use Rattle.coverage.specs.Table.{Maintains, Prunes, SweepsFrom, Sweeps, Restarts, Scans, Marks, TableState, pick, judged_with, on_index_by, inserting_of, held_at, scan_at}
-use Rattle.coverage.specs.Table.{seen_by, index_state, index_view_at}
-use Rattle.coverage.specs.TableSteps.{TaskTurns, SameRows, SameIndexes, OnlyTurns, StepsIn, IsFirstPlace, TableTakesRow, IsInsertRefused}
-use Rattle.coverage.specs.TableSteps.{IndexFull, BeginsWith, Summarize, SummarizeOne, Work, Desummarize, Vacuum, JobStep}
-use Rattle.coverage.specs.TableSteps.{HasPut, SeesPlace, IsVacuuming, DropsRows, ScanBegins}
-use Rattle.coverage.specs.TableSteps.{JudgeStep, JudgeMap, JudgeNoEntry, JudgeGone, JudgeKeeps, JudgeDrops, ReadsPage, Fails, IsMaintained, RangesDone}
-use Rattle.coverage.specs.TableSteps.{NothingToSweep}
+use Rattle.coverage.specs.Table.{Index, Job, Desummarising, TableScan, Task, Resting, Reaches, Inserts, Maintains, Prunes, SweepsFrom, Sweeps, Restarts, Scans}
+use Rattle.coverage.specs.Table.{TableState, pick, judged_with, on_index_by, inserting_of, held_at, scan_at, seen_by, index_state, index_view_at}
+use Rattle.coverage.specs.TableSteps.{TaskTurns, SameRows, SameIndexes, OnlyTurns, StepsIn, IsFirstPlace, TableTakesRow, IsInsertRefused, IndexFull, BeginsWith}
+use Rattle.coverage.specs.TableSteps.{Summarize, JobStep, HasPut, SeesPlace, IsVacuuming, DropsRows, ScanBegins, JudgeStep, JudgeMap, JudgeNoEntry, JudgeGone}
+use Rattle.coverage.specs.TableSteps.{JudgeKeeps, JudgeDrops, ReadsPage, Fails, IsMaintained, RangesDone, NothingToSweep}
 use Rattle.coverage.specs.TableCovered.{AreIndexesKept}
 use Rattle.coverage.proofs.Opening.{scan_excludes}
 use Rattle.coverage.proofs.Runs.{step_kept}

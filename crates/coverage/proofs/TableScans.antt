@@ -1,5 +1,5 @@
 -- What a scan of a table still has before it.
-use Rattle.std.proofs.Common.{◌≡◌, ◌≢◌, ◌⊎◌, inl, inr, ⊎_elim, ℕ, ◌≤◌, ◌<◌, Option, Some, None, Bool, true, false, List, sym, ◌∙◌, ap, subst, arith, suc}
+use Rattle.std.proofs.Common.{◌≡◌, ◌≢◌, ◌⊎◌, inl, inr, ⊎_elim, ℕ, ◌≤◌, ◌<◌, Option, Some, None, Bool, true, false, List, sym, ◌∙◌, ap, subst, suc}
 use Rattle.std.specs.Prelude.{refl, IsTrue}
 use Rattle.std.proofs.lemmas.Option.{same_Some, none-some}
 use Rattle.std.proofs.lemmas.Bool.{false≢true}
@@ -11,8 +11,8 @@ use Rattle.coverage.specs.RowOrder.{IsAmong}
 use Rattle.coverage.specs.Table.{TableScan, Resting, Scans, Marks, TableState, judged_with}
 use Rattle.coverage.specs.IndexView.{IndexTuple, IndexView, range_of_block}
 use Rattle.coverage.specs.Steps.{IsGone}
-use Rattle.coverage.specs.TableSteps.{JudgeStep, JudgeMap, JudgeNoEntry, JudgeGone, JudgeKeeps, JudgeDrops, ReadsPage, Onward, JudgesNext}
-use Rattle.coverage.specs.TableSteps.{Scanned, IsScanRead, ListsFound}
+use Rattle.coverage.specs.TableSteps.{JudgeStep, JudgeMap, JudgeNoEntry, JudgeGone, JudgeKeeps, JudgeDrops, ReadsPage, Onward, JudgesNext, Scanned, IsScanRead}
+use Rattle.coverage.specs.TableSteps.{ListsFound}
 use Rattle.coverage.specs.TableCovered.{IsTableKept, IsGiven, IsUnjudged}
 use Rattle.coverage.proofs.Views.{scan_of}
 use Rattle.coverage.proofs.ScanComes.{marks_of, onward_marks}

@@ -5,8 +5,7 @@ use Rattle.std.proofs.lemmas.Bool.{cases_eq}
 use Rattle.std.proofs.Math.Nat.{le_refl, lt_of_lt_of_le}
 use Rattle.block_model.specs.declared.row.Row.{Row}
 use Rattle.coverage.specs.Table.{TableScan, Scans, TableState, index_view_at}
-use Rattle.coverage.specs.TableSteps.{SeesPlace, JudgeStep, JudgeMap, JudgeNoEntry, JudgeGone, JudgeKeeps, JudgeDrops, ReadsPage, Does, Settles}
-use Rattle.coverage.specs.TableSteps.{TableStep, TableRun, TableDone, TableNext}
+use Rattle.coverage.specs.TableSteps.{SeesPlace, JudgeStep, JudgeDrops, ReadsPage, Does, Settles, TableStep, TableRun, TableDone, TableNext}
 use Rattle.coverage.specs.TableCovered.{SeesRows, IsTableKept}
 use Rattle.coverage.proofs.Leaves.{Leaves, does_leaves, settles_leaves}
 use Rattle.coverage.proofs.ScanComes.{ScanComes, ScanBegan, ScanJudged, ScanRead, ScanStayed, scan_comes, OfScans, scans_after, scans_settled}

@@ -1,5 +1,5 @@
 -- A run in which an insert moves a tuple: its page is being emptied for the map, which a stop cut off; so the tuple with the row leaves it.
-use Rattle.std.proofs.Common.{◌≡◌, ◌⊎◌, inl, inr, ⊎_elim, ◌∙◌, ℕ, ◌≤◌, Option, Some, None, [], ◌∷◌, sym, ap, arith, zero, suc}
+use Rattle.std.proofs.Common.{◌≡◌, ◌⊎◌, inl, inr, ⊎_elim, ◌∙◌, ℕ, Some, None, [], ◌∷◌, sym, ap, arith, zero, suc}
 use Rattle.std.specs.Prelude.{refl, length}
 use Rattle.std.proofs.lemmas.Bool.{false≢true}
 use Rattle.std.proofs.lemmas.Option.{none-some, same_Some}
@@ -9,12 +9,11 @@ use Rattle.coverage.specs.IndexView.{IndexTuple}
 use Rattle.coverage.specs.Statements.{OnIndex, Empty, Held, Copied, Moving, Dropping, Statement, Idle, Inserting}
 use Rattle.coverage.specs.Verdicts.{OnNew, PutGoes, SwapMoves}
 use Rattle.coverage.specs.IsCovered.{IndexState, IsIndexKept}
-use Rattle.coverage.specs.Steps.{Step, PutRow, InsertOnIndex, InsertCopies, InsertSet, InsertDrop, Maps, MovePut, Run, Done, Next}
+use Rattle.coverage.specs.Steps.{Step, PutRow, InsertOnIndex, InsertCopies, InsertSet, InsertDrop, Maps, MovePut, Run, Done, Next, Stops}
 use Rattle.coverage.proofs.Runs.{step_kept}
 use Rattle.coverage.proofs.ExampleTuples.{final_tuple, wide_tuple}
-use Rattle.coverage.proofs.SmallIndex.{no_rows, one_row, place, no_tuples, placed_others, differ, Small, index_of, at_statement, put_at, set_at, drop_at, turned, inserts}
-use Rattle.coverage.proofs.SmallIndex.{free, locks_these, nobody, reads, puts, sets, drops}
-use Rattle.coverage.specs.Steps.{Stops}
+use Rattle.coverage.proofs.SmallIndex.{no_rows, one_row, place, no_tuples, placed_others, differ, Small, index_of, at_statement, put_at, set_at, drop_at}
+use Rattle.coverage.proofs.SmallIndex.{turned, inserts, free, locks_these, nobody, reads, puts, sets, drops}
 use Rattle.coverage.proofs.Opening.{stopped_kept}
 use Rattle.coverage.proofs.RangeSummarised.{idle}
 use Rattle.coverage.proofs.MapGrown.{moved_place, page_flagged, flagged_kept, none_regular, lowest}

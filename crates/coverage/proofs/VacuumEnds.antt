@@ -123,8 +123,8 @@ module _ (w0 : TableState) (s : ℕ) (tuples : ℕ → ℕ) (has : (i : ℕ) →
           let between = only_stays at w0 w u did.1 stays in
           ⊎_elim
           (λ (on : Onward u (Considers (WholeRanges w.blocks) at 0) (v.task s) × OnlyTurns u v).
-          omega (arith, one.1, after_first k one.0 w u v kept stays between (only_stays at w0 u v on.1 between) (table_step_kept s w v kept step) more
-          one.2 one.3 on.0))
+          let rest = after_first k one.0 w u v kept stays between (only_stays at w0 u v on.1 between) (table_step_kept s w v kept step) more one.2 one.3 on.0 in
+          omega (arith, one.1))
           (λ (done : IsMaintained u (Considers (WholeRanges w.blocks) at 0) × (v.task s ≡ Resting)). absurd (going done.1))
           (step_settles s u v step.settles (Considers (WholeRanges w.blocks) at 0) did.0)
 

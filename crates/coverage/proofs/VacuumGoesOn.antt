@@ -13,11 +13,9 @@ use Rattle.coverage.specs.Statements.{building_of, loose_of}
 use Rattle.coverage.specs.Steps.{IsUnnamed, SweepsTuples}
 use Rattle.coverage.proofs.Numbers.{lt_or_ge, last_or_below}
 use Rattle.coverage.proofs.StepsExist.{chosen, chosen_yes, chosen_no, place_is, locks_after, after_only, after_others, after_taken, free_none}
-use Rattle.coverage.specs.Table.{Index, Task, Resting, Considers, Prunes, SweepsFrom, Sweeps, Restarts, WholeRanges, TableState, pick, seen_by}
-use Rattle.coverage.specs.Table.{index_view_at}
-use Rattle.coverage.specs.TableSteps.{TaskTurns, SameRows, OnlyTurns, first_block, Does, PrunesBlock, SweepsPage, RestartsIndex, HasTuples, IsFrom}
-use Rattle.coverage.specs.TableSteps.{Onward, Stays, ToRange, NextIndex, Pruned, ToPage, Swept, IsMaintained, RangesDone, NothingToSweep}
-use Rattle.coverage.specs.TableSteps.{GoesOn, GivesLock}
+use Rattle.coverage.specs.Table.{Index, Task, Resting, Considers, Prunes, SweepsFrom, Sweeps, Restarts, WholeRanges, TableState, pick, seen_by, index_view_at}
+use Rattle.coverage.specs.TableSteps.{TaskTurns, SameRows, OnlyTurns, first_block, Does, PrunesBlock, SweepsPage, RestartsIndex, HasTuples, IsFrom, Onward}
+use Rattle.coverage.specs.TableSteps.{Stays, ToRange, NextIndex, Pruned, ToPage, Swept, IsMaintained, RangesDone, NothingToSweep, GoesOn, GivesLock}
 use Rattle.coverage.specs.TablePoints.{does_point, IsTableStuck}
 use Rattle.coverage.proofs.Views.{pick_same, pick_there}
 

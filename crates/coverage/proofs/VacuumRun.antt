@@ -1,5 +1,5 @@
 -- A run of a vacuum over two indexes, each with a tuple that was unnamed at the opening.
-use Rattle.std.proofs.Common.{◌≡◌, ◌⊎◌, inl, inr, ⊎_elim, ℕ, ◌<◌, ◌≤◌, Bool, Option, Some, None, true, false, [], ◌∷◌, sym, ◌∙◌, ap, subst, arith, zero, suc}
+use Rattle.std.proofs.Common.{◌≡◌, ◌⊎◌, inl, inr, ⊎_elim, ℕ, ◌<◌, ◌≤◌, Bool, Option, Some, None, true, false, [], ◌∷◌, sym, ◌∙◌, ap, arith, zero, suc}
 use Rattle.std.specs.Prelude.{refl, ◌≢◌}
 use Rattle.std.proofs.lemmas.Option.{none-some}
 use Rattle.std.proofs.lemmas.Bool.{false≢true}
@@ -8,7 +8,7 @@ use Rattle.block_model.specs.declared.row.Row.{Row}
 use Rattle.block_model.specs.declared.place.Spot.{Spot}
 use Rattle.coverage.specs.IndexView.{IndexTuple, Regular, Emptying, IndexView}
 use Rattle.coverage.specs.Steps.{SweepsTuples, IsUnnamed}
-use Rattle.coverage.specs.Statements.{Scan, Statement, Idle, Scanning}
+use Rattle.coverage.specs.Statements.{Scan, Idle, Scanning}
 use Rattle.coverage.specs.PageOrder.{AreOrdered}
 use Rattle.coverage.specs.IsCovered.{IsCovered, IsAtRest}
 use Rattle.coverage.proofs.SmallIndex.{at_number, at_both, at_spot, no_rows, one_row, grown_kind, differ, pages, place, one_tuple, no_locks}
@@ -16,9 +16,8 @@ use Rattle.coverage.proofs.SmallTable.{first_at, others_rest, table, same_rows, 
 use Rattle.coverage.proofs.ExampleTuples.{contents, lawful, final_tuple}
 use Rattle.coverage.proofs.RangeSummarised.{summarised_kept}
 use Rattle.coverage.specs.Table.{Index, WholeRanges, Task, Resting, Considers, Prunes, SweepsFrom, Sweeps, Restarts, TableState, index_state, index_view_at}
-use Rattle.coverage.specs.TableSteps.{TaskTurns, SameRows, OnlyTurns, HasPut, SeesPlace, Vacuum, TakesLock, PrunesBlock, SweepsPage, RestartsIndex}
-use Rattle.coverage.specs.TableSteps.{HasTuples, IsFrom, Stays, NextIndex, Pruned, ToPage, Swept, RangesDone, GoesOn, GivesLock, TableStep, TableRun}
-use Rattle.coverage.specs.TableSteps.{TableDone, TableNext}
+use Rattle.coverage.specs.TableSteps.{TaskTurns, HasPut, SeesPlace, Vacuum, TakesLock, PrunesBlock, SweepsPage, RestartsIndex, HasTuples, IsFrom, Stays}
+use Rattle.coverage.specs.TableSteps.{NextIndex, Pruned, ToPage, Swept, RangesDone, GoesOn, GivesLock, TableStep, TableRun, TableDone, TableNext}
 use Rattle.coverage.specs.TableCovered.{IsTableKept}
 use Rattle.coverage.proofs.TableOpening.{table_opened}
 

@@ -8,9 +8,9 @@ use Rattle.coverage.specs.Changes.{SameHeap, SameMap, SameTuples, SameUnnamed, O
 use Rattle.coverage.specs.Statements.{OnIndex, Empty, Phase, Statement, Idle, Inserting, Maintaining, Holding, Scanning}
 use Rattle.coverage.specs.Knowing.{LocksNone, Spares}
 use Rattle.coverage.specs.Steps.{ReadsIndex, SummariseLockPasses, Rests, Turned}
-use Rattle.coverage.specs.Table.{Index, TableScan, Task, Resting, Reaches, Asks, Inserts, Considers, Maintains, Prunes, SweepsFrom, Sweeps, Restarts, Scans}
-use Rattle.coverage.specs.Table.{Marks, TableState, pick, on_index_by, inserting_of, held_at, scan_at, seen_by, index_state, index_view_at}
-use Rattle.coverage.specs.TableSteps.{TaskTurns, SameRows, BeginsWith, Summarize, SummarizeOne, Work, Desummarize, Vacuum, HasPut, SeesPlace}
+use Rattle.coverage.specs.Table.{Index, TableScan, Task, Resting, Reaches, Asks, Inserts, Maintains, Scans, Marks, TableState, pick, on_index_by, inserting_of}
+use Rattle.coverage.specs.Table.{held_at, scan_at, seen_by, index_state, index_view_at}
+use Rattle.coverage.specs.TableSteps.{TaskTurns, SameRows, BeginsWith, Summarize, HasPut, SeesPlace}
 
 pub pick_same : (i : ℕ) → {A : Type 0} → (a b : A) → pick i i a b ≡ a
 pick_same zero a b = refl
