@@ -101,7 +101,7 @@ module _ (layout : DiskLayout) (new : Told) (start : Stand) (after : Place) (fur
   made_through old begins made =
       let At = λ (image : List ℕ). IsOldOrNone old image ⊎ IsOfStop start.place after image in
       let own = λ (image : List ℕ) (has : IsImageWith layout initial_state.table image).
-          image_as layout start.place.layout initial_state.table (database_at start.place).table image (sym begins.layout_is) (sym (table_at start.place initial_state begins.opening begins.journal)) has in
+      image_as layout start.place.layout initial_state.table (database_at start.place).table image (sym begins.layout_is) (sym (table_at start.place initial_state begins.opening begins.journal)) has in
       joined old made.made new At
       (weaker old made.made (IsOldOrEmpty layout old) At made.any_moment (λ image at. elim at [
         | inl was ↦ inl was

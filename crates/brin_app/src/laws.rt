@@ -71,5 +71,4 @@ pub(crate) fn each_image_opens_to_one_map()
 /// before, or no store, but while a store is made. Does nothing.
 pub fn the_lines_of_a_run_hold_throughout()
     ensures { RunsHoldThroughout }
-{
-}
+{}

@@ -3,23 +3,18 @@ use Rattle.std.proofs.Common.{◌≡◌, ◌⊎◌, inl, inr, ℕ, ◌+◌, ◌�
 use Rattle.std.specs.Prelude.{refl}
 use Rattle.std.proofs.lemmas.Option.{none-some}
 use Rattle.block_model.specs.declared.row.Row.{Row}
-use Rattle.coverage.specs.IndexView.{PageKind, Unstarted, Mapping}
 use Rattle.coverage.specs.Statements.{Empty, NotBuilding}
-use Rattle.coverage.specs.PageOrder.{AreNewPages}
 use Rattle.coverage.specs.Steps.{ReadsIndex, InsertNoEntry}
-use Rattle.coverage.proofs.SmallIndex.{at_number}
+use Rattle.coverage.proofs.SmallIndex.{at_number, no_rows, one_row, new_kind, pages}
+use Rattle.coverage.proofs.SmallTable.{first_at, others_rest, table, same_rows, only_turns}
+use Rattle.coverage.proofs.RangeSummarised.{new_pages}
 use Rattle.coverage.proofs.ExampleTuples.{contents, lawful}
 use Rattle.coverage.specs.Table.{Index, OneRange, Task, Resting, Reaches, Asks, Inserts, Considers, Maintains, TableState, index_view_at}
-use Rattle.coverage.specs.TableSteps.{TaskTurns, SameRows, OnlyTurns, StepsIn, TableTakesRow, Work, PutsRow}
-use Rattle.coverage.specs.TableSteps.{AsksSummary, InsertCompletes, TakesLock, Stays, ToAsk, ToIndex, Inserted, ToRange, GoesOn, TableStep}
+use Rattle.coverage.specs.TableSteps.{TaskTurns, OnlyTurns, StepsIn, TableTakesRow, Work, PutsRow, AsksSummary, InsertCompletes, TakesLock, Stays, ToAsk}
+use Rattle.coverage.specs.TableSteps.{ToIndex, Inserted, ToRange, GoesOn, TableStep}
 use Rattle.coverage.specs.TableCovered.{IsTableKept}
 use Rattle.coverage.specs.Accounts.{Asked, no_account, Accounts, Joins, AccountsRun, AccountsDone, AccountsNext}
 use Rattle.coverage.proofs.TableOpening.{new_table_kept}
-
-abbrev first_kind : ℕ → PageKind
-first_kind zero = Mapping
-first_kind (suc zero) = Mapping
-first_kind (suc (suc n)) = Unstarted
 
 abbrev index : Index
 index = record {
@@ -28,46 +23,22 @@ index = record {
   autosummarize = true;
   entry = λ m. None;
   tuple = λ x. None;
-  pages = record { kind = first_kind; map_pages = 1; limit = 16 };
+  pages = pages new_kind;
   lock = λ p. None;
   unnamed = λ x. false;
 }
 
 abbrev state : ℕ → (ℕ → ℕ → Option Row) → Option ℕ → (ℕ → Task) → TableState
-state blocks row lock task = record {
-  indexes = 1;
-  index = λ i. index;
-  rows_per_page = 1;
-  heap_limit = 8;
-  blocks = blocks;
-  row = row;
-  summarise_lock = lock;
-  task = task;
-  counts = λ t. false;
-}
-
-abbrev no_row : ℕ → ℕ → Option Row
-no_row b k = None
-
-abbrev one_row : Row → ℕ → ℕ → Option Row
-one_row r b k = at_number b 0 (at_number k 0 (Some r) None) None
+state blocks row held task = table 1 8 blocks (λ i. index) row held task
 
 abbrev two_rows : Row → Row → ℕ → ℕ → Option Row
 two_rows r q b k = at_number b 0 (at_number k 0 (Some r) None) (at_number b 1 (at_number k 0 (Some q) None) None)
 
--- the first session is at this task, and the others rest; or the second one is
-abbrev first_at : Task → ℕ → Task
-first_at task zero = task
-first_at task (suc n) = Resting
-
+-- the second session is at this task, and the others rest
 abbrev second_at : Task → ℕ → Task
 second_at task zero = Resting
 second_at task (suc zero) = task
 second_at task (suc (suc n)) = Resting
-
-others_rest : (old new : Task) (n : ℕ) → (n ≡ 0) ⊎ (first_at new n ≡ first_at old n)
-others_rest old new zero = inl refl
-others_rest old new (suc n) = inr refl
 
 second_turns : (old new : Task) (n : ℕ) → (n ≡ 1) ⊎ (second_at new n ≡ second_at old n)
 second_turns old new zero = inr refl
@@ -78,16 +49,6 @@ second_begins : (new : Task) (n : ℕ) → (n ≡ 1) ⊎ (second_at new n ≡ fi
 second_begins new zero = inr refl
 second_begins new (suc zero) = inl refl
 second_begins new (suc (suc n)) = inr refl
-
--- whatever the tasks, and whoever holds the summarise lock, the heap is the same
-rows_same : (blocks : ℕ) (row : ℕ → ℕ → Option Row) (lock other : Option ℕ) (task next : ℕ → Task)
-    → SameRows (state blocks row lock task) (state blocks row other next)
-rows_same blocks row lock other task next = record {
-  layout = record { indexes = refl; rows_per_page = refl; heap_limit = refl };
-  blocks = refl;
-  row = λ b k. refl;
-  counts = λ t. refl;
-}
 
 -- a row comes into a heap
 takes_row : (blocks grown b : ℕ) (row with_row : ℕ → ℕ → Option Row) (r : Row) (new : Task) → with_row b 0 ≡ Some r
@@ -113,14 +74,11 @@ module _ (blocks : ℕ) (row : ℕ → ℕ → Option Row) (old new : Task) wher
   turns : TaskTurns 0 was now old new
   turns = record { was = refl; now = refl; others = others_rest old new }
 
-  same_rows : SameRows was now
-  same_rows = rows_same blocks row None None (first_at old) (first_at new)
-
   only : OnlyTurns was now
-  only = record { rows = same_rows; indexes = record { index = λ i. refl }; summarise_lock = refl }
+  only = only_turns _ _
 
   steps_in : StepsIn 0 was now
-  steps_in = record { below = omega arith; rows = same_rows; others = λ i. inr refl; autosummarize = refl }
+  steps_in = record { below = omega arith; rows = only.rows; others = λ i. inr refl; autosummarize = refl }
 
   reads : ReadsIndex 0 (index_view_at 0 was) (index_view_at 0 now)
   reads = record {
@@ -155,10 +113,8 @@ module _ (r q : Row) where
   one_more (suc c) j = inr refl
 
   two_more : (c j : ℕ) → ((c ≡ 1) × (j ≡ 0)) ⊎ (two_rows r q c j ≡ one_row r c j)
-  two_more zero j = inr refl
   two_more (suc zero) zero = inl (refl, refl)
-  two_more (suc zero) (suc j) = inr refl
-  two_more (suc (suc c)) j = inr refl
+  two_more _ _ = inr refl
 
   first_place : (c j : ℕ) → (0 < c) ⊎ ((0 ≡ c) × (0 ≤ j))
   first_place zero j = inr (refl, omega arith)
@@ -171,7 +127,7 @@ module _ (r q : Row) where
   second_place (suc (suc c)) j low is = inl (omega arith)
 
   abbrev pub begun : TableState
-  begun = state 0 no_row None (first_at Resting)
+  begun = state 0 no_rows None (first_at Resting)
 
   abbrev pub asked_for : TableState
   asked_for = state 2 (two_rows r q) None (first_at Resting)
@@ -185,13 +141,10 @@ module _ (r q : Row) where
     does = PutsRow 0 0 r
         (record { vacant = (omega arith, refl); below = omega arith; first = λ c j vacant. first_place c j })
         (record { was = refl; now = refl; others = others_rest Resting (Reaches 0 0 r 0) })
-        (takes_row 0 1 0 no_row (one_row r) r (Reaches 0 0 r 0) refl one_more refl);
-    settles = GoesOn (Reaches 0 0 r 0) (Inserts 0 0 r 0 Empty) (ToIndex 0 0 r 0 (omega arith) (λ asks. nothing asks.3))
+        (takes_row 0 1 0 no_rows (one_row r) r (Reaches 0 0 r 0) refl one_more refl);
+    settles = GoesOn (Reaches 0 0 r 0) (Inserts 0 0 r 0 Empty) (ToIndex 0 0 r 0 (omega arith) (λ asks. omega (arith, asks.3)))
         (turns 1 (one_row r) (Reaches 0 0 r 0) (Inserts 0 0 r 0 Empty)) (only 1 (one_row r) (Reaches 0 0 r 0) (Inserts 0 0 r 0 Empty));
   }
-    where
-      nothing : 0 < 0 → ⊥
-      nothing less = omega arith
 
   second_row : TableStep 0 (state 1 (one_row r) None (first_at Resting)) (state 2 (two_rows r q) None (first_at (Asks 1 0 q 0)))
   second_row = record {
@@ -220,14 +173,10 @@ module _ (r q : Row) where
     between = chosen;
     does = TakesLock (Considers (OneRange 2 0) 0 0) (Work 0 0 (omega arith))
         (record { was = refl; now = refl; others = second_begins (Considers (OneRange 2 0) 0 0) })
-        refl refl (rows_same 2 (two_rows r q) None (Some 1) (first_at Resting) (second_at (Considers (OneRange 2 0) 0 0))) (record { index = λ i. refl });
+        refl refl (same_rows _ _ _ _) (record { index = λ i. refl });
     settles = GoesOn (Considers (OneRange 2 0) 0 0) (Maintains (OneRange 2 0) 0 0 (NotBuilding Empty)) (ToRange (OneRange 2 0) 0 0 (refl, omega arith))
         (record { was = refl; now = refl; others = second_turns (Considers (OneRange 2 0) 0 0) (Maintains (OneRange 2 0) 0 0 (NotBuilding Empty)) })
-        (record {
-          rows = rows_same 2 (two_rows r q) (Some 1) (Some 1) (second_at (Considers (OneRange 2 0) 0 0)) (second_at (Maintains (OneRange 2 0) 0 0 (NotBuilding Empty)));
-          indexes = record { index = λ i. refl };
-          summarise_lock = refl;
-        });
+        (only_turns _ _);
   }
 
 abbrev pub asked : Asked
@@ -238,19 +187,6 @@ empty_queue = record { table = 0; queue = []; of = λ n. no_account }
 
 abbrev pub one_asked : Accounts
 one_asked = record { table = 0; queue = asked ∷ []; of = λ n. no_account }
-
-new_pages : AreNewPages index.pages
-new_pages = record { one = refl; map = first_two; rest = later; below = omega arith }
-  where
-    first_two : (p : ℕ) → p < 2 → first_kind p ≡ Mapping
-    first_two zero low = refl
-    first_two (suc zero) low = refl
-    first_two (suc (suc n)) low = absurd (omega arith)
-
-    later : (p : ℕ) → 2 ≤ p → first_kind p ≡ Unstarted
-    later zero high = absurd (omega arith)
-    later (suc zero) high = absurd (omega arith)
-    later (suc (suc n)) high = refl
 
 pub begun_kept : (r q : Row) → IsTableKept (begun r q)
 begun_kept r q = new_table_kept (begun r q) (record {

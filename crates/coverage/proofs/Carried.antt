@@ -11,9 +11,6 @@ use Rattle.coverage.specs.IsSound.{IsSound}
 use Rattle.coverage.specs.GoesOn.{GoesOn}
 use Rattle.coverage.specs.Changes.{UnitesResult, Carries, MayEnd, Swaps, MovePuts, MoveSets}
 
-past : (b next extent : ℕ) → next ≤ b → b < extent → extent ≤ next → ⊥
-past b next extent from below all = omega arith
-
 module _ (w : IndexView) (s range : ℕ) (x : Spot) (old new : IndexTuple) (entry : w.entry range ≡ Some x) (here : w.tuple x ≡ Some old)
     (carries : Carries w s range old new) (b : ℕ) (r : Row) (of : range ≡ range_of_block w b) where
   pub carried : IsAccounted w b r → IsTrue (new.includes r) ⊎ ((new.placeholder ≡ true) × AllAwait w b r)
@@ -24,16 +21,13 @@ module _ (w : IndexView) (s range : ℕ) (x : Spot) (old new : IndexTuple) (entr
       (λ (ends : (new.placeholder ≡ false) ×
       UnitesResult w s range new). ⊎_elim
       (λ (has : IsTrue (ends.1.2.includes r)). inl (ends.1.5 r has))
-      (λ (left : (ends.1.1 ≤ b) × (b < ends.1.0)). absurd (past b ends.1.1 ends.1.0 left.0 left.1 ends.1.4))
+      (λ (left : (ends.1.1 ≤ b) × (b < ends.1.0)). absurd (omega (arith, left.0, left.1, ends.1.4)))
       (waits.1 s (Passing ends.1.0 ends.1.1 ends.1.2) (subst (λ m. IsBuilding w s m (Passing ends.1.0 ends.1.1 ends.1.2)) of ends.1.3)))
       carries.1)
       (settled x old (subst (λ m. w.entry m ≡ Some x) of entry) here)
 
   pub carried_final : new.placeholder ≡ false → IsAccounted w b r → IsTrue (new.includes r)
-  carried_final final settled = ⊎_elim
-      (λ (has : IsTrue (new.includes r)). has)
-      (λ (waits : (new.placeholder ≡ true) × AllAwait w b r). absurd (false≢true (sym final ∙ waits.0)))
-      (carried settled)
+  carried_final final settled = elim (carried settled) [ inl has ↦ has | inr waits ↦ absurd (false≢true (sym final ∙ waits.0)) ]
 
 -- builders that may end await as before
 pub ends_await : (s : ℕ) (w v : IndexView) → MayEnd s w v → v.pages_per_range ≡ w.pages_per_range → (b : ℕ) (r : Row) → AllAwait w b r → AllAwait v b r
@@ -45,10 +39,7 @@ ends_await s w v ends per b r all n p is = ⊎_elim
 module _ (s : ℕ) (d : ℕ → ℕ → Bool) (w v : IndexView) (range : ℕ) (x : Spot) (old new : IndexTuple) (sound : IsSound w)
     (kind : Swaps s w v range x old new) where
   swap_at : (y : Spot) (t : IndexTuple) → v.tuple y ≡ Some t → ((y ≡ x) × (t ≡ new)) ⊎ (w.tuple y ≡ Some t)
-  swap_at y t here = ⊎_elim
-      (λ (e : y ≡ x). inl (e, same_Some _ _ (sym here ∙ ap v.tuple e ∙ kind.tuple.now)))
-      (λ (e : v.tuple y ≡ w.tuple y). inr (sym e ∙ here))
-      (kind.tuple.others y)
+  swap_at y t here = elim (kind.tuple.others y) [ inl e ↦ inl (e, same_Some _ _ (sym here ∙ ap v.tuple e ∙ kind.tuple.now)) | inr e ↦ inr (sym e ∙ here) ]
 
   entry_back : (b : ℕ) (y : Spot) → v.entry (range_of_block v b) ≡ Some y → w.entry (range_of_block w b) ≡ Some y
   entry_back b y named = ap (λ m. w.entry (b / m)) (sym kind.frame.heap.pages_per_range) ∙ sym (kind.frame.map.entry (range_of_block v b)) ∙ named

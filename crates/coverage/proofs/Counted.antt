@@ -1,14 +1,12 @@
 -- A count is one number, and so is what a step counts.
 use Rattle.std.proofs.Common.{◌≡◌, ⊎_elim, ℕ, ◌≤◌, ◌<◌, sym, ◌∙◌, ap, subst, arith, suc}
 use Rattle.std.specs.Prelude.{refl}
+use Rattle.std.proofs.Math.Nat.{le_of_lt}
 use Rattle.block_model.specs.declared.reply.Point.{Point}
 use Rattle.block_model.specs.declared.reply.Point.TheVariants as points
-use Rattle.coverage.specs.IndexView.{IndexView}
+use Rattle.coverage.specs.IndexView.{IndexView, Progress, Passing}
 use Rattle.coverage.specs.Statements.{OnIndex, Phase, IsAt, Statement}
-use Rattle.coverage.specs.Steps.{OnIndexStep, Maps, Gone, Again, MovePut, GrowthStep, Grow, CountLeftOver, Count, Flag, EvacuatePut, EvacuateSet, EvacuateDrop}
-use Rattle.coverage.specs.IndexView.{Progress, Passing}
-use Rattle.coverage.specs.Steps.{EvacuateSweep, Turn, SummariseStep, LookMap, LookGone, IsFinal, Found, ReadNoEntry, GrowMap, Put, Set, Extent, Pass, Unite}
-use Rattle.coverage.specs.Steps.{UniteCopies, SwapFinal, SetFinal, DropOld, DesummariseStep, ClearMap, ClearNone, Clear, ClearAgain, DropCleared}
+use Rattle.coverage.specs.Steps.{OnIndexStep, Maps, GrowthStep, Grow, SummariseStep, GrowMap, Unite, DesummariseStep, ClearMap}
 use Rattle.coverage.specs.Points.{on_index_point, growth_point, summarise_point, desummarise_point}
 use Rattle.coverage.specs.Counts.{IsCountBelow, NoneBelow, OneMoreBelow, NotThisOne, IsCountOf, summarise_count, desummarise_count}
 use Rattle.coverage.proofs.NextSteps.{summarise_one_point, desummarise_one_point}
@@ -27,32 +25,23 @@ module _ (Is : ℕ → Type 0) where
     same_below : (m d : ℕ) → n ≡ m → IsCountBelow Is m d → c ≡ d
     same_below m d is two = below_once m c d (subst (λ j. IsCountBelow Is j c) is one) two
 
-    reached : (a b : ℕ) → a ≤ suc b → b < a → a ≡ suc b
-    reached a b le low = omega arith
-
-    first : (a : ℕ) → a ≤ 0 → a ≡ 0
-    first a le = omega arith
-
     count_stays : (m d : ℕ) → IsCountBelow Is m d → n ≤ m → c ≡ d
-    count_stays _ _ NoneBelow le = same_below 0 0 (first n le) NoneBelow
+    count_stays _ _ NoneBelow le = same_below 0 0 (omega arith) NoneBelow
     count_stays _ _ (OneMoreBelow j d is two) le = ⊎_elim
-        (λ (before : j < n). same_below (suc j) (suc d) (reached n j le before) (OneMoreBelow j d is two))
+        (λ (before : j < n). same_below (suc j) (suc d) (omega arith) (OneMoreBelow j d is two))
         (λ (after : n ≤ j). absurd (none j after is))
         (lt_or_ge j n)
     count_stays _ _ (NotThisOne j d not two) le = ⊎_elim
-        (λ (before : j < n). same_below (suc j) d (reached n j le before) (NotThisOne j d not two))
+        (λ (before : j < n). same_below (suc j) d (omega arith) (NotThisOne j d not two))
         (λ (after : n ≤ j). count_stays j d two after)
         (lt_or_ge j n)
 
   pub count_once : (c d : ℕ) → IsCountOf Is c → IsCountOf Is d → c ≡ d
   count_once c d one two = ⊎_elim
       (λ (less : one.below < two.below).
-      count_stays one.below c one.counted one.rest two.below d two.counted (weaker one.below two.below less))
+      count_stays one.below c one.counted one.rest two.below d two.counted (le_of_lt less))
       (λ (more : two.below ≤ one.below). sym (count_stays two.below d two.counted two.rest one.below c one.counted more))
       (lt_or_ge one.below two.below)
-    where
-      weaker : (a b : ℕ) → a < b → a ≤ b
-      weaker a b less = omega arith
 
 -- what a summariser's step counts, by its phase and its point
 abbrev count_at : Phase → Point → ℕ
@@ -63,39 +52,18 @@ count_at phase point = 0
 on_index_counts_none : (s range : ℕ) (w v : IndexView) (p : Progress) (old new : OnIndex) (step : OnIndexStep s range w v old new)
     → 0 ≡ count_at (IsAt p old) (on_index_point step)
 on_index_counts_none s range w v p _ _ (Maps x named reads) = refl
-on_index_counts_none s range w v p _ _ (Gone x gone reads) = refl
-on_index_counts_none s range w v p _ _ (Again x old new verdict reads) = refl
-on_index_counts_none s range w v p _ _ (MovePut x y old new verdict puts these) = refl
+on_index_counts_none s range w v p _ _ _ = refl
 
 growth_counts_none : (s range : ℕ) (w v : IndexView) (old new : Phase) (step : GrowthStep s range w v old new) → 0 ≡ count_at old (growth_point step)
 growth_counts_none s range w v _ _ (Grow grows free meta turns) = refl
-growth_counts_none s range w v _ _ (CountLeftOver grows meta counts) = refl
-growth_counts_none s range w v _ _ (Count counts) = refl
-growth_counts_none s range w v _ _ (Flag grows free turns) = refl
-growth_counts_none s range w v _ _ (EvacuatePut x y t grows next named free verdict puts these) = refl
-growth_counts_none s range w v _ _ (EvacuateSet m x y t u sets same) = refl
-growth_counts_none s range w v _ _ (EvacuateDrop m x drops) = refl
-growth_counts_none s range w v _ _ (EvacuateSweep x t grows next unnamed sweeps) = refl
-growth_counts_none s range w v _ _ (Turn grows empty free meta turns) = refl
+growth_counts_none s range w v _ _ _ = refl
 
 summarise_counts : (s range : ℕ) (w v : IndexView) (phase : Phase) (e : Statement) (step : SummariseStep s range w v phase e)
     → summarise_count step ≡ count_at phase (summarise_point step)
-summarise_counts s range w v _ _ (LookMap x named reads) = refl
-summarise_counts s range w v _ _ (LookGone x gone reads) = refl
-summarise_counts s range w v _ _ (IsFinal x t stands final reads) = refl
-summarise_counts s range w v _ _ (Found x t stands flag reads) = refl
-summarise_counts s range w v _ _ (ReadNoEntry none of reads) = refl
 summarise_counts s range w v _ _ (GrowMap old new step) = growth_counts_none s range w v old new step
-summarise_counts s range w v _ _ (Put x t is long verdict puts these) = refl
-summarise_counts s range w v _ _ (Set x sets none) = refl
-summarise_counts s range w v _ _ (Extent extent result start is reads) = refl
-summarise_counts s range w v _ _ (Pass extent next slots result wider below none made reads) = refl
 summarise_counts s range w v _ _ (Unite extent next result old new all step) =
     on_index_counts_none s range w v (Passing extent next result) old new step
-summarise_counts s range w v _ _ (UniteCopies extent next result x old new all stands united reads) = refl
-summarise_counts s range w v _ _ (SwapFinal p x old new verdict swap) = refl
-summarise_counts s range w v _ _ (SetFinal p x y old new sets same) = refl
-summarise_counts s range w v _ _ (DropOld x drops) = refl
+summarise_counts s range w v _ _ _ = refl
 
 pub summarise_one_count : (s range : ℕ) (w v u : IndexView) (phase : Phase) (e f : Statement)
     → (one : SummariseStep s range w v phase e) → (two : SummariseStep s range w u phase f) → summarise_count one ≡ summarise_count two
@@ -111,10 +79,7 @@ clear_count point = 0
 desummarise_counts : (s range : ℕ) (w v : IndexView) (phase : Phase) (e : Statement) (step : DesummariseStep s range w v phase e)
     → desummarise_count step ≡ clear_count (desummarise_point step)
 desummarise_counts s range w v _ _ (ClearMap x named reads) = refl
-desummarise_counts s range w v _ _ (ClearNone none reads) = refl
-desummarise_counts s range w v _ _ (Clear x verdict clears these) = refl
-desummarise_counts s range w v _ _ (ClearAgain x verdict reads) = refl
-desummarise_counts s range w v _ _ (DropCleared x drops) = refl
+desummarise_counts s range w v _ _ _ = refl
 
 pub desummarise_one_count : (s range : ℕ) (w v u : IndexView) (phase : Phase) (e f : Statement)
     → (one : DesummariseStep s range w v phase e) → (two : DesummariseStep s range w u phase f) → desummarise_count one ≡ desummarise_count two

@@ -1,19 +1,17 @@
 -- What a step counts is what it does: a range gets its final tuple, an entry leaves the map, an unnamed tuple goes.
-use Rattle.std.proofs.Common.{◌≡◌, ◌≢◌, ⊎_elim, ℕ, None, false, sym, ◌∙◌, ap, subst, arith}
+use Rattle.std.proofs.Common.{◌≡◌, ◌≢◌, inl, inr, ⊎_elim, ℕ, None, false, sym, ◌∙◌, ap, subst, arith}
 use Rattle.std.specs.Prelude.{refl, ◌↔◌}
 use Rattle.std.proofs.lemmas.Option.{same_Some, none-some}
 use Rattle.std.proofs.lemmas.Bool.{false≢true}
 use Rattle.block_model.specs.declared.place.Spot.{Spot}
 use Rattle.coverage.specs.IndexView.{IndexTuple, Progress, ExtentUnread, Passing, IndexView, NamesPlaceholder}
-use Rattle.coverage.specs.Changes.{IsUntouched}
-use Rattle.coverage.specs.Statements.{OnIndex, Copied, Moving, Phase, NotBuilding, Vacant, Growing, Evacuating, Placing, IsAt, Statement}
-use Rattle.coverage.specs.Statements.{Maintaining}
+use Rattle.coverage.specs.Statements.{OnIndex, Copied, Moving, Phase, NotBuilding, Vacant, Placing, IsAt, Statement, Maintaining}
 use Rattle.coverage.specs.Knowing.{MakesUnited, KnowsPhase, Knows}
 use Rattle.coverage.specs.PageOrder.{KnowsPagesOfPhase, KnowsPages}
 use Rattle.coverage.specs.IsCovered.{IndexState, index_view, IsIndexKept}
-use Rattle.coverage.specs.Steps.{ReadsIndex, DropsTuple, IsUnnamed, SweepsTuples, SummariseStep, LookMap, LookGone, IsFinal, Found, ReadNoEntry, GrowMap, Put, Set}
-use Rattle.coverage.specs.Steps.{Extent, Pass, Unite, UniteCopies, SwapFinal, SetFinal, DropOld, DesummariseStep, ClearMap, ClearNone, Clear, ClearAgain, DropCleared}
-use Rattle.coverage.specs.Steps.{GrowthStep, Grow, CountLeftOver, Count, Flag, EvacuatePut, EvacuateSet, EvacuateDrop, EvacuateSweep, Turn}
+use Rattle.coverage.specs.Steps.{ReadsIndex, DropsTuple, IsUnnamed, SweepsTuples, SummariseStep, LookMap, LookGone, IsFinal, Found, ReadNoEntry, GrowMap, Put}
+use Rattle.coverage.specs.Steps.{Set, Extent, Pass, Unite, UniteCopies, SwapFinal, SetFinal, DropOld, DesummariseStep, ClearMap, ClearNone, Clear, ClearAgain}
+use Rattle.coverage.specs.Steps.{DropCleared, GrowthStep, Grow}
 use Rattle.coverage.specs.Counts.{HasGone, NamesFinal, summarise_count, desummarise_count}
 use Rattle.coverage.proofs.Stable.{held_named}
 
@@ -40,10 +38,8 @@ phase_not_final : (w : IndexView) (s range : ℕ) (phase : Phase) → KnowsPhase
     → ((on_index : OnIndex) → phase ≢ NotBuilding on_index) → NamesFinal w range → ⊥
 phase_not_final w s range (NotBuilding on_index) known pages working final = working on_index refl
 phase_not_final w s range Vacant known pages working final = none_not_final w range known.1 final
-phase_not_final w s range Growing known pages working final = none_not_final w range known.0 final
-phase_not_final w s range (Evacuating m on_index) known pages working final = none_not_final w range known.0 final
-phase_not_final w s range (Placing x) known pages working final = none_not_final w range known.0 final
 phase_not_final w s range (IsAt p on_index) known pages working final = placeholder_not_final w range pages.1 final
+phase_not_final w s range _ known pages working final = none_not_final w range known.0 final
 
 abbrev is_building : Phase → ℕ
 is_building (NotBuilding on_index) = 0
@@ -93,14 +89,7 @@ module _ (s range : ℕ) (w v : IndexState) (before : IsIndexKept w) (after : Is
   -- a growth of the map leaves the range at work
   grown : (old new : Phase) → GrowthStep s range (index_view w) (index_view v) old new → is_building new ≡ 1
   grown _ _ (Grow grows free meta turns) = refl
-  grown _ _ (CountLeftOver grows meta counts) = refl
-  grown _ _ (Count counts) = refl
-  grown _ _ (Flag grows free turns) = refl
-  grown _ _ (EvacuatePut x y t grows next named free verdict puts these) = refl
-  grown _ _ (EvacuateSet m x y t u sets same) = refl
-  grown _ _ (EvacuateDrop m x drops) = refl
-  grown _ _ (EvacuateSweep x t grows next unnamed sweeps) = refl
-  grown _ _ (Turn grows empty free meta turns) = refl
+  grown _ _ _ = refl
 
   pub summarise_exact : (old : Phase) (new : Statement) (step : SummariseStep s range (index_view w) (index_view v) old new)
       → w.statement s ≡ Maintaining range old → v.statement s ≡ new → (summarise_count step ≡ 1) ↔ GetsFinal
@@ -146,9 +135,6 @@ module _ (s range : ℕ) (w v : IndexState) where
 pub swept_exact : (s page : ℕ) (w v : IndexView) → SweepsTuples s w v page (λ x. (x.block ≡ page) × IsUnnamed w x) → (x : Spot) → x.block ≡ page
     → HasGone (w.tuple x) (v.tuple x) ↔ IsUnnamed w x
 swept_exact s page w v sweeps x on = (
-  (λ gone. ⊎_elim
-      (λ (same : IsUntouched w v x). absurd (gone.0 (sym same.0 ∙ gone.1)))
-      (λ (swept : (x.block ≡ page) × ((x.block ≡ page) × IsUnnamed w x)). swept.1.1)
-      (sweeps.places x)),
+  (λ gone. elim (sweeps.places x) [ inl same ↦ absurd (gone.0 (sym same.0 ∙ gone.1)) | inr swept ↦ swept.1.1 ]),
   λ unnamed. ((λ none. none-some _ (sym none ∙ unnamed.1)), (sweeps.gone x (on, unnamed)).0),
 )

@@ -4,10 +4,9 @@ use Rattle.std.specs.Prelude.{IsTrue}
 use Rattle.std.proofs.lemmas.Option.{same_Some}
 use Rattle.block_model.specs.declared.place.Spot.{Spot}
 use Rattle.coverage.specs.IndexView.{IndexTuple, IndexView, range_of_block, IsTupleOf}
-use Rattle.coverage.specs.IsSettled.{IsAccounted}
 use Rattle.coverage.specs.GoesOn.{IsHeld}
-use Rattle.coverage.specs.Statements.{OnIndex, Empty, Held, Copied, Moving, Dropping, Phase, NotBuilding, Vacant, Growing, Evacuating, Placing, IsAt, Statement}
-use Rattle.coverage.specs.Statements.{Idle, Inserting, Maintaining, Holding, Scanning, IsAdded, loose_of}
+use Rattle.coverage.specs.Statements.{OnIndex, Held, Copied, Phase, NotBuilding, Evacuating, IsAt, Statement, Idle, Inserting, Maintaining, Holding, Scanning}
+use Rattle.coverage.specs.Statements.{IsAdded, loose_of}
 use Rattle.coverage.specs.Knowing.{KnowsOnIndex, MakesUnited, MakesNone, MakesSame, KnowsPhase, Knows}
 use Rattle.coverage.specs.IsCovered.{IndexState, index_view, OnIndexHolds, PhaseHolds, StatementHolds, IsCovered, IsIndexKept}
 use Rattle.coverage.proofs.Settled.{accounted_settled}
@@ -15,19 +14,15 @@ use Rattle.coverage.proofs.Formed.{named_formed, held_formed}
 
 on_index_held : (w : IndexView) (s m : ℕ) (Makes : IndexTuple → IndexTuple → Type 0) (on_index : OnIndex) → KnowsOnIndex w s m Makes on_index
     → (range : ℕ) (x : Spot) → OnIndexHolds m on_index range x → IsHeld w range x
-on_index_held w s m Makes Empty known range x holds = absurd holds
 on_index_held w s m Makes (Held y) known range x holds = subst (λ n. IsHeld w n x) holds.0 (subst (λ z. IsHeld w m z) holds.1 known.1)
 on_index_held w s m Makes (Copied y old new) known range x holds = subst (λ n. IsHeld w n x) holds.0 (subst (λ z. IsHeld w m z) holds.1 known.1)
-on_index_held w s m Makes (Moving y z old new) known range x holds = absurd holds
-on_index_held w s m Makes (Dropping y) known range x holds = absurd holds
+on_index_held w s m Makes _ known range x holds = absurd holds
 
 phase_held : (w : IndexView) (s m : ℕ) (phase : Phase) → KnowsPhase w s m phase → (range : ℕ) (x : Spot) → PhaseHolds m phase range x → IsHeld w range x
 phase_held w s m (NotBuilding on_index) known range x holds = on_index_held w s m MakesNone on_index known range x holds
-phase_held w s m Vacant known range x holds = absurd holds
-phase_held w s m Growing known range x holds = absurd holds
 phase_held w s m (Evacuating n on_index) known range x holds = on_index_held w s n MakesSame on_index known.1 range x holds
-phase_held w s m (Placing y) known range x holds = absurd holds
 phase_held w s m (IsAt p on_index) known range x holds = on_index_held w s m (MakesUnited p) on_index known.0 range x holds
+phase_held w s m _ known range x holds = absurd holds
 
 statement_held : (w : IndexView) (s : ℕ) (d : Statement) → Knows w s d → (range : ℕ) (x : Spot) → StatementHolds w d range x → IsHeld w range x
 statement_held w s Idle known range x holds = absurd holds
@@ -38,10 +33,7 @@ statement_held w s (Scanning scan) known range x holds = known.1 range x holds
 
 pub kept_covered : (w : IndexState) → IsIndexKept w → IsCovered w
 kept_covered w kept = record {
-  rows_settled = λ b k r there counts. ⊎_elim
-      (λ (a : IsAccounted (index_view w) b r). inl (accounted_settled (index_view w) kept.sound b r a))
-      (λ (i : (s : ℕ) × (on_index : OnIndex) × (w.statement s ≡ Inserting b k r on_index)). inr i)
-      (kept.rows b k r there counts);
+  rows_settled = λ b k r there counts. elim (kept.rows b k r there counts) [ inl a ↦ inl (accounted_settled (index_view w) kept.sound b r a) | inr i ↦ inr i ];
   entries_name_tuples = λ range x named.
       let t = kept.sound.entries_name_tuples range x named in
       (t.0, t.1, t.2, named_formed (index_view w) range x t.0 kept.sound named t.1);

@@ -6,13 +6,12 @@ use Rattle.coverage.specs.IndexView.{IndexView}
 use Rattle.coverage.specs.Statements.{Held, Phase, NotBuilding, Statement, Maintaining, Holding}
 use Rattle.coverage.specs.Steps.{DesummariseStep, ClearMap, ClearNone, Clear, ClearAgain, DropCleared}
 use Rattle.coverage.proofs.Verdicts.{clear_differs}
-use Rattle.coverage.specs.Table.{Job, EachRange, OneRange, WholeRanges, Desummarising, Index, Task, Resting, Considers, Maintains}
-use Rattle.coverage.specs.Table.{TableState, index_view_at}
+use Rattle.coverage.specs.Table.{Job, Desummarising, Index, Task, Resting, Considers, Maintains, TableState, index_view_at}
 use Rattle.coverage.specs.TableSteps.{OnlyTurns, JobStep, Onward, Stays, ToRange, IsMaintained, TableStep}
 use Rattle.coverage.specs.GoingOn.{StepsAlone, LastAlone, OneMoreAlone}
 use Rattle.coverage.specs.StepsLeft.{desummarise_steps}
 use Rattle.coverage.specs.TableCovered.{IsInTable, IsTableKept}
-use Rattle.coverage.proofs.StepDid.{Did, DidBegin, DidAsk, DidInsert, DidComplete, DidMaintain, DidRange, DidPrune, DidSweep, DidRestart, DidJudge, DidRead, DidMark, step_did, step_settles}
+use Rattle.coverage.proofs.StepDid.{Did, DidMaintain, DidRange, step_did, step_settles}
 use Rattle.coverage.proofs.TableSeen.{table_step_kept}
 
 -- so many steps are within what is left, by the entry of the range
@@ -28,18 +27,12 @@ module _ (s range n : ℕ) (w v : IndexView) where
   one_more : (m : ℕ) → n ≤ m → suc n ≤ suc m
   one_more m le = omega arith
 
-  last_one : (m : ℕ) → n ≡ 0 → suc n ≤ suc m
-  last_one m is = omega arith
-
   clear_within : (old : Phase) (e : Statement) → DesummariseStep s range w v old e → AfterClear n (v.entry range) e → ClearWithin (suc n) (w.entry range) old
   clear_within _ _ (ClearMap x named reads) left = one_more 2 (left.0 (reads.frame.map.entry range ∙ named))
-  clear_within _ _ (ClearNone none reads) left = last_one 2 left
-  clear_within _ _ (Clear x verdict clears these) left = ((λ _. one_more 1 left), wider (one_more 1 left))
-    where
-      wider : suc n ≤ 2 → suc n ≤ 4
-      wider le = omega arith
+  clear_within _ _ (ClearNone none reads) left = omega arith
+  clear_within _ _ (Clear x verdict clears these) left = ((λ _. one_more 1 left), omega (arith, one_more 1 left))
   clear_within _ _ (ClearAgain x verdict reads) left = ((λ is. absurd (clear_differs w s range x verdict is)), one_more 3 left)
-  clear_within _ _ (DropCleared x drops) left = last_one 0 left
+  clear_within _ _ (DropCleared x drops) left = omega arith
 
 clear_bound : (n : ℕ) (entry : Option Spot) (phase : Phase) → ClearWithin n entry phase → n ≤ desummarise_steps phase
 clear_bound n entry (NotBuilding (Held x)) left = left.1
@@ -69,9 +62,6 @@ module _ (s : ℕ) where
 
     goes : (job : Job) (at range : ℕ) (old new : Phase) → JobStep job s range (index_view_at at w) (index_view_at at u) old (Maintaining range new)
         → u.task s ≡ Maintains job at range new → JobWithin (suc n) w job at range old
-    goes (EachRange extent) at range old new does now = tt
-    goes (OneRange extent only) at range old new does now = tt
-    goes (WholeRanges extent) at range old new does now = tt
     goes (Desummarising only) at range old new does now =
         clear_within s range n (index_view_at at w) (index_view_at at u) old (Maintaining range new) does (⊎_elim
         (λ (on : Onward u (Maintains (Desummarising only) at range new) (v.task s) × OnlyTurns u v).
@@ -79,52 +69,34 @@ module _ (s : ℕ) where
         (λ (done : IsMaintained u (Maintains (Desummarising only) at range new) × (v.task s ≡ Resting)).
         absurd (unmaintained (Desummarising only) at range new done.0))
         (step_settles s u v step.settles (Maintains (Desummarising only) at range new) now))
+    goes _ at range old new does now = tt
 
     no_other : (only at range : ℕ) (t : Task) → Onward u (Considers (Desummarising only) at (suc range)) t → range ≡ only → ⊥
     no_other only at range _ (Stays _ has) is = has
-    no_other only at range _ (ToRange _ _ _ has) is = differs range only has is
-      where
-        differs : (a b : ℕ) → suc a ≡ b → a ≡ b → ⊥
-        differs a b is same = omega arith
+    no_other only at range _ (ToRange _ _ _ has) is = omega arith
 
     ranges : (job : Job) (at range : ℕ) (old : Phase) → JobStep job s range (index_view_at at w) (index_view_at at u) old Holding
         → u.task s ≡ Considers job at (suc range) → IsInTable w (Maintains job at range old) → JobWithin (suc n) w job at range old
-    ranges (EachRange extent) at range old does now inside = tt
-    ranges (OneRange extent only) at range old does now inside = tt
-    ranges (WholeRanges extent) at range old does now inside = tt
     ranges (Desummarising only) at range old does now inside =
         clear_within s range n (index_view_at at w) (index_view_at at u) old Holding does (⊎_elim
         (λ (on : Onward u (Considers (Desummarising only) at (suc range)) (v.task s) × OnlyTurns u v).
         absurd (no_other only at range (v.task s) on.0 inside.2))
         (λ (done : IsMaintained u (Considers (Desummarising only) at (suc range)) × (v.task s ≡ Resting)). ends done.1)
         (step_settles s u v step.settles (Considers (Desummarising only) at (suc range)) now))
+    ranges _ at range old does now inside = tt
 
     step_within : (task new : Task) → Did s w u task new → w.task s ≡ task → u.task s ≡ new → Within (suc n) w task
     step_within _ _ (DidMaintain job at range old new stepped does) was now = goes job at range old new does now
     step_within _ _ (DidRange job at range old stepped does) was now = ranges job at range old does now (subst (IsInTable w) was (kept.inside s))
-    step_within _ _ (DidBegin new) was now = tt
-    step_within _ _ (DidAsk b k r at) was now = tt
-    step_within _ _ (DidInsert b k r at old new does) was now = tt
-    step_within _ _ (DidComplete b k r at old does) was now = tt
-    step_within _ _ (DidPrune extent next dropped inside drops) was now = tt
-    step_within _ _ (DidSweep at page stepped sweeps) was now = tt
-    step_within _ _ (DidRestart at only) was now = tt
-    step_within _ _ (DidJudge old new inside low judge only) was now = tt
-    step_within _ _ (DidRead scan next found reads only) was now = tt
-    step_within _ _ (DidMark scan id rest only) was now = tt
+    step_within _ _ _ was now = tt
 
   none_job : (z : TableState) (job : Job) (at range : ℕ) (phase : Phase) → JobWithin 0 z job at range phase
-  none_job z (EachRange extent) at range phase = tt
-  none_job z (OneRange extent only) at range phase = tt
-  none_job z (WholeRanges extent) at range phase = tt
   none_job z (Desummarising only) at range phase = none_clear ((z.index at).entry range) phase
     where
-      least : (m : ℕ) → 0 ≤ m
-      least m = omega arith
-
       none_clear : (entry : Option Spot) (phase : Phase) → ClearWithin 0 entry phase
-      none_clear entry (NotBuilding (Held x)) = ((λ _. least 2), least 4)
-      none_clear entry phase = least (desummarise_steps phase)
+      none_clear entry (NotBuilding (Held x)) = ((λ _. omega arith), omega arith)
+      none_clear entry phase = omega arith
+  none_job z _ at range phase = tt
 
   none_left : (z : TableState) (task : Task) → Within 0 z task
   none_left z (Maintains job at range phase) = none_job z job at range phase

@@ -9,9 +9,8 @@ use Rattle.coverage.specs.Statements.{OnIndex, Empty, Copied, Moving, Phase, IsA
 use Rattle.coverage.specs.Knowing.{KnowsPhase, Knows}
 use Rattle.coverage.specs.PageOrder.{IsPassWithin, KnowsPagesOfPhase, KnowsPages}
 use Rattle.coverage.specs.IsCovered.{IndexState, index_view, IsIndexKept}
-use Rattle.coverage.specs.Steps.{ReplacesTuple, SetsEntry, OnIndexStep, Maps, Gone, Again, MovePut, SummariseStep, LookMap, LookGone, IsFinal, Found, ReadNoEntry, GrowMap, Put, Set}
-use Rattle.coverage.specs.Steps.{Extent, Pass, Unite, UniteCopies, SwapFinal, SetFinal, DropOld}
-use Rattle.coverage.specs.Steps.{GrowthStep, Grow, CountLeftOver, Count, Flag, EvacuatePut, EvacuateSet, EvacuateDrop, EvacuateSweep, Turn}
+use Rattle.coverage.specs.Steps.{ReplacesTuple, SetsEntry, OnIndexStep, Maps, Gone, Again, MovePut, SummariseStep, Found, GrowMap, Set, Extent, Pass, Unite}
+use Rattle.coverage.specs.Steps.{UniteCopies, SwapFinal, SetFinal, GrowthStep, Grow}
 use Rattle.coverage.specs.Counts.{summarise_count}
 use Rattle.coverage.specs.ExactResults.{IsPassed, NonePassed, OneMorePassed, IsPassedIn, UnitesExactly, IsExact, IsExactAfter, NamesExactFinal}
 use Rattle.coverage.proofs.Stable.{held_named}
@@ -42,10 +41,8 @@ module _ (w v : IndexView) (heap : SameHeap w v) (contents : v.contents ≡ w.co
 -- a step towards a new tuple in the old one's place makes no other
 unites_step : (s range : ℕ) (w v : IndexView) (contents : Contents) (result : IndexTuple) (old new : OnIndex) → OnIndexStep s range w v old new
     → UnitesExactly contents result old → UnitesExactly contents result new
-unites_step s range w v contents result _ _ (Maps x named reads) is = tt
-unites_step s range w v contents result _ _ (Gone x gone reads) is = tt
-unites_step s range w v contents result _ _ (Again x old new verdict reads) is = tt
 unites_step s range w v contents result _ _ (MovePut x y old new verdict puts these) is = is
+unites_step s range w v contents result _ _ _ is = tt
 
 step_heap : (s range : ℕ) (w v : IndexView) (old new : OnIndex) → OnIndexStep s range w v old new → SameHeap w v × (v.contents ≡ w.contents)
 step_heap s range w v _ _ (Maps x named reads) = (reads.frame.heap, reads.frame.contents)
@@ -55,23 +52,11 @@ step_heap s range w v _ _ (MovePut x y old new verdict puts these) = (puts.frame
 
 growth_exact : (s range : ℕ) (w v : IndexView) (old new : Phase) → GrowthStep s range w v old new → IsExact v range new
 growth_exact s range w v _ _ (Grow grows free meta turns) = tt
-growth_exact s range w v _ _ (CountLeftOver grows meta counts) = tt
-growth_exact s range w v _ _ (Count counts) = tt
-growth_exact s range w v _ _ (Flag grows free turns) = tt
-growth_exact s range w v _ _ (EvacuatePut x y t grows next named free verdict puts these) = tt
-growth_exact s range w v _ _ (EvacuateSet m x y t u sets same) = tt
-growth_exact s range w v _ _ (EvacuateDrop m x drops) = tt
-growth_exact s range w v _ _ (EvacuateSweep x t grows next unnamed sweeps) = tt
-growth_exact s range w v _ _ (Turn grows empty free meta turns) = tt
+growth_exact s range w v _ _ _ = tt
 
 pub exact_after : (s range : ℕ) (w v : IndexView) (old : Phase) (e : Statement) → SummariseStep s range w v old e → IsExact w range old → IsExactAfter v range e
-exact_after s range w v _ _ (LookMap x named reads) is = tt
-exact_after s range w v _ _ (LookGone x gone reads) is = tt
-exact_after s range w v _ _ (IsFinal x t stands final reads) is = tt
 exact_after s range w v _ _ (Found x t stands flag reads) is = refl
-exact_after s range w v _ _ (ReadNoEntry none of reads) is = tt
 exact_after s range w v _ _ (GrowMap old new step) is = growth_exact s range w v old new step
-exact_after s range w v _ _ (Put x t made long verdict puts these) is = tt
 exact_after s range w v _ _ (Set x sets none) is = refl
 exact_after s range w v _ _ (Extent extent result start read reads) is =
     exact_on w v reads.frame.heap reads.frame.contents range (IsAt (Passing extent (range * w.pages_per_range) result) Empty)
@@ -85,9 +70,7 @@ exact_after s range w v _ _ (Unite extent next result old new all step) is =
     (is.0, is.1, unites_step s range w v w.contents result old new step is.2)
 exact_after s range w v _ _ (UniteCopies extent next result x old new all stands united reads) is =
     exact_on w v reads.frame.heap reads.frame.contents range (IsAt (Passing extent next result) (Copied x old new)) (is.0, is.1, united)
-exact_after s range w v _ _ (SwapFinal p x old new verdict swap) is = tt
-exact_after s range w v _ _ (SetFinal p x y old new sets same) is = tt
-exact_after s range w v _ _ (DropOld x drops) is = tt
+exact_after s range w v _ _ _ is = tt
 
 not_counted : (count : ℕ) → count ≡ 0 → count ≡ 1 → ⊥
 not_counted count none one = omega arith
@@ -144,16 +127,4 @@ module _ (s range : ℕ) (w v : IndexState) (kept : IsIndexKept w) where
       → IsExact view range old → summarise_count step ≡ 1 → NamesExactFinal view (index_view v) range
   exact_final _ _ (SwapFinal p x old new verdict swap) was is one = swap_final p x old new was swap is
   exact_final _ _ (SetFinal p x y old new sets same) was is one = set_final p x y old new was sets is
-  exact_final _ _ (LookMap x named reads) was is one = absurd (not_counted 0 refl one)
-  exact_final _ _ (LookGone x gone reads) was is one = absurd (not_counted 0 refl one)
-  exact_final _ _ (IsFinal x t stands final reads) was is one = absurd (not_counted 0 refl one)
-  exact_final _ _ (Found x t stands flag reads) was is one = absurd (not_counted 0 refl one)
-  exact_final _ _ (ReadNoEntry none of reads) was is one = absurd (not_counted 0 refl one)
-  exact_final _ _ (GrowMap old new step) was is one = absurd (not_counted 0 refl one)
-  exact_final _ _ (Put x t made long verdict puts these) was is one = absurd (not_counted 0 refl one)
-  exact_final _ _ (Set x sets none) was is one = absurd (not_counted 0 refl one)
-  exact_final _ _ (Extent extent result start read reads) was is one = absurd (not_counted 0 refl one)
-  exact_final _ _ (Pass extent next slots result wider below none made reads) was is one = absurd (not_counted 0 refl one)
-  exact_final _ _ (Unite extent next result old new all step) was is one = absurd (not_counted 0 refl one)
-  exact_final _ _ (UniteCopies extent next result x old new all stands united reads) was is one = absurd (not_counted 0 refl one)
-  exact_final _ _ (DropOld x drops) was is one = absurd (not_counted 0 refl one)
+  exact_final _ _ _ was is one = absurd (not_counted 0 refl one)

@@ -63,13 +63,10 @@ at_most : (placeholder all : Bool) → length (flag_of placeholder ∷ rest_of a
 at_most placeholder false = omega arith
 at_most placeholder true = omega arith
 
-one_more : (n : ℕ) → n ≤ 8 → suc n ≤ 9
-one_more n le = omega arith
-
 formed : (range : ℕ) (placeholder all : Bool) → range < 2000 → IsFormed contents (tuple_of range placeholder all)
 formed range placeholder all below = record {
   says = says range placeholder all;
-  size = one_more (length (flag_of placeholder ∷ rest_of all)) (at_most placeholder all);
+  size = omega (arith, at_most placeholder all);
   number = below;
 }
 

@@ -2,20 +2,18 @@
 use Rattle.std.proofs.Common.{◌≡◌, ◌⊎◌, inl, inr, ⊎_elim, ℕ, ◌*◌, ◌≤◌, ◌<◌, Option, Some, None, Bool, sym, ◌∙◌, ap, subst, arith}
 use Rattle.std.specs.Prelude.{IsTrue}
 use Rattle.std.proofs.lemmas.Option.{same_Some, none-some}
+use Rattle.std.proofs.Math.Nat.{lt_of_lt_of_le}
 use Rattle.block_model.specs.declared.row.Row.{Row}
 use Rattle.block_model.specs.declared.place.Spot.{Spot}
 use Rattle.coverage.specs.IndexView.{IndexTuple, Contents, IsFormed, Progress, IndexView, IsRangeOf, IsTupleOf}
 use Rattle.coverage.specs.IsSound.{IsSound}
 use Rattle.coverage.specs.GoesOn.{IsHeld}
-use Rattle.coverage.specs.Changes.{SameHeap, SameTuples, SameUnnamed, PutsRow, Places, Names, Turn, Swaps, MovePuts, MoveSets, DropsLoose, Clears, IsUntouched}
-use Rattle.coverage.specs.Changes.{IsSwept, Sweeps, Prunes, Takes, Ends, TurnsLocks}
+use Rattle.coverage.specs.Changes.{SameHeap, SameTuples, SameUnnamed, PutsRow, Places, Names, Turn, Swaps, MovePuts, MoveSets, DropsLoose, Clears, Sweeps}
+use Rattle.coverage.specs.Changes.{Prunes, Takes, Ends, TurnsLocks}
 
 -- tuples of one index with the same bytes are one
 pub same_bytes : (contents : Contents) (t u : IndexTuple) → IsFormed contents t → IsFormed contents u → t.bytes ≡ u.bytes → t ≡ u
 same_bytes contents t u one two same = same_Some _ _ (sym one.says ∙ ap contents.read same ∙ two.says)
-
-below_more : (n m k : ℕ) → n < m → m ≤ k → n < k
-below_more n m k less le = omega arith
 
 pub no_less : (n m : ℕ) → n ≡ m → m ≤ n
 no_less n m same = omega arith
@@ -26,7 +24,7 @@ module _ (w v : IndexView) (contents : v.contents ≡ w.contents) (ranges : v.pa
   formed_on t formed = subst (λ c. IsFormed c t) (sym contents) formed
 
   in_blocks : (range : ℕ) → range * w.pages_per_range < w.blocks → range * v.pages_per_range < v.blocks
-  in_blocks range below = subst (λ n. range * n < v.blocks) (sym ranges) (below_more (range * w.pages_per_range) w.blocks v.blocks below blocks)
+  in_blocks range below = subst (λ n. range * n < v.blocks) (sym ranges) (lt_of_lt_of_le below blocks)
 
   pub tuple_of_on : (t : IndexTuple) → IsTupleOf w t → IsTupleOf v t
   tuple_of_on t is = (formed_on t is.0, in_blocks t.range is.1)
@@ -41,10 +39,7 @@ module _ (w v : IndexView) (contents : v.contents ≡ w.contents) (ranges : v.pa
   came_formed sound came stays x t here = ⊎_elim
       (λ (was : w.tuple x ≡ Some t). ⊎_elim
       (λ (is : IsTupleOf w t). inl (tuple_of_on t is))
-      (λ (unnamed : IsTrue (w.unnamed x)). ⊎_elim
-      (λ (still : IsTrue (v.unnamed x)). inr still)
-      (λ (gone : v.tuple x ≡ None). absurd (none-some _ (sym gone ∙ here)))
-      (stays x unnamed))
+      (λ (unnamed : IsTrue (w.unnamed x)). elim (stays x unnamed) [ inl still ↦ inr still | inr gone ↦ absurd (none-some _ (sym gone ∙ here)) ])
       (sound.formed x t was))
       (λ (is : IsTupleOf w t). inl (tuple_of_on t is))
       (came x t here)
@@ -72,10 +67,7 @@ one_formed w v sound contents heap unnamed y one others =
     came_formed w v contents heap.pages_per_range (no_less v.blocks w.blocks heap.blocks) sound came (still w v unnamed)
   where
     came : (x : Spot) (t : IndexTuple) → v.tuple x ≡ Some t → (w.tuple x ≡ Some t) ⊎ IsTupleOf w t
-    came x t here = ⊎_elim
-        (λ (is : x ≡ y). inr (one t (ap v.tuple (sym is) ∙ here)))
-        (λ (same : v.tuple x ≡ w.tuple x). inl (sym same ∙ here))
-        (others x)
+    came x t here = elim (others x) [ inl is ↦ inr (one t (ap v.tuple (sym is) ∙ here)) | inr same ↦ inl (sym same ∙ here) ]
 
 -- a tuple that the map names is one of the index
 pub named_formed : (w : IndexView) (range : ℕ) (x : Spot) (t : IndexTuple) → IsSound w → w.entry range ≡ Some x → w.tuple x ≡ Some t → IsTupleOf w t
@@ -86,10 +78,7 @@ named_formed w range x t sound named here = ⊎_elim
 
 -- so is a tuple in a session's hands
 pub loose_formed : (w : IndexView) (s : ℕ) (x : Spot) (t : IndexTuple) → IsSound w → w.loose s ≡ Some x → w.tuple x ≡ Some t → IsTupleOf w t
-loose_formed w s x t sound loose here = ⊎_elim
-    (λ (is : IsTupleOf w t). is)
-    (λ (unnamed : IsTrue (w.unnamed x)). absurd ((sound.unnamed_tuples x unnamed).apart s loose))
-    (sound.formed x t here)
+loose_formed w s x t sound loose here = elim (sound.formed x t here) [ inl is ↦ is | inr unnamed ↦ absurd ((sound.unnamed_tuples x unnamed).apart s loose) ]
 
 -- and a tuple of the range at a place that a statement holds
 pub held_formed : (w : IndexView) (range : ℕ) (x : Spot) (t : IndexTuple) → IsSound w → IsHeld w range x → w.tuple x ≡ Some t → t.range ≡ range
@@ -151,16 +140,10 @@ sweeps_formed s w v p sound kind =
     came_formed w v kind.frame.contents kind.frame.heap.pages_per_range (no_less v.blocks w.blocks kind.frame.heap.blocks) sound came stays
   where
     came : (x : Spot) (t : IndexTuple) → v.tuple x ≡ Some t → (w.tuple x ≡ Some t) ⊎ IsTupleOf w t
-    came x t here = ⊎_elim
-        (λ (same : IsUntouched w v x). inl (sym same.0 ∙ here))
-        (λ (swept : IsSwept w v p x). absurd (none-some _ (sym swept.now ∙ here)))
-        (kind.places x)
+    came x t here = elim (kind.places x) [ inl same ↦ inl (sym same.0 ∙ here) | inr swept ↦ absurd (none-some _ (sym swept.now ∙ here)) ]
 
     stays : (x : Spot) → IsTrue (w.unnamed x) → IsTrue (v.unnamed x) ⊎ (v.tuple x ≡ None)
-    stays x unnamed = ⊎_elim
-        (λ (same : IsUntouched w v x). inl (same.1 ∙ unnamed))
-        (λ (swept : IsSwept w v p x). inr swept.now)
-        (kind.places x)
+    stays x unnamed = elim (kind.places x) [ inl same ↦ inl (same.1 ∙ unnamed) | inr swept ↦ inr swept.now ]
 
 pub prunes_formed : (s : ℕ) (dropped : ℕ → ℕ → Bool) (w v : IndexView) → IsSound w → Prunes s dropped w v → AreFormed v
 prunes_formed s dropped w v sound kind = same_formed w v sound kind.frame.contents kind.rows.pages_per_range (no_less v.blocks w.blocks kind.rows.blocks)

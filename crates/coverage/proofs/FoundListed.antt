@@ -3,6 +3,7 @@ use Rattle.std.proofs.Common.{◌≡◌, ◌≢◌, ◌⊎◌, inl, inr, ⊎_eli
 use Rattle.std.specs.Prelude.{refl, IsTrue}
 use Rattle.std.proofs.lemmas.Option.{same_Some, none-some}
 use Rattle.std.proofs.lemmas.Bool.{cases_eq, false≢true}
+use Rattle.std.proofs.Math.Nat.{lt_trans, not-suc-le-zero}
 use Rattle.block_model.specs.declared.row.Row.{Row}
 use Rattle.block_model.specs.declared.row.RowId.{RowId}
 use Rattle.coverage.specs.Statements.{HasNoMoreRows}
@@ -13,18 +14,12 @@ use Rattle.coverage.specs.TableSteps.{ListsFound}
 
 before_through : (a b c : RowId) → IsBefore a b → IsBefore b c → IsBefore a c
 before_through a b c one two = ⊎_elim
-    (λ (less : a.t < b.t). ⊎_elim
-    (λ (more : b.t < c.t). inl (through a.t b.t c.t less more))
-    (λ (same : (b.t ≡ c.t) × (b.k < c.k)). inl (subst (λ n. a.t < n) same.0 less))
-    two)
+    (λ (less : a.t < b.t). elim two [ inl more ↦ inl (lt_trans less more) | inr same ↦ inl (subst (λ n. a.t < n) same.0 less) ])
     (λ (same : (a.t ≡ b.t) × (a.k < b.k)). ⊎_elim
     (λ (more : b.t < c.t). inl (subst (λ n. n < c.t) (sym same.0) more))
-    (λ (same' : (b.t ≡ c.t) × (b.k < c.k)). inr (same.0 ∙ same'.0, through a.k b.k c.k same.1 same'.1))
+    (λ (same' : (b.t ≡ c.t) × (b.k < c.k)). inr (same.0 ∙ same'.0, lt_trans same.1 same'.1))
     two)
     one
-  where
-    through : (a b c : ℕ) → a < b → b < c → a < c
-    through a b c less more = omega arith
 
 -- of two ids one comes first, or they are one
 ids_compare : (a b : RowId) → IsBefore a b ⊎ (a ≡ b) ⊎ IsBefore b a
@@ -35,15 +30,12 @@ ids_compare a b = ⊎_elim
     (λ (less : a.k < b.k). inl (inr (t, less)))
     (λ (le' : b.k ≤ a.k). ⊎_elim
     (λ (k : a.k ≡ b.k). inr (inl (λ i. record { t = t i; k = k i })))
-    (λ (other : a.k ≢ b.k). inr (inr (inr (sym t, above b.k a.k le' other))))
+    (λ (other : a.k ≢ b.k). inr (inr (inr (sym t, omega arith))))
     (cases_eq a.k b.k))
     (lt_or_ge a.k b.k))
-    (λ (other : a.t ≢ b.t). inr (inr (inl (above b.t a.t le other))))
+    (λ (other : a.t ≢ b.t). inr (inr (inl (omega arith))))
     (cases_eq a.t b.t))
     (lt_or_ge a.t b.t)
-  where
-    above : (n m : ℕ) → n ≤ m → m ≢ n → n < m
-    above n m le other = omega arith
 
 -- a list in order with one id more
 record WithOne (id : RowId) (ids : List RowId) : Type 0 where
@@ -65,10 +57,7 @@ with_one id (a ∷ l) order = ⊎_elim
     (λ (first : IsBefore id a). record {
       list = id ∷ a ∷ l;
       ordered = (
-        (λ x among. ⊎_elim
-            (λ (is : x ≡ a). subst (IsBefore id) (sym is) first)
-            (λ (behind : IsAmong l x). before_through id a x first (order.0 x behind))
-            among),
+        (λ x among. elim among [ inl is ↦ subst (IsBefore id) (sym is) first | inr behind ↦ before_through id a x first (order.0 x behind) ]),
         order,
       );
       from = λ x among. among;
@@ -88,24 +77,15 @@ with_one id (a ∷ l) order = ⊎_elim
     record {
       list = a ∷ more.list;
       ordered = (
-        (λ x among. ⊎_elim
-            (λ (is : x ≡ id). subst (IsBefore a) (sym is) later)
-            (λ (behind : IsAmong l x). order.0 x behind)
-            (more.from x among)),
+        (λ x among. elim (more.from x among) [ inl is ↦ subst (IsBefore a) (sym is) later | inr behind ↦ order.0 x behind ]),
         more.ordered,
       );
       from = λ x among. ⊎_elim
           (λ (is : x ≡ a). inr (inl is))
-          (λ (behind : IsAmong more.list x). ⊎_elim
-          (λ (is : x ≡ id). inl is)
-          (λ (was : IsAmong l x). inr (inr was))
-          (more.from x behind))
+          (λ (behind : IsAmong more.list x). elim (more.from x behind) [ inl is ↦ inl is | inr was ↦ inr (inr was) ])
           among;
       this = inr more.this;
-      others = λ x among. ⊎_elim
-          (λ (is : x ≡ a). inl is)
-          (λ (behind : IsAmong l x). inr (more.others x behind))
-          among;
+      others = λ x among. elim among [ inl is ↦ inl is | inr behind ↦ inr (more.others x behind) ];
     })
     other)
     (ids_compare id a)
@@ -140,10 +120,7 @@ module _ (w : TableState) (scan : TableScan) where
             (λ (less : j < n). more.others q.id (lists.all c j q (inr (at.0, less)) is here))
             (last_or_below j n at.1))
             has;
-        only = λ id among. ⊎_elim
-            (λ (is : id ≡ r.id). (b, n, r, found, there, sym is))
-            (λ (was : IsAmong lists.ids id). lists.only id was)
-            (more.from id among);
+        only = λ id among. elim (more.from id among) [ inl is ↦ (b, n, r, found, there, sym is) | inr was ↦ lists.only id was ];
       }
   with_slot b n lists true found None none = record {
     ids = lists.ids;
@@ -170,17 +147,11 @@ module _ (w : TableState) (scan : TableScan) where
     only = lists.only;
   }
 
-  none_below : (n : ℕ) → n < zero → ⊥
-  none_below n less = omega arith
-
   slots_listed : (b n : ℕ) → Lists (Below b) → Lists (Before b n)
   slots_listed b zero lists = record {
     ids = lists.ids;
     ordered = lists.ordered;
-    all = λ c j q has is here. ⊎_elim
-        (λ (low : c < b). lists.all c j q low is here)
-        (λ (at : (c ≡ b) × (j < zero)). absurd (none_below j at.1))
-        has;
+    all = λ c j q has is here. elim has [ inl low ↦ lists.all c j q low is here | inr at ↦ absurd (not-suc-le-zero at.1) ];
     only = lists.only;
   }
   slots_listed b (suc n) lists = with_slot b n (slots_listed b n lists) (scan.found b n) refl (w.row b n) refl
@@ -189,7 +160,7 @@ module _ (w : TableState) (scan : TableScan) where
   blocks_listed ends zero = record {
     ids = [];
     ordered = tt;
-    all = λ c j q low is here. absurd (none_below c low);
+    all = λ c j q low is here. absurd (not-suc-le-zero low);
     only = λ id among. absurd among;
   }
   blocks_listed ends (suc b) =

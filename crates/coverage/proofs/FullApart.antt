@@ -1,5 +1,6 @@
 -- Where a statement lacks a page for what it has to put, it has no step.
 use Rattle.std.proofs.Common.{◌≡◌, ⊎_elim, ℕ, ◌≤◌, ◌<◌, Some, None, length, sym, ◌∙◌, subst, arith, zero, suc}
+use Rattle.std.proofs.Math.Nat.{not-le_of_lt}
 use Rattle.block_model.specs.declared.row.Row.{Row}
 use Rattle.block_model.specs.declared.place.Spot.{Spot}
 use Rattle.coverage.specs.IndexView.{IndexTuple, Emptying, IndexView, range_of_block, next_map_page, placeholder_length}
@@ -9,19 +10,15 @@ use Rattle.coverage.specs.Rooms.{bytes_of}
 use Rattle.coverage.proofs.Numbers.{lt_or_ge}
 use Rattle.coverage.specs.Statements.{OnIndex, Copied, Phase, Statement, loose_in, loose_at}
 use Rattle.coverage.specs.Steps.{InsertStep, SummariseStep}
-use Rattle.coverage.specs.Waiting.{IsNextTuple}
-use Rattle.coverage.specs.Waiting.{IsInsertEnded, EndsBefore, EndsFull, IsPhaseFull, FinalFull, PlaceFull, MapFull, EvacuateFull}
+use Rattle.coverage.specs.Waiting.{IsNextTuple, IsInsertEnded, EndsBefore, EndsFull, IsPhaseFull, FinalFull, PlaceFull, MapFull, EvacuateFull}
 use Rattle.coverage.proofs.Verdicts.{put_once, swap_once}
 use Rattle.coverage.proofs.NextSteps.{next_once, named_or_not}
-use Rattle.coverage.proofs.OneOutcome.{NextOnIndex, Changed, Moved, NextInsert, GoesOn, Swapped, NextGrowth, MovesNext, SweepsNext, Turns, NextPhase, Lengthens, Places}
-use Rattle.coverage.proofs.OneOutcome.{Unites, SwapsFinal, insert_next, summarise_next}
+use Rattle.coverage.proofs.OneOutcome.{NextOnIndex, Changed, Moved, NextInsert, GoesOn, Swapped, NextGrowth, MovesNext, SweepsNext, Turns, NextPhase, Lengthens}
+use Rattle.coverage.proofs.OneOutcome.{Places, Unites, SwapsFinal, insert_next, summarise_next}
 
 abbrev IsFull : Verdict → Type 0
 IsFull (Full number) = Unit
 IsFull verdict = ⊥
-
-crosses : (n m : ℕ) → n < m → m ≤ n → ⊥
-crosses n m less le = omega arith
 
 module _ (w : IndexView) (s range number : ℕ) where
   full_fits : (x : Spot) (old new : IndexTuple) → SwapVerdict w s range x old new (Full number) → SwapVerdict w s range x old new Fits → ⊥
@@ -46,7 +43,7 @@ phase_full w s range number _ _ (FinalFull _ _ x old new full) (SwapsFinal _ _ _
 phase_full w s range number _ _ (PlaceFull _ long full) (Lengthens kind new grows growth) = long grows.short
 phase_full w s range number _ _ (PlaceFull _ long full) (Places y long' verdict) =
     subst IsFull (put_once w s range (placeholder_length w range) (Full number) (Puts y) full verdict) tt
-phase_full w s range _ _ _ (MapFull past limit) (Lengthens kind new grows growth) = crosses (next_map_page w.pages) w.pages.limit grows.below limit
+phase_full w s range _ _ _ (MapFull past limit) (Lengthens kind new grows growth) = not-le_of_lt grows.below limit
 phase_full w s range _ _ _ (MapFull past limit) (Places y long verdict) = long past
 phase_full w s range number _ _ (EvacuateFull _ x t grows next named free full) (Lengthens kind new grows' growth) =
     full_grows w s range number x t new next named full (subst (λ l. NextGrowth w s l new) (sym grows'.is ∙ grows.is) growth)
@@ -96,6 +93,4 @@ ended_loose w s b _ (EndsFull number x old new full) = refl
 
 pub full_loose : (w : IndexView) (s range number : ℕ) (phase : Phase) → IsPhaseFull w s range phase number → loose_at phase ≡ None
 full_loose w s range number _ (FinalFull _ p x old new full) = refl
-full_loose w s range number _ (PlaceFull _ long full) = refl
-full_loose w s range _ _ (MapFull past limit) = refl
-full_loose w s range number _ (EvacuateFull _ x t grows next named free full) = refl
+full_loose w s range _ _ _ = refl

@@ -1,19 +1,19 @@
 -- A step in one index, as a step of the table that the statement's session makes.
-use Rattle.std.proofs.Common.{◌≡◌, ◌⊎◌, inl, inr, ⊎_elim, ℕ, ◌≤◌, ◌<◌, Option, sym, ◌∙◌, ap, subst, arith, suc}
+use Rattle.std.proofs.Common.{◌≡◌, ◌⊎◌, inl, inr, ⊎_elim, ℕ, ◌≤◌, ◌<◌, Option, sym, ◌∙◌, ap, subst, suc}
 use Rattle.std.specs.Prelude.{refl}
+use Rattle.std.proofs.Math.Nat.{le_antisymm}
 use Rattle.block_model.specs.declared.row.Row.{Row}
 use Rattle.block_model.specs.declared.place.Spot.{Spot}
 use Rattle.coverage.specs.IndexView.{Building, IndexView}
 use Rattle.coverage.specs.Statements.{OnIndex, Empty, Phase, Statement, Idle, Inserting, Maintaining, Holding, building_of, loose_of}
-use Rattle.coverage.specs.Steps.{InsertStep, InsertOnIndex, InsertNoEntry, InsertCopies, InsertUnchanged, InsertSwap, InsertSet, InsertDrop}
-use Rattle.coverage.specs.Steps.{SummariseStep, LookMap, LookGone, IsFinal, Found, ReadNoEntry, GrowMap, Put, Set, Extent, Pass, Unite, UniteCopies, SwapFinal}
-use Rattle.coverage.specs.Steps.{SetFinal, DropOld, DesummariseStep, ClearMap, ClearNone, Clear, ClearAgain, DropCleared}
+use Rattle.coverage.specs.Steps.{InsertStep, InsertOnIndex, InsertCopies, InsertSet, SummariseStep, IsFinal, GrowMap, SwapFinal, DropOld, DesummariseStep}
+use Rattle.coverage.specs.Steps.{ClearNone, DropCleared}
 use Rattle.coverage.specs.Points.{insert_point}
 use Rattle.coverage.proofs.Numbers.{lt_or_ge}
 use Rattle.coverage.specs.Table.{Index, Job, EachRange, OneRange, WholeRanges, Desummarising, Task, Resting, Reaches, Asks, Inserts, Considers, Maintains}
 use Rattle.coverage.specs.Table.{Restarts, TableState, pick, seen_by, index_view_at}
-use Rattle.coverage.specs.TableSteps.{TaskTurns, StepsIn, JobStep, InsertGoes, InsertCompletes, MaintainGoes, MaintainCompletes, Onward}
-use Rattle.coverage.specs.TableSteps.{Stays, ToAsk, ToIndex, Inserted, ToRange, NextIndex, IsMaintained, RangesDone}
+use Rattle.coverage.specs.TableSteps.{TaskTurns, StepsIn, JobStep, InsertGoes, InsertCompletes, MaintainGoes, MaintainCompletes, Onward, Stays, ToAsk, ToIndex}
+use Rattle.coverage.specs.TableSteps.{Inserted, ToRange, NextIndex, IsMaintained, RangesDone}
 use Rattle.coverage.specs.TablePoints.{job_point, IsTableStuck}
 use Rattle.coverage.proofs.Views.{pick_same, pick_there}
 use Rattle.coverage.proofs.VacuumGoesOn.{no_onward, no_end}
@@ -66,18 +66,12 @@ module _ (w : TableState) (s at : ℕ) (x : Index) (new : Task) where
 abbrev showing : Index → IndexView → Index
 showing x v = record x { entry = v.entry; tuple = v.tuple; pages = v.pages; lock = v.lock; unnamed = v.unnamed }
 
-both : (a b : ℕ) → a ≤ b → b ≤ a → a ≡ b
-both a b le ge = omega arith
-
-below_suc : (a b : ℕ) → a < b → suc a ≤ b
-below_suc a b less = omega arith
-
 -- an insert before an index, or behind the last one, goes on
 reaches_on : (u : TableState) (b k : ℕ) (r : Row) (at : ℕ) → at ≤ u.indexes → ((new : Task) → Onward u (Reaches b k r at) new → ⊥) → ⊥
 reaches_on u b k r at le none = ⊎_elim
     (λ (inside : at < u.indexes).
     none (Inserts b k r at Empty) (ToIndex b k r at inside (λ asks. none (Asks b k r at) (ToAsk b k r at inside asks))))
-    (λ (all : u.indexes ≤ at). none Resting (Inserted b k r at (both at u.indexes le all)))
+    (λ (all : u.indexes ≤ at). none Resting (Inserted b k r at (le_antisymm le all)))
     (lt_or_ge at u.indexes)
 
 -- maintenance before a range of an index goes on, or is done
@@ -93,52 +87,35 @@ considers_on u (WholeRanges extent) at range below none no_last = ⊎_elim
     (λ (more : suc at < u.indexes). none (Restarts (suc at)) (NextIndex extent at range (λ has. none _ (ToRange (WholeRanges extent) at range has)) more))
     (λ (last : u.indexes ≤ suc at).
     no_last (RangesDone (WholeRanges extent) at range (λ has. none _ (ToRange (WholeRanges extent) at range has))
-    (both (suc at) u.indexes (below_suc at u.indexes below) last)))
+    (le_antisymm below last)))
     (lt_or_ge (suc at) u.indexes)
 
 -- what the step of an insert, or of a maintenance statement, leads to in the index
 insert_leads : (s b k : ℕ) (r : Row) (w v : IndexView) (g : OnIndex) (e : Statement) → InsertStep s b k r w v g e
     → (e ≡ Idle) ⊎ ((h : OnIndex) × (e ≡ Inserting b k r h))
 insert_leads s b k r w v _ _ (InsertOnIndex old new step) = inr (new, refl)
-insert_leads s b k r w v _ _ (InsertNoEntry none reads) = inl refl
 insert_leads s b k r w v _ _ (InsertCopies x old new stands added changes reads) = inr (_, refl)
-insert_leads s b k r w v _ _ (InsertUnchanged x t stands added free reads) = inl refl
-insert_leads s b k r w v _ _ (InsertSwap x old new verdict swap) = inl refl
 insert_leads s b k r w v _ _ (InsertSet x y old new sets same) = inr (_, refl)
-insert_leads s b k r w v _ _ (InsertDrop x drops) = inl refl
+insert_leads s b k r w v _ _ _ = inl refl
 
 abbrev LeadsTo : ℕ → Statement → Type 0
 LeadsTo range e = (e ≡ Holding) ⊎ ((h : Phase) × (e ≡ Maintaining range h))
 
 summarise_leads : (s range : ℕ) (w v : IndexView) (g : Phase) (e : Statement) → SummariseStep s range w v g e → LeadsTo range e
-summarise_leads s range w v _ _ (LookMap x named reads) = inr (_, refl)
-summarise_leads s range w v _ _ (LookGone x gone reads) = inr (_, refl)
 summarise_leads s range w v _ _ (IsFinal x t stands final reads) = inl refl
-summarise_leads s range w v _ _ (Found x t stands flag reads) = inr (_, refl)
-summarise_leads s range w v _ _ (ReadNoEntry none of reads) = inr (_, refl)
 summarise_leads s range w v _ _ (GrowMap old new step) = inr (new, refl)
-summarise_leads s range w v _ _ (Put x t is long verdict puts these) = inr (_, refl)
-summarise_leads s range w v _ _ (Set x sets none) = inr (_, refl)
-summarise_leads s range w v _ _ (Extent extent result start is reads) = inr (_, refl)
-summarise_leads s range w v _ _ (Pass extent next slots result wider below none made reads) = inr (_, refl)
-summarise_leads s range w v _ _ (Unite extent next result old new all step) = inr (_, refl)
-summarise_leads s range w v _ _ (UniteCopies extent next result x old new all stands united reads) = inr (_, refl)
 summarise_leads s range w v _ _ (SwapFinal p x old new verdict swap) = inl refl
-summarise_leads s range w v _ _ (SetFinal p x y old new sets same) = inr (_, refl)
 summarise_leads s range w v _ _ (DropOld x drops) = inl refl
+summarise_leads s range w v _ _ _ = inr (_, refl)
 
 desummarise_leads : (s range : ℕ) (w v : IndexView) (g : Phase) (e : Statement) → DesummariseStep s range w v g e → LeadsTo range e
-desummarise_leads s range w v _ _ (ClearMap x named reads) = inr (_, refl)
 desummarise_leads s range w v _ _ (ClearNone none reads) = inl refl
-desummarise_leads s range w v _ _ (Clear x verdict clears these) = inr (_, refl)
-desummarise_leads s range w v _ _ (ClearAgain x verdict reads) = inr (_, refl)
 desummarise_leads s range w v _ _ (DropCleared x drops) = inl refl
+desummarise_leads s range w v _ _ _ = inr (_, refl)
 
 job_leads : (job : Job) (s range : ℕ) (w v : IndexView) (g : Phase) (e : Statement) → JobStep job s range w v g e → LeadsTo range e
-job_leads (EachRange extent) s range w v g e step = summarise_leads s range w v g e step
-job_leads (OneRange extent only) s range w v g e step = summarise_leads s range w v g e step
-job_leads (WholeRanges extent) s range w v g e step = summarise_leads s range w v g e step
 job_leads (Desummarising only) s range w v g e step = desummarise_leads s range w v g e step
+job_leads _ s range w v g e step = summarise_leads s range w v g e step
 
 module _ (w : TableState) (s : ℕ) (stuck : IsTableStuck w s) (at : ℕ) (below : at < w.indexes) where
   abbrev view : IndexView
@@ -149,7 +126,7 @@ module _ (w : TableState) (s : ℕ) (stuck : IsTableStuck w s) (at : ℕ) (below
     insert_completes : (x : Index) → x.autosummarize ≡ (w.index at).autosummarize
         → InsertStep s b k r view (index_view_at at (in_index w s at x (Reaches b k r (suc at)))) g Idle → ⊥
     insert_completes x same step =
-        reaches_on (in_index w s at x (Reaches b k r (suc at))) b k r (suc at) (below_suc at w.indexes below)
+        reaches_on (in_index w s at x (Reaches b k r (suc at))) b k r (suc at) below
         (no_onward w s stuck (in_index w s at x (Reaches b k r (suc at))) (Reaches b k r (suc at)) (now w s at x (Reaches b k r (suc at)))
         (InsertCompletes b k r at g (turns_in w s at x (Reaches b k r (suc at)) (Inserts b k r at g) was)
         (steps_in w s at x (Reaches b k r (suc at)) below same) step)
@@ -212,10 +189,8 @@ module _ (w : TableState) (s : ℕ) (stuck : IsTableStuck w s) (at : ℕ) (below
           building = building;
           loose = loose;
         }) g e
-    job_on (EachRange extent) v building loose e step = summarise_on s view v building loose range g e step
-    job_on (OneRange extent only) v building loose e step = summarise_on s view v building loose range g e step
-    job_on (WholeRanges extent) v building loose e step = summarise_on s view v building loose range g e step
     job_on (Desummarising only) v building loose e step = desummarise_on s view v building loose range g e step
+    job_on _ v building loose e step = summarise_on s view v building loose range g e step
 
     pub maintain_no_step : (e : Statement) (v : IndexView) → JobStep job s range view v g e → ⊥
     maintain_no_step e v step = ⊎_elim

@@ -1,16 +1,16 @@
 -- A table's statements are at its indexes, and at ranges of their jobs.
 use Rattle.std.proofs.Common.{◌≡◌, ◌⊎◌, ⊎_elim, ℕ, ◌+◌, ◌*◌, ◌≤◌, ◌<◌, sym, ap, subst, arith, suc}
+use Rattle.std.proofs.Math.Nat.{le_of_lt, le_refl, le_trans}
 use Rattle.coverage.specs.IndexView.{IndexView}
-use Rattle.coverage.specs.Statements.{Empty, Phase, NotBuilding, Statement, Idle, Inserting, Maintaining, Holding, Scanning}
-use Rattle.coverage.specs.Steps.{ClearMap, ClearNone, Clear, ClearAgain, DropCleared}
-use Rattle.coverage.specs.Table.{Job, EachRange, OneRange, WholeRanges, Desummarising, TableScan, Task, Resting, Reaches, Asks, Inserts, Considers}
-use Rattle.coverage.specs.Table.{Maintains, Prunes, SweepsFrom, Sweeps, Restarts, Scans, Marks, TableState, index_view_at}
-use Rattle.coverage.specs.TableSteps.{BeginsWith, Summarize, SummarizeOne, Work, Desummarize, Vacuum, HasRange, JobStep, JudgeStep, JudgeMap, JudgeNoEntry}
-use Rattle.coverage.specs.TableSteps.{JudgeGone, JudgeKeeps, JudgeDrops, Does, PutsRow, RefusesRow, AsksSummary, InsertGoes, InsertCompletes}
-use Rattle.coverage.specs.TableSteps.{RefusesInsert, TakesLock, MaintainGoes, MaintainCompletes, RefusesMaintain, RefusesVacuum, PrunesBlock}
-use Rattle.coverage.specs.TableSteps.{SweepsPage, RestartsIndex, BeginsScan, Judges, ReadsBlock, RefusesScan, MarksRow, Conflicts, Blocked, Transacts}
-use Rattle.coverage.specs.TableSteps.{Onward, Stays, ToAsk, ToIndex, Inserted, ToRange, NextIndex, Pruned, ToPage, Swept, JudgesNext, Scanned, ToMarks}
-use Rattle.coverage.specs.TableSteps.{Marked, Settles, GoesOn, GivesLock}
+use Rattle.coverage.specs.Statements.{Empty, Phase, NotBuilding, Statement, Maintaining}
+use Rattle.coverage.specs.Steps.{ClearMap}
+use Rattle.coverage.specs.Table.{Job, EachRange, OneRange, WholeRanges, Desummarising, TableScan, Task, Resting, Reaches, Asks, Inserts, Considers, Maintains}
+use Rattle.coverage.specs.Table.{Prunes, SweepsFrom, Sweeps, Restarts, Scans, TableState, index_view_at}
+use Rattle.coverage.specs.TableSteps.{BeginsWith, Summarize, SummarizeOne, Work, Desummarize, Vacuum, HasRange, JobStep, JudgeStep, JudgeMap, Does, PutsRow}
+use Rattle.coverage.specs.TableSteps.{RefusesRow, AsksSummary, InsertGoes, InsertCompletes, RefusesInsert, TakesLock, MaintainGoes, MaintainCompletes}
+use Rattle.coverage.specs.TableSteps.{RefusesMaintain, RefusesVacuum, PrunesBlock, SweepsPage, RestartsIndex, BeginsScan, Judges, ReadsBlock, RefusesScan}
+use Rattle.coverage.specs.TableSteps.{MarksRow, Conflicts, Blocked, Transacts, Onward, Stays, ToAsk, ToIndex, ToRange, NextIndex, Pruned, ToPage, Swept}
+use Rattle.coverage.specs.TableSteps.{JudgesNext, Settles, GoesOn, GivesLock}
 use Rattle.coverage.specs.TableCovered.{IsExtentWithin, IsPhaseOf, IsInTable}
 use Rattle.coverage.proofs.Leaves.{does_leaves, settles_leaves}
 use Rattle.coverage.proofs.TableSettled.{does_layout, settles_layout}
@@ -18,10 +18,7 @@ use Rattle.coverage.proofs.TableJudged.{SameRanges, indexes_ranges, does_ranges}
 
 module _ (w v : TableState) (same : SameRanges w v) (more : w.blocks ≤ v.blocks) where
   through : (a : ℕ) → a ≤ w.blocks → a ≤ v.blocks
-  through a le = by a w.blocks v.blocks le more
-    where
-      by : (a b c : ℕ) → a ≤ b → b ≤ c → a ≤ c
-      by a b c one two = omega arith
+  through a le = le_trans le more
 
   below_on : (at : ℕ) → at < w.indexes → at < v.indexes
   below_on at below = subst (λ n. at < n) (sym same.0) below
@@ -39,33 +36,26 @@ module _ (w v : TableState) (same : SameRanges w v) (more : w.blocks ≤ v.block
   range_on (Desummarising only) at range has = has
 
   in_table_on : (task : Task) → IsInTable w task → IsInTable v task
-  in_table_on Resting is = tt
   in_table_on (Reaches b k r at) is = subst (λ n. at ≤ n) (sym same.0) is
   in_table_on (Asks b k r at) is = below_on at is
   in_table_on (Inserts b k r at on_index) is = below_on at is
   in_table_on (Considers job at range) is = (below_on at is.0, extent_on job is.1)
   in_table_on (Maintains job at range phase) is = (below_on at is.0, extent_on job is.1, range_on job at range is.2, is.3)
   in_table_on (Prunes extent next) is = through extent is
-  in_table_on (SweepsFrom at from) is = tt
   in_table_on (Sweeps at page) is = below_on at is
   in_table_on (Restarts at) is = below_on at is
   in_table_on (Scans scan) is = subst (λ n. scan.at ≤ n) (sym same.0) is
-  in_table_on (Marks scan ids) is = tt
+  in_table_on _ is = tt
 
 -- a judgement stays at its index
 pub judge_at : (w : IndexView) (old new : TableScan) → JudgeStep w old new → new.at ≡ old.at
 judge_at w old _ (JudgeMap x empty named) = λ i. old.at
-judge_at w old _ (JudgeNoEntry empty none) = λ i. old.at
-judge_at w old _ (JudgeGone x held gone) = λ i. old.at
-judge_at w old _ (JudgeKeeps x t held stands keeps) = λ i. old.at
-judge_at w old _ (JudgeDrops x t candidate held stands drops excludes others) = λ i. old.at
+judge_at w old _ _ = λ i. old.at
 
 -- a statement of this sort stays at its phases
 phase_begins : (job : Job) → IsPhaseOf job (NotBuilding Empty)
 phase_begins (EachRange extent) = tt
-phase_begins (OneRange extent only) = tt
-phase_begins (WholeRanges extent) = tt
-phase_begins (Desummarising only) = tt
+phase_begins _ = tt
 
 abbrev IsPhaseIn : Job → Statement → Type 0
 IsPhaseIn job (Maintaining range phase) = IsPhaseOf job phase
@@ -73,38 +63,20 @@ IsPhaseIn job statement = Unit
 
 phase_on : (job : Job) (s range : ℕ) (w v : IndexView) (old : Phase) (new : Statement) → JobStep job s range w v old new → IsPhaseIn job new
 phase_on (EachRange extent) s range w v old (Maintaining m phase) step = tt
-phase_on (EachRange extent) s range w v old Idle step = tt
-phase_on (EachRange extent) s range w v old (Inserting b k r on_index) step = tt
-phase_on (EachRange extent) s range w v old Holding step = tt
-phase_on (EachRange extent) s range w v old (Scanning scan) step = tt
+phase_on (EachRange extent) s range w v old _ step = tt
 phase_on (OneRange extent only) s range w v old (Maintaining m phase) step = tt
-phase_on (OneRange extent only) s range w v old Idle step = tt
-phase_on (OneRange extent only) s range w v old (Inserting b k r on_index) step = tt
-phase_on (OneRange extent only) s range w v old Holding step = tt
-phase_on (OneRange extent only) s range w v old (Scanning scan) step = tt
+phase_on (OneRange extent only) s range w v old _ step = tt
 phase_on (WholeRanges extent) s range w v old (Maintaining m phase) step = tt
-phase_on (WholeRanges extent) s range w v old Idle step = tt
-phase_on (WholeRanges extent) s range w v old (Inserting b k r on_index) step = tt
-phase_on (WholeRanges extent) s range w v old Holding step = tt
-phase_on (WholeRanges extent) s range w v old (Scanning scan) step = tt
+phase_on (WholeRanges extent) s range w v old _ step = tt
 phase_on (Desummarising only) s range w v _ _ (ClearMap x named reads) = tt
-phase_on (Desummarising only) s range w v _ _ (ClearNone none reads) = tt
-phase_on (Desummarising only) s range w v _ _ (Clear x verdict clears these) = tt
-phase_on (Desummarising only) s range w v _ _ (ClearAgain x verdict reads) = tt
-phase_on (Desummarising only) s range w v _ _ (DropCleared x drops) = tt
-
-self : (n : ℕ) → n ≤ n
-self n = omega arith
-
-least : (n : ℕ) → 0 ≤ n
-least n = omega arith
+phase_on (Desummarising only) s range w v _ _ _ = tt
 
 begins_inside : (w : TableState) (first : Task) → BeginsWith w first → IsInTable w first
-begins_inside w _ (Summarize at below) = (below, self w.blocks)
-begins_inside w _ (SummarizeOne at only below) = (below, self w.blocks)
-begins_inside w _ (Work at only below) = (below, self w.blocks)
+begins_inside w _ (Summarize at below) = (below, le_refl w.blocks)
+begins_inside w _ (SummarizeOne at only below) = (below, le_refl w.blocks)
+begins_inside w _ (Work at only below) = (below, le_refl w.blocks)
 begins_inside w _ (Desummarize at only below) = (below, tt)
-begins_inside w _ Vacuum = self w.blocks
+begins_inside w _ Vacuum = le_refl w.blocks
 
 abbrev AllInside : TableState → Type 0
 AllInside w = (s : ℕ) → IsInTable w (w.task s)
@@ -116,18 +88,12 @@ module _ (s : ℕ) (w v : TableState) (kept : AllInside w) where
   now_in : (task : Task) → v.task s ≡ task → IsInTable w task → IsInTable w (v.task s)
   now_in task is inside = subst (IsInTable w) (sym is) inside
 
-  below_suc : (a b : ℕ) → a < b → suc a ≤ b
-  below_suc a b less = omega arith
-
-  weaker : (a b : ℕ) → a < b → a ≤ b
-  weaker a b less = omega arith
-
   own_inside : Does s w v → IsInTable w (v.task s)
-  own_inside (PutsRow b k r place turns takes) = now_in _ turns.now (least w.indexes)
+  own_inside (PutsRow b k r place turns takes) = now_in _ turns.now (omega arith)
   own_inside (RefusesRow t refused turns fails) = now_in Resting turns.now tt
   own_inside (AsksSummary b k r at turns only) = now_in _ turns.now (was_in _ turns.was)
   own_inside (InsertGoes b k r at old new turns stepped step) = now_in _ turns.now (was_in _ turns.was)
-  own_inside (InsertCompletes b k r at old turns stepped step) = now_in _ turns.now (below_suc at w.indexes (was_in _ turns.was))
+  own_inside (InsertCompletes b k r at old turns stepped step) = now_in _ turns.now (was_in _ turns.was)
   own_inside (RefusesInsert b k r old refused turns fails) = now_in Resting turns.now tt
   own_inside (TakesLock first begins turns free held rows indexes) = now_in first turns.now (begins_inside w first begins)
   own_inside (MaintainGoes job at range old new turns stepped step) =
@@ -140,10 +106,10 @@ module _ (s : ℕ) (w v : TableState) (kept : AllInside w) where
   own_inside (RefusesVacuum old vacuuming turns given rows indexes) = now_in Resting turns.now tt
   own_inside (PrunesBlock extent next dropped inside spared turns drops) = now_in _ turns.now (was_in _ turns.was)
   own_inside (SweepsPage at page turns stepped sweeps) = now_in _ turns.now tt
-  own_inside (RestartsIndex at turns only) = now_in _ turns.now (was_in (Restarts at) turns.was, self w.blocks)
-  own_inside (BeginsScan scan begins turns only) = now_in (Scans scan) turns.now (subst (λ n. n ≤ w.indexes) (sym begins.at) (least w.indexes))
+  own_inside (RestartsIndex at turns only) = now_in _ turns.now (was_in (Restarts at) turns.was, le_refl w.blocks)
+  own_inside (BeginsScan scan begins turns only) = now_in (Scans scan) turns.now (subst (λ n. n ≤ w.indexes) (sym begins.at) (omega arith))
   own_inside (Judges old new inside low step turns only) =
-      now_in (Scans new) turns.now (subst (λ n. n ≤ w.indexes) (sym (judge_at (index_view_at old.at w) old new step)) (weaker old.at w.indexes inside))
+      now_in (Scans new) turns.now (subst (λ n. n ≤ w.indexes) (sym (judge_at (index_view_at old.at w) old new step)) (le_of_lt inside))
   own_inside (ReadsBlock scan next found reads turns only) = now_in _ turns.now (was_in (Scans scan) turns.was)
   own_inside (RefusesScan scan t turns how) = now_in Resting turns.now tt
   own_inside (MarksRow scan id rest turns only) = now_in _ turns.now tt
@@ -166,17 +132,14 @@ module _ (s : ℕ) (w v : TableState) (kept : AllInside w) where
   onward_inside _ _ (Stays task has) is = is
   onward_inside _ _ (ToAsk b k r at inside asks) is = inside
   onward_inside _ _ (ToIndex b k r at inside not) is = inside
-  onward_inside _ _ (Inserted b k r at all) is = tt
   onward_inside _ _ (ToRange job at range has) is = (is.0, is.1, has, phase_begins job)
   onward_inside _ _ (NextIndex extent at range done inside) is = inside
   onward_inside _ _ (Pruned extent next new all more) is = onward_inside (SweepsFrom 0 0) new more tt
   onward_inside _ _ (ToPage at from m p next) is = next.has.0
   onward_inside _ _ (Swept at from none some) is = some
   onward_inside _ _ (JudgesNext scan new inside all empty more) is =
-      onward_inside (Scans (record scan { at = suc scan.at; range = 0 })) new more (below_suc scan.at w.indexes inside)
-  onward_inside _ _ (Scanned scan read nothing) is = tt
-  onward_inside _ _ (ToMarks scan id rest read reads deletes lists) is = tt
-  onward_inside _ _ (Marked scan) is = tt
+      onward_inside (Scans (record scan { at = suc scan.at; range = 0 })) new more inside
+  onward_inside _ _ _ is = tt
 
   pub settles_inside : Settles s w v → AllInside v
   settles_inside settles = by settles

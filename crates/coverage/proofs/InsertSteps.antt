@@ -1,5 +1,5 @@
 -- What a step of an insert leaves.
-use Rattle.std.proofs.Common.{◌≡◌, ◌≢◌, ◌⊎◌, inl, inr, ⊎_elim, ℕ, ◌/◌, Some, Bool, sym, ◌∙◌, ap, subst}
+use Rattle.std.proofs.Common.{◌≡◌, ◌≢◌, ◌⊎◌, inl, inr, ⊎_elim, ℕ, ◌/◌, Some, Bool, sym, ◌∙◌, ap, subst, arith}
 use Rattle.std.specs.Prelude.{refl, IsTrue}
 use Rattle.std.proofs.lemmas.Option.{same_Some, none-some}
 use Rattle.std.proofs.lemmas.Bool.{false≢true}
@@ -10,7 +10,7 @@ use Rattle.coverage.specs.IsSettled.{IsAccounted}
 use Rattle.coverage.specs.IsSound.{IsSound}
 use Rattle.coverage.specs.GoesOn.{GoesOn}
 use Rattle.coverage.specs.Changes.{SameHeap, Carries}
-use Rattle.coverage.specs.Statements.{OnIndex, Empty, Held, Copied, Moving, Dropping, Statement, Idle, Inserting, Maintaining, Holding, Scanning, IsAdded}
+use Rattle.coverage.specs.Statements.{OnIndex, Empty, Held, Copied, Moving, Dropping, Statement, Idle, Inserting, IsAdded}
 use Rattle.coverage.specs.Knowing.{LocksNone, KnowsOnIndex, SettledBy, Knows}
 use Rattle.coverage.specs.IsCovered.{IndexState, index_view}
 use Rattle.coverage.specs.Steps.{OnIndexStep, Maps, Gone, Again, MovePut, InsertStep, InsertOnIndex, InsertNoEntry, InsertCopies, InsertUnchanged, InsertSwap}
@@ -21,11 +21,8 @@ use Rattle.coverage.proofs.OnIndexSteps.{never, Both, may_end, looks_both, drop_
 
 -- an insert that is done has its row settled, if that still counts
 abbrev pub SettledOrOn : IndexView → (ℕ → Bool) → Statement → Statement → Type 0
-SettledOrOn v counts Idle new = Unit
 SettledOrOn v counts (Inserting b k r on_index) new = IsTrue (counts r.id.t) → IsAccounted v b r ⊎ ((g : OnIndex) × (new ≡ Inserting b k r g))
-SettledOrOn v counts (Maintaining range phase) new = Unit
-SettledOrOn v counts Holding new = Unit
-SettledOrOn v counts (Scanning scan) new = Unit
+SettledOrOn v counts _ new = Unit
 
 pub record Outcome (s : ℕ) (dropped : ℕ → ℕ → Bool) (w v : IndexState) (old new : Statement) : Type 0 where
   pub sound : IsSound (index_view v)
@@ -35,19 +32,14 @@ pub record Outcome (s : ℕ) (dropped : ℕ → ℕ → Bool) (w v : IndexState)
 
 on_index_unsettled : (s range b : ℕ) (r : Row) (w v u : IndexView) (h g : OnIndex) → OnIndexStep s range w v h g → SettledBy u b r g
 on_index_unsettled s range b r w v u _ _ (Maps x named reads) = tt
-on_index_unsettled s range b r w v u _ _ (Gone x gone reads) = tt
-on_index_unsettled s range b r w v u _ _ (Again x old new verdict reads) = tt
-on_index_unsettled s range b r w v u _ _ (MovePut x y old new verdict puts these) = tt
+on_index_unsettled s range b r w v u _ _ _ = tt
 
 -- no row and not the holder of the summarise lock changes
 abbrev pub KeepsHeapAndLock : IndexView → IndexView → Type 0
 KeepsHeapAndLock w v = SameHeap w v × (v.summarise_lock ≡ w.summarise_lock)
 
 pub on_index_keeps : (s range : ℕ) (w v : IndexView) (h g : OnIndex) → OnIndexStep s range w v h g → KeepsHeapAndLock w v
-on_index_keeps s range w v _ _ (Maps x named reads) = (reads.frame.heap, reads.frame.summarise_lock)
-on_index_keeps s range w v _ _ (Gone x gone reads) = (reads.frame.heap, reads.frame.summarise_lock)
-on_index_keeps s range w v _ _ (Again x old new verdict reads) = (reads.frame.heap, reads.frame.summarise_lock)
-on_index_keeps s range w v _ _ (MovePut x y old new verdict puts these) = (puts.frame.heap, puts.frame.summarise_lock)
+on_index_keeps s range w v old new step = grind arith
 
 pub same_heap_range : (w v : IndexView) (b : ℕ) → v.pages_per_range ≡ w.pages_per_range → range_of_block v b ≡ range_of_block w b
 same_heap_range w v b same = ap (λ m. b / m) same

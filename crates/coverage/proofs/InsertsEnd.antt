@@ -5,7 +5,7 @@ use Rattle.block_model.specs.declared.place.Spot.{Spot}
 use Rattle.coverage.specs.IndexView.{IndexTuple, IndexView, range_of_block}
 use Rattle.coverage.specs.Verdicts.{Differs, SwapVerdict}
 use Rattle.coverage.specs.Statements.{OnIndex, Empty, Held, Copied, Moving, Dropping, Statement, Inserting}
-use Rattle.coverage.specs.Steps.{ReadsIndex, IsGone, Stands, OnIndexStep, Maps, Gone, Again, MovePut, InsertStep, InsertOnIndex, InsertNoEntry, InsertCopies, InsertUnchanged, InsertSwap, InsertSet, InsertDrop}
+use Rattle.coverage.specs.Steps.{ReadsIndex, IsGone, Stands, OnIndexStep, Maps, Gone, Again, MovePut, InsertStep, InsertOnIndex, InsertCopies, InsertSet}
 use Rattle.coverage.specs.Stuck.{InsertsAlone, LastStep, OneMore, AreNamed}
 use Rattle.coverage.proofs.Verdicts.{swap_differs}
 
@@ -36,12 +36,9 @@ IsGoingOn statement = ⊥
 insert_goes : (s b k : ℕ) (r : Row) (w v : IndexView) (g : OnIndex) (e : Statement) → InsertStep s b k r w v g e → IsGoingOn e
     → GoesTo s (range_of_block w b) w v g (on_index_of e)
 insert_goes s b k r w v _ _ (InsertOnIndex old new step) going = on_index_goes s (range_of_block w b) w v old new step
-insert_goes s b k r w v _ _ (InsertNoEntry none reads) going = absurd going
-insert_goes s b k r w v _ _ (InsertUnchanged x t stands added free reads) going = absurd going
-insert_goes s b k r w v _ _ (InsertSwap x old new verdict swap) going = absurd going
-insert_goes s b k r w v _ _ (InsertDrop x drops) going = absurd going
 insert_goes s b k r w v _ _ (InsertCopies x old new stands added changes reads) going = ToCopy x old new stands reads
 insert_goes s b k r w v _ _ (InsertSet x y old new sets same) going = ToDrop x y old new
+insert_goes s b k r w v _ _ _ going = absurd going
 
 named_on : (s : ℕ) (w v : IndexView) → ReadsIndex s w v → AreNamed w → AreNamed v
 named_on s w v reads named range x is =

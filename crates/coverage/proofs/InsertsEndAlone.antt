@@ -5,13 +5,12 @@ use Rattle.block_model.specs.declared.row.Row.{Row}
 use Rattle.coverage.specs.Statements.{OnIndex, Empty, Idle, Inserting, building_of, loose_of}
 use Rattle.coverage.specs.Stuck.{InsertsAlone, LastStep, OneMore, AreNamed}
 use Rattle.coverage.proofs.InsertsEnd.{insert_bound, begun_bound}
-use Rattle.coverage.specs.Table.{Index, Task, Resting, Reaches, Asks, Inserts, Considers, Maintains, Prunes, SweepsFrom, Sweeps, Restarts, Scans, Marks}
-use Rattle.coverage.specs.Table.{TableState, seen_by, index_view_at}
+use Rattle.coverage.specs.Table.{Index, Task, Resting, Reaches, Asks, Inserts, TableState, seen_by, index_view_at}
 use Rattle.coverage.specs.TableSteps.{OnlyTurns, Onward, Stays, ToAsk, ToIndex, Inserted, IsMaintained, Settles, GoesOn, GivesLock, TableStep}
 use Rattle.coverage.specs.GoingOn.{IsInserting, StepsAlone, LastAlone, OneMoreAlone}
 use Rattle.coverage.specs.TableCovered.{IsInTable, IsTableKept}
 use Rattle.coverage.proofs.TableSettled.{does_layout, settles_layout}
-use Rattle.coverage.proofs.StepDid.{Did, DidBegin, DidAsk, DidInsert, DidComplete, DidMaintain, DidRange, DidPrune, DidSweep, DidRestart, DidJudge, DidRead, DidMark, step_did}
+use Rattle.coverage.proofs.StepDid.{Did, DidAsk, DidInsert, DidComplete, step_did}
 use Rattle.coverage.proofs.TableSeen.{table_step_kept}
 
 -- where it comes by that
@@ -57,10 +56,7 @@ module _ (s : ℕ) (u v : TableState) (b k : ℕ) (r : Row) (at : ℕ) where
       by (GoesOn old new onward turns only) =
           let same : new ≡ Inserts b k r at h = insert_onward u b k r at h new (subst (λ t. Onward u t new) (sym turns.was ∙ is) onward) in (
             turns.now ∙ same,
-            same_view at u v only (λ n. ⊎_elim
-                (λ (here : n ≡ s). ap v.task here ∙ turns.now ∙ same ∙ sym is ∙ ap u.task (sym here))
-                (λ (e : v.task n ≡ u.task n). e)
-                (turns.others n)),
+            same_view at u v only (λ n. elim (turns.others n) [ inl here ↦ ap v.task here ∙ turns.now ∙ same ∙ sym is ∙ ap u.task (sym here) | inr e ↦ e ]),
           )
       by (GivesLock old done turns given rows indexes) =
           absurd (insert_unmaintained u b k r at h (subst (IsMaintained u) (sym turns.was ∙ is) done))
@@ -88,9 +84,6 @@ Within s n w task = Unit
 one_left : (a n : ℕ) → a < n → 1 + 6 * a ≤ 6 * n
 one_left a n less = omega arith
 
-none_left : (a n : ℕ) → a < n → 0 + 6 * suc a ≤ 6 * n
-none_left a n less = omega arith
-
 named_at : (w : TableState) (at : ℕ) → IsTableKept w → at < w.indexes → AreNamed (index_view_at at w)
 named_at w at kept below range x is = (kept.indexes at below).sound.entries_name_tuples range x is
 
@@ -102,18 +95,10 @@ module _ (s : ℕ) where
     last_within : (task new : Task) → Did s w u task new → IsInTable w task → Within s 1 w task
     last_within _ _ (DidAsk b k r at) below = one_left at w.indexes below
     last_within _ _ (DidInsert b k r at g h done) below =
-        (1, 0, LastStep (index_view_at at w) (index_view_at at u) g (Inserting b k r h) done, refl, none_left at w.indexes below)
+        (1, 0, LastStep (index_view_at at w) (index_view_at at u) g (Inserting b k r h) done, refl, omega arith)
     last_within _ _ (DidComplete b k r at g done) below =
-        (1, 0, LastStep (index_view_at at w) (index_view_at at u) g Idle done, refl, none_left at w.indexes below)
-    last_within _ _ (DidBegin new) below = tt
-    last_within _ _ (DidMaintain job at range old new stepped done) below = tt
-    last_within _ _ (DidRange job at range old stepped done) below = tt
-    last_within _ _ (DidPrune extent next dropped inside drops) below = tt
-    last_within _ _ (DidSweep at page stepped sweeps) below = tt
-    last_within _ _ (DidRestart at only) below = tt
-    last_within _ _ (DidJudge old new inside low judge only) below = tt
-    last_within _ _ (DidRead scan next found reads only) below = tt
-    last_within _ _ (DidMark scan id rest only) below = tt
+        (1, 0, LastStep (index_view_at at w) (index_view_at at u) g Idle done, refl, omega arith)
+    last_within _ _ _ below = tt
 
     same_indexes : v.indexes ≡ w.indexes
     same_indexes = settles_layout s u v step.settles ∙ does_layout s w u step.does
@@ -123,15 +108,6 @@ module _ (s : ℕ) where
 
     ask_left : (n m j a i : ℕ) → n ≡ m + j → m ≤ 5 → j + 6 * suc a ≤ 6 * i → suc n + 6 * a ≤ 6 * i
     ask_left n m j a i is le more = omega arith
-
-    begun_left : (n m j a i : ℕ) → n ≡ m + j → m ≤ 5 → j + 6 * suc a ≤ 6 * i → n + 6 * a ≤ 6 * i
-    begun_left n m j a i is le more = omega arith
-
-    go_left : (n m j : ℕ) → n ≡ m + j → suc n ≡ suc m + j
-    go_left n m j is = omega arith
-
-    one_more : (n : ℕ) → suc n ≡ 1 + n
-    one_more n = omega arith
 
     next_within : (n : ℕ) → IsTableKept v → (v.task s ≡ Resting → ⊥) → Within s n v (v.task s) → (task new : Task) → Did s w u task new → u.task s ≡ new
         → IsInTable w task → Within s (suc n) w task
@@ -147,14 +123,14 @@ module _ (s : ℕ) where
           suc left.0,
           left.1,
           OneMore left.0 (index_view_at at w) (index_view_at at u) g h done (subst (λ z. InsertsAlone s b k r left.0 z h) stays.1 left.2),
-          go_left n left.0 left.1 left.3,
+          omega (arith, left.3),
           subst (λ i. left.1 + 6 * suc at ≤ 6 * i) same_indexes left.4,
         )
     next_within n kept_v going more _ _ (DidComplete b k r at g done) is below = (
       1,
       n,
       LastStep (index_view_at at w) (index_view_at at u) g Idle done,
-      one_more n,
+      omega arith,
       ⊎_elim
           (λ (asks : v.task s ≡ Asks b k r (suc at)).
           subst (λ i. n + 6 * suc at ≤ 6 * i) same_indexes (subst (Within s n v) asks more))
@@ -163,21 +139,12 @@ module _ (s : ℕ) where
           let left = subst (Within s n v) inserts more in
           let inside : suc at < v.indexes = subst (IsInTable v) inserts (kept_v.inside s) in
           subst (λ i. n + 6 * suc at ≤ 6 * i) same_indexes
-          (begun_left n left.0 left.1 (suc at) v.indexes left.3
-          (begun_bound s b k r left.0 (index_view_at (suc at) v) (named_at v (suc at) kept_v inside) left.2) left.4))
+          (omega (arith, left.3, begun_bound s b k r left.0 (index_view_at (suc at) v) (named_at v (suc at) kept_v inside) left.2, left.4)))
           (λ (rests : v.task s ≡ Resting). absurd (going rests))
           other)
           (settle_reaches s u v b k r (suc at) step.settles is),
     )
-    next_within n kept_v going more _ _ (DidBegin new) is below = tt
-    next_within n kept_v going more _ _ (DidMaintain job at range old new stepped done) is below = tt
-    next_within n kept_v going more _ _ (DidRange job at range old stepped done) is below = tt
-    next_within n kept_v going more _ _ (DidPrune extent next dropped inside drops) is below = tt
-    next_within n kept_v going more _ _ (DidSweep at page stepped sweeps) is below = tt
-    next_within n kept_v going more _ _ (DidRestart at only) is below = tt
-    next_within n kept_v going more _ _ (DidJudge old new inside low judge only) is below = tt
-    next_within n kept_v going more _ _ (DidRead scan next found reads only) is below = tt
-    next_within n kept_v going more _ _ (DidMark scan id rest only) is below = tt
+    next_within n kept_v going more _ _ _ is below = tt
 
   within : (n : ℕ) (w : TableState) → StepsAlone s n w → IsTableKept w → Within s n w (w.task s)
   within _ _ (LastAlone w v step p point) kept =
@@ -193,31 +160,14 @@ module _ (s : ℕ) where
       ask_bound : (n a i : ℕ) → n + 6 * a ≤ 6 * i → n ≤ 6 * i
       ask_bound n a i le = omega arith
 
-      index_bound : (n m j a i : ℕ) → n ≡ m + j → m ≤ 6 → j + 6 * suc a ≤ 6 * i → n ≤ 6 * i
-      index_bound n m j a i is le more = omega arith
-
       by : (task : Task) → w.task s ≡ task → IsInserting task → Within s n w task → n ≤ 6 * w.indexes
       by (Asks b k r at) is it le = ask_bound n at w.indexes le
       by (Inserts b k r at g) is it left =
           let below : at < w.indexes = subst (IsInTable w) is (kept.inside s) in
-          index_bound n left.0 left.1 at w.indexes left.3
-          (insert_bound s b k r left.0 (index_view_at at w) g (named_at w at kept below) left.2) left.4
-      by Resting is it left = absurd it
-      by (Reaches b k r at) is it left = absurd it
-      by (Considers job at range) is it left = absurd it
-      by (Maintains job at range phase) is it left = absurd it
-      by (Prunes extent next) is it left = absurd it
-      by (SweepsFrom at from) is it left = absurd it
-      by (Sweeps at page) is it left = absurd it
-      by (Restarts at) is it left = absurd it
-      by (Scans scan) is it left = absurd it
-      by (Marks scan ids) is it left = absurd it
+          omega (arith, left.3, insert_bound s b k r left.0 (index_view_at at w) g (named_at w at kept below) left.2, left.4)
+      by _ is it left = absurd it
 
   -- with the step that puts its row it is one more
   pub begun_within : (n : ℕ) (w v : TableState) → TableStep s w v → IsTableKept w → IsInserting (v.task s) → StepsAlone s n v → suc n ≤ 1 + 6 * w.indexes
   begun_within n w v step kept inserting alone =
-      one_more_le n (6 * w.indexes)
-      (subst (λ i. n ≤ 6 * i) (same_indexes w v step kept) (insert_within n v (table_step_kept s w v kept step) inserting alone))
-    where
-      one_more_le : (a b : ℕ) → a ≤ b → suc a ≤ 1 + b
-      one_more_le a b le = omega arith
+      omega (arith, subst (λ i. n ≤ 6 * i) (same_indexes w v step kept) (insert_within n v (table_step_kept s w v kept step) inserting alone))

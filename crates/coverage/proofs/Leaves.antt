@@ -1,11 +1,12 @@
 -- What a table's step leaves to other sessions.
 use Rattle.std.proofs.Common.{◌≡◌, ◌≢◌, ◌⊎◌, inl, inr, ⊎_elim, ℕ, ◌+◌, ◌≤◌, ◌<◌, max, Some, true, false, sym, ◌∙◌, ap, subst, arith, rules}
+use Rattle.std.proofs.Math.Nat.{le_refl}
 use Rattle.block_model.specs.declared.row.Row.{Row}
 use Rattle.coverage.specs.Table.{Task, Resting, TableState}
-use Rattle.coverage.specs.TableSteps.{TaskTurns, OnlyTurns, SeesPlace, Fails, Does, PutsRow, RefusesRow, AsksSummary, InsertGoes}
-use Rattle.coverage.specs.TableSteps.{InsertCompletes, RefusesInsert, TakesLock, MaintainGoes, MaintainCompletes, RefusesMaintain, RefusesVacuum}
-use Rattle.coverage.specs.TableSteps.{PrunesBlock, SweepsPage, RestartsIndex, BeginsScan, Judges, ReadsBlock, RefusesScan, MarksRow, Conflicts, Blocked}
-use Rattle.coverage.specs.TableSteps.{Transacts, Settles, GoesOn, GivesLock}
+use Rattle.coverage.specs.TableSteps.{TaskTurns, OnlyTurns, SeesPlace, Fails, Does, PutsRow, RefusesRow, AsksSummary, InsertGoes, InsertCompletes}
+use Rattle.coverage.specs.TableSteps.{RefusesInsert, TakesLock, MaintainGoes, MaintainCompletes, RefusesMaintain, RefusesVacuum, PrunesBlock, SweepsPage}
+use Rattle.coverage.specs.TableSteps.{RestartsIndex, BeginsScan, Judges, ReadsBlock, RefusesScan, MarksRow, Conflicts, Blocked, Transacts, Settles, GoesOn}
+use Rattle.coverage.specs.TableSteps.{GivesLock}
 
 -- what a step leaves to the scans of others
 pub record Leaves (s : ℕ) (w v : TableState) : Type 0 where
@@ -18,29 +19,20 @@ same_leaves : (s : ℕ) (w v : TableState) (old new : Task) → TaskTurns s w v 
 same_leaves s w v old new turns rows blocks = record {
   others = turns.others;
   rows = λ n b k r other there sees. rows b k ∙ there;
-  blocks = subst (λ m. w.blocks ≤ m) (sym blocks) (self w.blocks);
+  blocks = subst (λ m. w.blocks ≤ m) (sym blocks) (le_refl w.blocks);
   from = λ b k r there. inl (sym (rows b k) ∙ there);
 }
-  where
-    self : (n : ℕ) → n ≤ n
-    self n = omega arith
 
 pub does_leaves : (s : ℕ) (w v : TableState) → Does s w v → Leaves s w v
 does_leaves s w v (PutsRow b k r place turns takes) = record {
   others = turns.others;
   rows = search rules;
-  blocks = subst (λ m. w.blocks ≤ m) (sym takes.blocks) (grown w.blocks b);
+  blocks = subst (λ m. w.blocks ≤ m) (sym takes.blocks) (omega arith);
   from = λ c j q there. ⊎_elim
-      (λ (at : (c ≡ b) × (j ≡ k)). inr (subst (λ m. c < m) (sym takes.blocks) (subst (λ m. m < max w.blocks (b + 1)) (sym at.0) (inside w.blocks b))))
+      (λ (at : (c ≡ b) × (j ≡ k)). inr (subst (λ m. c < m) (sym takes.blocks) (subst (λ m. m < max w.blocks (b + 1)) (sym at.0) (omega arith))))
       (λ (same : v.row c j ≡ w.row c j). inl (sym same ∙ there))
       (takes.others c j);
 }
-  where
-    grown : (n b : ℕ) → n ≤ max n (b + 1)
-    grown n b = omega arith
-
-    inside : (n b : ℕ) → b < max n (b + 1)
-    inside n b = omega arith
 does_leaves s w v (RefusesRow t refused turns fails) = same_leaves s w v _ _ turns fails.row fails.blocks
 does_leaves s w v (AsksSummary b k r at turns only) = same_leaves s w v _ _ turns only.rows.row only.rows.blocks
 does_leaves s w v (InsertGoes b k r at old new turns stepped step) = same_leaves s w v _ _ turns stepped.rows.row stepped.rows.blocks
@@ -54,12 +46,9 @@ does_leaves s w v (RefusesVacuum old vacuuming turns given rows indexes) = same_
 does_leaves s w v (PrunesBlock extent next dropped inside spared turns drops) = record {
   others = turns.others;
   rows = search rules;
-  blocks = subst (λ m. w.blocks ≤ m) (sym drops.blocks) (self w.blocks);
+  blocks = subst (λ m. w.blocks ≤ m) (sym drops.blocks) (le_refl w.blocks);
   from = search rules;
 }
-  where
-    self : (n : ℕ) → n ≤ n
-    self n = omega arith
 does_leaves s w v (SweepsPage at page turns stepped sweeps) = same_leaves s w v _ _ turns stepped.rows.row stepped.rows.blocks
 does_leaves s w v (RestartsIndex at turns only) = same_leaves s w v _ _ turns only.rows.row only.rows.blocks
 does_leaves s w v (BeginsScan scan begins turns only) = same_leaves s w v _ _ turns only.rows.row only.rows.blocks

@@ -75,5 +75,6 @@ pub mod PlacesCounted
 pub mod SummariseLeft
 pub mod SummariseEnds
 pub mod VacuumEnds
+pub mod SmallTable
 pub mod AskRun
 pub mod RangesCounted

@@ -9,8 +9,7 @@ use Rattle.coverage.specs.PageOrder.{KnowsPages}
 use Rattle.coverage.specs.Table.{Index, Job, Task, Inserts, Maintains, TableState, inserting_of, seen_by, index_view_at}
 use Rattle.coverage.specs.TableSteps.{TaskTurns, StepsIn, InsertGoes, MaintainGoes, GoesOn, Stays}
 use Rattle.coverage.specs.TableCovered.{IsTableKept}
-use Rattle.coverage.specs.Machines.{ShownIndex, ShownTable, Unseen, table_state, task_turned, MachineSteps, ChangesIndex, InsertStepsIn}
-use Rattle.coverage.specs.Machines.{MaintainStepsIn}
+use Rattle.coverage.specs.Machines.{ShownIndex, ShownTable, Unseen, table_state, task_turned, MachineSteps, ChangesIndex, InsertStepsIn, MaintainStepsIn}
 use Rattle.coverage.proofs.Views.{pick_same, pick_there, on_index_here}
 
 abbrev unnamed_as : Unseen → (ℕ → Spot → Bool) → Unseen
@@ -50,10 +49,7 @@ module _ (s at : ℕ) (old new : ShownTable) (changes : ChangesIndex at old new)
     };
     others = λ i. ⊎_elim
         (λ (is : i ≡ at). inl is)
-        (λ (same : new.index i ≡ old.index i). ⊎_elim
-        (λ (is : i ≡ at). inl is)
-        (λ (same' : unnamed i ≡ u.unnamed i). inr (λ j. index_with (same j) (same' j)))
-        (apart i))
+        (λ (same : new.index i ≡ old.index i). elim (apart i) [ inl is ↦ inl is | inr same' ↦ inr (λ j. index_with (same j) (same' j)) ])
         (changes.others i);
     autosummarize = changes.autosummarize;
   }

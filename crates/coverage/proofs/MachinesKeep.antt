@@ -33,10 +33,7 @@ ends_keep s old new before u step is kept =
             now = pick_same s Resting (u.task s);
             others = λ n. ⊎_elim
                 (λ (at : n ≡ s). inl at)
-                (λ (e : pick n s Resting (u.task n) ≡ u.task n). ⊎_elim
-                (λ (at : n ≡ s). inl at)
-                (λ (e' : pick n s end.0 (u.task n) ≡ u.task n). inr (e ∙ sym e'))
-                (pick_there n s end.0 (u.task n)))
+                (λ (e : pick n s Resting (u.task n) ≡ u.task n). elim (pick_there n s end.0 (u.task n)) [ inl at ↦ inl at | inr e' ↦ inr (e ∙ sym e') ])
                 (pick_there n s Resting (u.task n));
           })
           refl

@@ -11,10 +11,10 @@ use Rattle.coverage.specs.Statements.{OnIndex, Empty, Held, Copied, Moving, Drop
 use Rattle.coverage.specs.Statements.{Maintaining, Holding, IsUnited, loose_at, loose_of, building_at, building_of}
 use Rattle.coverage.specs.Knowing.{LocksNone, MakesUnited, MakesNone, MakesSame, IsResultFormed, KnowsPhase, Knows}
 use Rattle.coverage.specs.IsCovered.{IndexState, index_view}
-use Rattle.coverage.specs.Steps.{PutsTuple, SetsEntry, ClearsEntry, IsUnnamed, SweepsTuples, GrowthStep, Grow, CountLeftOver, Count, Flag}
-use Rattle.coverage.specs.Steps.{EvacuatePut, EvacuateSet, EvacuateDrop, EvacuateSweep, Turn, SummariseStep, LookMap, LookGone, IsFinal, Found, ReadNoEntry}
-use Rattle.coverage.specs.Steps.{GrowMap, Put, Set, Extent, Pass, Unite, UniteCopies, SwapFinal, SetFinal, DropOld, DesummariseStep, ClearMap, ClearNone, Clear}
-use Rattle.coverage.specs.Steps.{ClearAgain, DropCleared, MaintainStep, Summarises, Desummarises, Turned}
+use Rattle.coverage.specs.Steps.{PutsTuple, SetsEntry, ClearsEntry, IsUnnamed, SweepsTuples, GrowthStep, Grow, CountLeftOver, Count, Flag, EvacuatePut}
+use Rattle.coverage.specs.Steps.{EvacuateSet, EvacuateDrop, EvacuateSweep, Turn, SummariseStep, LookMap, LookGone, IsFinal, Found, ReadNoEntry, GrowMap, Put}
+use Rattle.coverage.specs.Steps.{Set, Extent, Pass, Unite, UniteCopies, SwapFinal, SetFinal, DropOld, DesummariseStep, ClearMap, ClearNone, Clear, ClearAgain}
+use Rattle.coverage.specs.Steps.{DropCleared, MaintainStep, Summarises, Desummarises, Turned}
 use Rattle.coverage.proofs.Sound.{places_sound, names_sound, turn_sound, clears_sound, sweeps_sound}
 use Rattle.coverage.proofs.RowsAdded.{rows_formed, rows_wider, rows_has}
 use Rattle.coverage.proofs.Formed.{range_of_on, no_less, named_formed, held_formed, its_range}
@@ -235,10 +235,7 @@ module _ (s range : ℕ) (w v : IndexState) (sound : IsSound (index_view w)) (su
         (
           sets.frame.summarise_lock ∙ summarise_lock,
           (
-            ⊎_elim
-                (λ (at : range ≡ m). absurd (none-some _ (sym known.0 ∙ ap w.entry at ∙ known.1.2)))
-                (λ (kept : v.entry range ≡ w.entry range). kept ∙ known.0)
-                (sets.entry.others range),
+            elim (sets.entry.others range) [ inl at ↦ absurd (none-some _ (sym known.0 ∙ ap w.entry at ∙ known.1.2)) | inr kept ↦ kept ∙ known.0 ],
             set_knows s w v (Maintaining range (Evacuating m (Moving x y t u))) (Maintaining range (Evacuating m (Dropping x))) turned sound m MakesSame
                 (makes_same (index_view w) s m) MakesSame m x y t u known.1 sets locked,
             range_kept sets.frame.contents sets.frame.heap known.2,

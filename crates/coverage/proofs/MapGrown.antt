@@ -8,21 +8,21 @@ use Rattle.block_model.specs.declared.place.Spot.{Spot}
 use Rattle.coverage.specs.IndexView.{IndexTuple, ExtentUnread, Unstarted, Mapping, Regular, Emptying, IsPastMap, NamesPlaceholder}
 use Rattle.coverage.specs.Statements.{Empty, Moving, Dropping, Phase, NotBuilding, Vacant, Growing, Evacuating, Placing, IsAt, Idle, Maintaining, Holding}
 use Rattle.coverage.specs.Verdicts.{OnNew, OnStarted, PutGoes}
-use Rattle.coverage.specs.IsCovered.{IndexState}
+use Rattle.coverage.specs.IsCovered.{IndexState, IsIndexKept}
 use Rattle.coverage.specs.Waiting.{Grows}
-use Rattle.coverage.specs.Steps.{Step, TakeSummariseLock, BeginRange, GrowthStep, ReadNoEntry, GrowMap, Put, Set, Count, Flag, EvacuatePut, EvacuateSet, EvacuateDrop}
-use Rattle.coverage.specs.Steps.{Turn, Run, Done, Next}
+use Rattle.coverage.specs.Steps.{Step, TakeSummariseLock, BeginRange, GrowthStep, ReadNoEntry, GrowMap, Put, Set, Count, Flag, EvacuatePut, EvacuateSet}
+use Rattle.coverage.specs.Steps.{EvacuateDrop, Turn, Run, Done, Next}
 use Rattle.coverage.proofs.ExampleTuples.{tuple_of, final_tuple}
-use Rattle.coverage.proofs.SmallIndex.{at_here, at_number, placed_others, no_tuples, place, kind_number, differ, Small, index_of, view, at_statement, put_at, set_at, drop_at, kind_at}
-use Rattle.coverage.proofs.SmallIndex.{count_at, held_by, turned, summarises, free, locks_these, nobody, reads, puts, sets, drops, turns_kind, counts_page, passes}
-use Rattle.index_layout.specs.IndexPages.{Slot, taken}
+use Rattle.coverage.proofs.SmallIndex.{at_here, at_number, no_rows, placed_others, no_tuples, place, kind_number, differ, Small, index_of, view, at_statement}
+use Rattle.coverage.proofs.SmallIndex.{put_at, set_at, drop_at, kind_at, count_at, held_by, turned, summarises, free, locks_these, nobody, reads, puts, sets}
+use Rattle.coverage.proofs.SmallIndex.{drops, turns_kind, counts_page, passes}
+use Rattle.index_layout.specs.IndexPages.{taken}
 use Rattle.index_layout.specs.IndexReading.{free_slot_of}
 use Rattle.index_layout.specs.IndexWrites.{before, room_for_further, trimmed}
-use Rattle.coverage.specs.IsCovered.{IsIndexKept}
 use Rattle.coverage.specs.Rooms.{bytes_of, first_slots, page_room}
 use Rattle.coverage.proofs.PageRooms.{no_slots}
 use Rattle.coverage.proofs.Runs.{run_kept}
-use Rattle.coverage.proofs.RangeSummarised.{no_rows, summarised, summarised_kept, range_done}
+use Rattle.coverage.proofs.RangeSummarised.{summarised, summarised_kept, range_done}
 
 abbrev pub moved_place : Spot
 moved_place = record { block = 3; slot = 0 }

@@ -1,26 +1,25 @@
 -- Of the steps that a statement could take on an index there is one point alone, and none where it is blocked: each step has the
 -- facts that fix its point, and the facts hold for one point.
-use Rattle.std.proofs.Common.{◌≡◌, ℕ, ◌≤◌, ◌<◌, Some, sym, ◌∙◌, ap, subst, arith}
+use Rattle.std.proofs.Common.{◌≡◌, ℕ, ◌≤◌, ◌<◌, Some, sym, ◌∙◌, ap, subst}
 use Rattle.std.specs.Prelude.{refl, length}
 use Rattle.std.proofs.lemmas.Option.{same_Some}
+use Rattle.std.proofs.Math.Nat.{le_antisymm, not-le_of_lt}
 use Rattle.block_model.specs.declared.reply.Point.{Point}
 use Rattle.block_model.specs.declared.reply.Point.TheVariants as points
 use Rattle.block_model.specs.declared.row.Row.{Row}
 use Rattle.block_model.specs.declared.place.Spot.{Spot}
-use Rattle.coverage.specs.IndexView.{IndexTuple, Progress, ExtentUnread, Passing, PageKind, Unstarted, Mapping, Regular, Emptying, IndexView, placeholder_length}
-use Rattle.coverage.specs.IndexView.{range_of_block, next_map_page, IsPastMap}
+use Rattle.coverage.specs.IndexView.{IndexTuple, Progress, ExtentUnread, Passing, PageKind, Unstarted, Mapping, Regular, Emptying, IndexView}
+use Rattle.coverage.specs.IndexView.{placeholder_length, range_of_block, next_map_page, IsPastMap}
 use Rattle.coverage.specs.Changes.{IsFree}
 use Rattle.coverage.specs.Verdicts.{Verdict, Waits, Differs, Fits, Puts, PutVerdict, SwapVerdict, ClearVerdict}
 use Rattle.coverage.specs.Statements.{OnIndex, Empty, Held, Copied, Moving, Dropping, Phase, NotBuilding, Vacant, Growing, Evacuating, Placing, IsAt, Statement}
-use Rattle.coverage.specs.Steps.{IsUnnamed, OnIndexStep, Maps, Gone, Again, MovePut}
-use Rattle.coverage.specs.Waiting.{IsNextTuple, Grows}
-use Rattle.coverage.specs.Steps.{InsertStep, InsertOnIndex, InsertNoEntry, InsertCopies, InsertUnchanged, InsertSwap, InsertSet, InsertDrop}
-use Rattle.coverage.specs.Steps.{GrowthStep, Grow, CountLeftOver, Count, Flag, EvacuatePut, EvacuateSet, EvacuateDrop, EvacuateSweep, Turn}
-use Rattle.coverage.specs.Steps.{SummariseStep, LookMap, LookGone, IsFinal, Found, ReadNoEntry, GrowMap, Put, Set, Extent, Pass, Unite, UniteCopies, SwapFinal}
-use Rattle.coverage.specs.Steps.{SetFinal, DropOld}
-use Rattle.coverage.specs.Steps.{DesummariseStep, ClearMap, ClearNone, Clear, ClearAgain, DropCleared}
+use Rattle.coverage.specs.Steps.{IsUnnamed, OnIndexStep, Maps, Gone, Again, MovePut, InsertStep, InsertOnIndex, InsertNoEntry, InsertCopies, InsertUnchanged}
+use Rattle.coverage.specs.Steps.{InsertSwap, InsertSet, InsertDrop, GrowthStep, Grow, CountLeftOver, Count, Flag, EvacuatePut, EvacuateSet, EvacuateDrop}
+use Rattle.coverage.specs.Steps.{EvacuateSweep, Turn, SummariseStep, LookMap, LookGone, IsFinal, Found, ReadNoEntry, GrowMap, Put, Set, Extent, Pass, Unite}
+use Rattle.coverage.specs.Steps.{UniteCopies, SwapFinal, SetFinal, DropOld, DesummariseStep, ClearMap, ClearNone, Clear, ClearAgain, DropCleared}
+use Rattle.coverage.specs.Waiting.{IsNextTuple, Grows, IsPhaseWaiting, FinalWaits, PlaceWaits, GrowWaits, CountWaits, FlagWaits, EvacuateWaits}
+use Rattle.coverage.specs.Waiting.{EvacuatePutWaits, TurnWaits}
 use Rattle.coverage.specs.Points.{on_index_point, insert_point, growth_point, summarise_point, desummarise_point}
-use Rattle.coverage.specs.Waiting.{IsPhaseWaiting, FinalWaits, PlaceWaits, GrowWaits, CountWaits, FlagWaits, EvacuateWaits, EvacuatePutWaits, TurnWaits}
 use Rattle.coverage.proofs.Verdicts.{free_not_locked, both_free, put_once, swap_once, clear_once}
 
 -- the verdict on a step that isn't blocked
@@ -41,14 +40,11 @@ clear_point verdict = points.Clear
 pub next_once : (w : IndexView) (page : ℕ) (x y : Spot) (t u : IndexTuple) → IsNextTuple w.tuple page x t → IsNextTuple w.tuple page y u → (x ≡ y) × (t ≡ u)
 next_once w page x y t u one two = (place, same_Some _ _ (sym one.stands ∙ ap w.tuple place ∙ two.stands))
   where
-    both : (a b : ℕ) → a ≤ b → b ≤ a → a ≡ b
-    both a b le ge = omega arith
-
     block : x.block ≡ y.block
     block = one.on ∙ sym two.on
 
     slot : x.slot ≡ y.slot
-    slot = both x.slot y.slot (one.first y u two.on two.stands) (two.first x t one.on one.stands)
+    slot = le_antisymm (one.first y u two.on two.stands) (two.first x t one.on one.stands)
 
     place : x ≡ y
     place = λ i. record { block = block i; slot = slot i }
@@ -116,17 +112,15 @@ data EmptyingPoint (w : IndexView) (s : ℕ) : Point → Type 0 where
       → EmptyingPoint w s points.Turn
 
 emptying_once : (w : IndexView) (s : ℕ) (p q : Point) → EmptyingPoint w s p → EmptyingPoint w s q → p ≡ q
-emptying_once w s _ _ (NamedNext x y t next named free verdict) (NamedNext x' y' t' next' named' free' verdict') = refl
 emptying_once w s _ _ (NamedNext x y t next named free verdict) (UnnamedNext x' t' next' unnamed free') =
     absurd (named_or_not w (next_map_page w.pages) x x' t t' next next' named unnamed)
 emptying_once w s _ _ (NamedNext x y t next named free verdict) (NoneNext none free' meta) = absurd (none x t next)
 emptying_once w s _ _ (UnnamedNext x t next unnamed free) (NamedNext x' y t' next' named free' verdict) =
     absurd (named_or_not w (next_map_page w.pages) x' x t' t next' next named unnamed)
-emptying_once w s _ _ (UnnamedNext x t next unnamed free) (UnnamedNext x' t' next' unnamed' free') = refl
 emptying_once w s _ _ (UnnamedNext x t next unnamed free) (NoneNext none free' meta) = absurd (none x t next)
 emptying_once w s _ _ (NoneNext none free meta) (NamedNext x y t next named free' verdict) = absurd (none x t next)
 emptying_once w s _ _ (NoneNext none free meta) (UnnamedNext x t next unnamed free') = absurd (none x t next)
-emptying_once w s _ _ (NoneNext none free meta) (NoneNext none' free' meta') = refl
+emptying_once w s _ _ _ _ = refl
 
 -- the points of the map's growth, by the kind of its next page
 abbrev KindPoint : IndexView → ℕ → PageKind → Point → Type 0
@@ -136,10 +130,8 @@ KindPoint w s Regular p = (p ≡ points.Flag) × IsFree w.lock s (next_map_page 
 KindPoint w s Emptying p = EmptyingPoint w s p
 
 kind_once : (w : IndexView) (s : ℕ) (kind : PageKind) (p q : Point) → KindPoint w s kind p → KindPoint w s kind q → p ≡ q
-kind_once w s Unstarted p q one two = one.0 ∙ sym two.0
-kind_once w s Mapping p q one two = one.0 ∙ sym two.0
-kind_once w s Regular p q one two = one.0 ∙ sym two.0
 kind_once w s Emptying p q one two = emptying_once w s p q one two
+kind_once w s _ p q one two = one.0 ∙ sym two.0
 
 -- the points of a summariser that read that the map has no entry
 data VacantPoint (w : IndexView) (s range : ℕ) : Point → Type 0 where
@@ -173,9 +165,6 @@ data SummarisePoint (w : IndexView) (s range : ℕ) : Phase → Point → Type 0
   MakesFinal : (progress : Progress) (on_index : OnIndex) (p : Point) → IsUniting on_index progress → OnIndexPoint w s range on_index p
       → SummarisePoint w s range (IsAt progress on_index) p
 
-passed : (next extent : ℕ) → next < extent → extent ≤ next → ⊥
-passed next extent below all = omega arith
-
 summarise_once : (w : IndexView) (s range : ℕ) (phase : Phase) (p q : Point) → SummarisePoint w s range phase p → SummarisePoint w s range phase q → p ≡ q
 summarise_once w s range _ _ _ LooksAtMap LooksAtMap = refl
 summarise_once w s range _ _ _ (LooksAtTuple x) (LooksAtTuple x') = refl
@@ -187,9 +176,9 @@ summarise_once w s range _ _ _ (SetsPlaceholder x) (SetsPlaceholder x') = refl
 summarise_once w s range _ _ _ ToExtent ToExtent = refl
 summarise_once w s range _ _ _ ToExtent (MakesFinal _ _ q none two) = absurd none
 summarise_once w s range _ _ _ (PassesNext extent next result below) (PassesNext extent' next' result' below') = refl
-summarise_once w s range _ _ _ (PassesNext extent next result below) (MakesFinal _ _ q all two) = absurd (passed next extent below all)
+summarise_once w s range _ _ _ (PassesNext extent next result below) (MakesFinal _ _ q all two) = absurd (not-le_of_lt below all)
 summarise_once w s range _ _ _ (MakesFinal _ _ p none one) ToExtent = absurd none
-summarise_once w s range _ _ _ (MakesFinal _ _ p all one) (PassesNext extent next result below) = absurd (passed next extent below all)
+summarise_once w s range _ _ _ (MakesFinal _ _ p all one) (PassesNext extent next result below) = absurd (not-le_of_lt below all)
 summarise_once w s range _ _ _ (MakesFinal progress on_index p all one) (MakesFinal progress' on_index' q all' two) =
     on_index_once w s range on_index p q one two
 
@@ -208,10 +197,7 @@ growth_fact s range w v _ _ (Turn grows empty free meta turns) = WantsEntry poin
 
 uniting : (on_index : OnIndex) (extent next : ℕ) (result : IndexTuple) → extent ≤ next → IsUniting on_index (Passing extent next result)
 uniting Empty extent next result all = all
-uniting (Held x) extent next result all = tt
-uniting (Copied x old new) extent next result all = tt
-uniting (Moving x y old new) extent next result all = tt
-uniting (Dropping x) extent next result all = tt
+uniting _ extent next result all = tt
 
 summarise_fact : (s range : ℕ) (w v : IndexView) (phase : Phase) (e : Statement) (step : SummariseStep s range w v phase e)
     → SummarisePoint w s range phase (summarise_point step)

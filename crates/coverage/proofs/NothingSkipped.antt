@@ -1,13 +1,13 @@
 -- A maintenance statement goes from a range to the next one, and a vacuum from a block of the heap, or an index page, to the next one.
-use Rattle.std.proofs.Common.{◌≡◌, ◌⊎◌, inl, inr, ℕ, ◌≤◌, ◌<◌, ◌∷◌, sym, ap, subst, arith, zero, suc}
+use Rattle.std.proofs.Common.{◌≡◌, ◌⊎◌, inl, inr, ℕ, ◌≤◌, ◌∷◌, sym, ap, subst, arith, zero, suc}
 use Rattle.coverage.specs.Statements.{Empty, Phase, NotBuilding}
 use Rattle.coverage.specs.Table.{Job, EachRange, OneRange, WholeRanges, Desummarising, Task, Resting, Reaches, Asks, Inserts, Considers, Maintains, Prunes}
 use Rattle.coverage.specs.Table.{SweepsFrom, Sweeps, Restarts, Scans, Marks, TableState}
-use Rattle.coverage.specs.TableSteps.{BeginsWith, Summarize, SummarizeOne, Work, Desummarize, Vacuum, HasRange, IsFrom}
-use Rattle.coverage.specs.TableSteps.{TaskTurns, Does, PutsRow, RefusesRow, AsksSummary, InsertGoes, InsertCompletes, RefusesInsert, TakesLock, MaintainGoes}
-use Rattle.coverage.specs.TableSteps.{MaintainCompletes, RefusesMaintain, RefusesVacuum, PrunesBlock, SweepsPage, RestartsIndex, BeginsScan, Judges}
-use Rattle.coverage.specs.TableSteps.{ReadsBlock, RefusesScan, MarksRow, Conflicts, Blocked, Transacts, Onward, Stays, ToAsk, ToIndex, Inserted, ToRange, NextIndex, Pruned}
-use Rattle.coverage.specs.TableSteps.{ToPage, Swept, JudgesNext, Scanned, ToMarks, Marked, Settles, GoesOn, GivesLock, TableStep}
+use Rattle.coverage.specs.TableSteps.{BeginsWith, Summarize, SummarizeOne, Work, Desummarize, Vacuum, HasRange, IsFrom, TaskTurns, Does, PutsRow, RefusesRow}
+use Rattle.coverage.specs.TableSteps.{AsksSummary, InsertGoes, InsertCompletes, RefusesInsert, TakesLock, MaintainGoes, MaintainCompletes, RefusesMaintain}
+use Rattle.coverage.specs.TableSteps.{RefusesVacuum, PrunesBlock, SweepsPage, RestartsIndex, BeginsScan, Judges, ReadsBlock, RefusesScan, MarksRow, Conflicts}
+use Rattle.coverage.specs.TableSteps.{Blocked, Transacts, Onward, Stays, ToRange, NextIndex, Pruned, ToPage, Swept, JudgesNext, Settles, GoesOn, GivesLock}
+use Rattle.coverage.specs.TableSteps.{TableStep}
 use Rattle.coverage.specs.NextTasks.{AtFirst, AfterRange, AfterBlock, AfterPage, AfterRestart}
 
 -- a statement that isn't maintenance, before its begin or in hand
@@ -79,14 +79,8 @@ settles_lands s u v (GivesLock old done turns given rows indexes) =
 
 -- 0 0 comes first
 first_of_all : (n q : ℕ) → IsFrom 0 0 n q
-first_of_all zero q = inr ((λ i. 0), least q)
-  where
-    least : (q : ℕ) → 0 ≤ q
-    least q = omega arith
-first_of_all (suc n) q = inl (some n)
-  where
-    some : (n : ℕ) → 0 < suc n
-    some n = omega arith
+first_of_all zero q = inr ((λ i. 0), omega arith)
+first_of_all (suc n) q = inl (omega arith)
 
 -- where a step begins a statement it is before the first of what it goes over
 abbrev FirstOf : TableState → Task → Type 0
@@ -109,50 +103,25 @@ begins_first w u _ (Desummarize at only below) same = λ i. only
 begins_first w u _ Vacuum same = (sym same, λ i. 0)
 
 begun_first : (u : TableState) (t : Task) → IsBegunOther t → FirstOf u t
-begun_first u Resting is = absurd is
 begun_first u (Reaches b k r at) is = tt
-begun_first u (Asks b k r at) is = absurd is
-begun_first u (Inserts b k r at on_index) is = absurd is
-begun_first u (Considers job at range) is = absurd is
-begun_first u (Maintains job at range phase) is = absurd is
-begun_first u (Prunes extent next) is = absurd is
-begun_first u (SweepsFrom at from) is = absurd is
-begun_first u (Sweeps at page) is = absurd is
-begun_first u (Restarts at) is = absurd is
 begun_first u (Scans scan) is = tt
-begun_first u (Marks scan ids) is = absurd is
+begun_first u _ is = absurd is
 
 stays_first : (u : TableState) (t : Task) → FirstOf u t → AtFirst u t
-stays_first u Resting first = tt
-stays_first u (Reaches b k r at) first = tt
-stays_first u (Asks b k r at) first = tt
-stays_first u (Inserts b k r at on_index) first = tt
-stays_first u (Considers job at range) first = tt
 stays_first u (Maintains job at range phase) first = absurd first
 stays_first u (Prunes extent next) first = first
-stays_first u (SweepsFrom at from) first = tt
 stays_first u (Sweeps at page) first = absurd first
 stays_first u (Restarts at) first = absurd first
-stays_first u (Scans scan) first = tt
-stays_first u (Marks scan ids) first = tt
-
-only_one : (range m only : ℕ) → range ≡ only → m ≡ only → range ≤ m
-only_one range m only first has = omega arith
+stays_first u _ first = tt
 
 lowest_range : (u : TableState) (job : Job) (at range m : ℕ) → FirstOf u (Considers job at range) → HasRange u job at m → range ≤ m
-lowest_range u (EachRange extent) at range m first has = least range m first
-  where
-    least : (r m : ℕ) → r ≡ 0 → r ≤ m
-    least r m is = omega arith
-lowest_range u (OneRange extent only) at range m first has = only_one range m only first has.0
+lowest_range u (EachRange extent) at range m first has = omega arith
+lowest_range u (OneRange extent only) at range m first has = omega (arith, first, has.0)
 lowest_range u (WholeRanges extent) at range m first has = absurd first
-lowest_range u (Desummarising only) at range m first has = only_one range m only first has
+lowest_range u (Desummarising only) at range m first has = omega arith
 
 onward_first : (u : TableState) (old new : Task) → Onward u old new → FirstOf u old → AtFirst u new
 onward_first u _ _ (Stays task has) first = stays_first u task first
-onward_first u _ _ (ToAsk b k r at below asks) first = tt
-onward_first u _ _ (ToIndex b k r at below none) first = tt
-onward_first u _ _ (Inserted b k r at all) first = tt
 onward_first u _ _ (ToRange job at range has) first = λ m has'. lowest_range u job at range m first has'
 onward_first u _ _ (NextIndex extent at range none more) first = absurd first
 onward_first u _ _ (Pruned extent next new all onward) first = onward_first u _ _ onward ((λ i. 0), λ i. 0)
@@ -163,9 +132,7 @@ onward_first u _ _ (Swept at from none some) first = (
   λ m p has. none m p has (subst (λ a. IsFrom a from m p) (sym first.0) (subst (λ f. IsFrom 0 f m p) (sym first.1) (first_of_all m p))),
 )
 onward_first u _ _ (JudgesNext scan new inside low held onward) first = onward_first u _ _ onward tt
-onward_first u _ _ (Scanned scan read none) first = tt
-onward_first u _ _ (ToMarks scan id rest read not is lists) first = tt
-onward_first u _ _ (Marked scan) first = tt
+onward_first u _ _ _ first = tt
 
 lands_first : (u : TableState) (m t : Task) → Lands u m t → FirstOf u m → AtFirst u t
 lands_first u _ _ (Comes old new onward) first = onward_first u old new onward first
@@ -203,9 +170,6 @@ module _ (w u : TableState) where
   range_after job at range old _ t (Completes _ _ _ _) lands = considers_lands job at range t lands
   range_after job at range old m t (Others _ _ other) lands = absurd other
 
-  later : (a b : ℕ) → a ≤ b → a ≤ suc b
-  later a b le = omega arith
-
   abbrev AllPruned : (extent next : ℕ) → Task → Type 0
   AllPruned extent next t = (extent ≤ next) × AtFirst u t
 
@@ -220,7 +184,7 @@ module _ (w u : TableState) where
     where
       by : (t ≡ Prunes extent next) ⊎ AllPruned extent next t ⊎ (t ≡ Resting) → AfterBlock u extent next t
       by (inl is) = inl is
-      by (inr (inl all)) = inr (inr (inl (later extent next all.0, all.1)))
+      by (inr (inl all)) = inr (inr (inl (omega (arith, all.0), all.1)))
       by (inr (inr is)) = inr (inr (inr is))
   block_after extent next _ t (PrunesOne _ _) lands = by (prunes_lands extent (suc next) t lands)
     where

@@ -4,8 +4,8 @@ use Rattle.std.specs.Prelude.{refl}
 use Rattle.block_model.specs.declared.row.Row.{Row}
 use Rattle.block_model.specs.declared.place.Spot.{Spot}
 use Rattle.coverage.specs.IndexView.{IndexTuple, Building, PageKind, IndexView, range_of_block}
-use Rattle.coverage.specs.Changes.{Touched, TouchesNothing, TouchesRows, TouchesEntries, TouchesTuples}
-use Rattle.coverage.specs.Changes.{TouchesUnnamed, TouchesSummariseLock, KeepsHeap, KeepsMap, KeepsTuples, KeepsUnnamed, KeepsSummariseLock, Frame}
+use Rattle.coverage.specs.Changes.{Touched, TouchesNothing, TouchesRows, TouchesEntries, TouchesTuples, TouchesUnnamed, TouchesSummariseLock, KeepsHeap}
+use Rattle.coverage.specs.Changes.{KeepsMap, KeepsTuples, KeepsUnnamed, KeepsSummariseLock, Frame}
 use Rattle.coverage.specs.Statements.{OnIndex, Phase, Statement}
 use Rattle.coverage.specs.IndexPart.{part_of, with_part, InsertMakes, SummariseMakes, DesummariseMakes, SweepMakes}
 use Rattle.coverage.specs.Points.{on_index_point, insert_point, growth_point, summarise_point, desummarise_point}
@@ -21,44 +21,25 @@ module _ (s : ℕ) (w v : IndexView) (building : ℕ → Option Building) (loose
   u = with_part w (part_of v) building loose
 
   heap_on : (touched : Touched) → KeepsHeap touched w u
-  heap_on TouchesNothing = record { pages_per_range = refl; blocks = refl; row = λ b k. refl }
   heap_on TouchesRows = tt
-  heap_on TouchesEntries = record { pages_per_range = refl; blocks = refl; row = λ b k. refl }
-  heap_on TouchesTuples = record { pages_per_range = refl; blocks = refl; row = λ b k. refl }
-  heap_on TouchesUnnamed = record { pages_per_range = refl; blocks = refl; row = λ b k. refl }
-  heap_on TouchesSummariseLock = record { pages_per_range = refl; blocks = refl; row = λ b k. refl }
+  heap_on _ = record { pages_per_range = refl; blocks = refl; row = λ b k. refl }
 
   map_on : (touched : Touched) → KeepsMap touched w v → KeepsMap touched w u
-  map_on TouchesNothing same = record { entry = same.entry }
-  map_on TouchesRows same = record { entry = same.entry }
   map_on TouchesEntries same = tt
-  map_on TouchesTuples same = record { entry = same.entry }
-  map_on TouchesUnnamed same = record { entry = same.entry }
-  map_on TouchesSummariseLock same = record { entry = same.entry }
+  map_on _ same = record { entry = same.entry }
 
   tuples_on : (touched : Touched) → KeepsTuples touched w v → KeepsTuples touched w u
-  tuples_on TouchesNothing same = record { tuple = same.tuple }
-  tuples_on TouchesRows same = record { tuple = same.tuple }
-  tuples_on TouchesEntries same = record { tuple = same.tuple }
   tuples_on TouchesTuples same = tt
   tuples_on TouchesUnnamed same = tt
-  tuples_on TouchesSummariseLock same = record { tuple = same.tuple }
+  tuples_on _ same = record { tuple = same.tuple }
 
   unnamed_on : (touched : Touched) → KeepsUnnamed touched w v → KeepsUnnamed touched w u
-  unnamed_on TouchesNothing same = record { unnamed = same.unnamed }
-  unnamed_on TouchesRows same = record { unnamed = same.unnamed }
-  unnamed_on TouchesEntries same = record { unnamed = same.unnamed }
-  unnamed_on TouchesTuples same = record { unnamed = same.unnamed }
   unnamed_on TouchesUnnamed same = tt
-  unnamed_on TouchesSummariseLock same = record { unnamed = same.unnamed }
+  unnamed_on _ same = record { unnamed = same.unnamed }
 
   lock_on : (touched : Touched) → KeepsSummariseLock touched w u
-  lock_on TouchesNothing = refl
-  lock_on TouchesRows = refl
-  lock_on TouchesEntries = refl
-  lock_on TouchesTuples = refl
-  lock_on TouchesUnnamed = refl
   lock_on TouchesSummariseLock = tt
+  lock_on _ = refl
 
   frame_on : (touched : Touched) → Frame s touched w v → Frame s touched w u
   frame_on touched frame = record {
@@ -176,88 +157,43 @@ module _ (s : ℕ) (w v : IndexView) (building : ℕ → Option Building) (loose
   on_index_point_on : (range : ℕ) (old new : OnIndex) (step : OnIndexStep s range w v old new) → on_index_point (on_index_on range old new step) ≡ on_index_point step
   unfolding on_index_on
   on_index_point_on range _ _ (Maps x named reads) = refl
-  on_index_point_on range _ _ (Gone x gone reads) = refl
-  on_index_point_on range _ _ (Again x old new verdict reads) = refl
-  on_index_point_on range _ _ (MovePut x y old new verdict puts these) = refl
+  on_index_point_on range _ _ _ = refl
 
   insert_point_on : (b k : ℕ) (r : Row) (old : OnIndex) (new : Statement) (step : InsertStep s b k r w v old new)
       → insert_point (insert_on b k r old new step) ≡ insert_point step
   unfolding insert_on
   insert_point_on b k r _ _ (InsertOnIndex old new step) = on_index_point_on (range_of_block w b) old new step
-  insert_point_on b k r _ _ (InsertNoEntry none reads) = refl
-  insert_point_on b k r _ _ (InsertCopies x old new stands added changes reads) = refl
-  insert_point_on b k r _ _ (InsertUnchanged x t stands added free reads) = refl
-  insert_point_on b k r _ _ (InsertSwap x old new verdict swap) = refl
-  insert_point_on b k r _ _ (InsertSet x y old new sets same) = refl
-  insert_point_on b k r _ _ (InsertDrop x drops) = refl
+  insert_point_on b k r _ _ _ = refl
 
   growth_point_on : (range : ℕ) (old new : Phase) (step : GrowthStep s range w v old new) → growth_point (growth_on range old new step) ≡ growth_point step
   unfolding growth_on
   growth_point_on range _ _ (Grow grows free meta turns) = refl
-  growth_point_on range _ _ (CountLeftOver grows meta counts) = refl
-  growth_point_on range _ _ (Count counts) = refl
-  growth_point_on range _ _ (Flag grows free turns) = refl
-  growth_point_on range _ _ (EvacuatePut x y t grows next named free verdict puts these) = refl
-  growth_point_on range _ _ (EvacuateSet m x y t old sets same) = refl
-  growth_point_on range _ _ (EvacuateDrop m x drops) = refl
-  growth_point_on range _ _ (EvacuateSweep x t grows next unnamed sweeps) = refl
-  growth_point_on range _ _ (Turn grows empty free meta turns) = refl
+  growth_point_on range _ _ _ = refl
 
   summarise_point_on : (range : ℕ) (old : Phase) (new : Statement) (step : SummariseStep s range w v old new)
       → summarise_point (summarise_on range old new step) ≡ summarise_point step
   unfolding summarise_on
-  summarise_point_on range _ _ (LookMap x named reads) = refl
-  summarise_point_on range _ _ (LookGone x gone reads) = refl
-  summarise_point_on range _ _ (IsFinal x t stands final reads) = refl
-  summarise_point_on range _ _ (Found x t stands flag reads) = refl
-  summarise_point_on range _ _ (ReadNoEntry none of reads) = refl
   summarise_point_on range _ _ (GrowMap old new step) = growth_point_on range old new step
-  summarise_point_on range _ _ (Put x t is long verdict puts these) = refl
-  summarise_point_on range _ _ (Set x sets none) = refl
-  summarise_point_on range _ _ (Extent extent result start is reads) = refl
-  summarise_point_on range _ _ (Pass extent next slots result wider below none made reads) = refl
   summarise_point_on range _ _ (Unite extent next result old new all step) = on_index_point_on range old new step
-  summarise_point_on range _ _ (UniteCopies extent next result x old new all stands united reads) = refl
-  summarise_point_on range _ _ (SwapFinal p x old new verdict swap) = refl
-  summarise_point_on range _ _ (SetFinal p x y old new sets same) = refl
-  summarise_point_on range _ _ (DropOld x drops) = refl
+  summarise_point_on range _ _ _ = refl
 
   summarise_count_on : (range : ℕ) (old : Phase) (new : Statement) (step : SummariseStep s range w v old new)
       → summarise_count (summarise_on range old new step) ≡ summarise_count step
   unfolding summarise_on
   summarise_count_on range _ _ (LookMap x named reads) = refl
-  summarise_count_on range _ _ (LookGone x gone reads) = refl
-  summarise_count_on range _ _ (IsFinal x t stands final reads) = refl
-  summarise_count_on range _ _ (Found x t stands flag reads) = refl
-  summarise_count_on range _ _ (ReadNoEntry none of reads) = refl
-  summarise_count_on range _ _ (GrowMap old new step) = refl
-  summarise_count_on range _ _ (Put x t is long verdict puts these) = refl
-  summarise_count_on range _ _ (Set x sets none) = refl
-  summarise_count_on range _ _ (Extent extent result start is reads) = refl
-  summarise_count_on range _ _ (Pass extent next slots result wider below none made reads) = refl
-  summarise_count_on range _ _ (Unite extent next result old new all step) = refl
-  summarise_count_on range _ _ (UniteCopies extent next result x old new all stands united reads) = refl
-  summarise_count_on range _ _ (SwapFinal p x old new verdict swap) = refl
-  summarise_count_on range _ _ (SetFinal p x y old new sets same) = refl
-  summarise_count_on range _ _ (DropOld x drops) = refl
+  summarise_count_on range _ _ _ = refl
 
   desummarise_point_on : (range : ℕ) (old : Phase) (new : Statement) (step : DesummariseStep s range w v old new)
       → desummarise_point (desummarise_on range old new step) ≡ desummarise_point step
   unfolding desummarise_on
   desummarise_point_on range _ _ (ClearMap x named reads) = refl
-  desummarise_point_on range _ _ (ClearNone none reads) = refl
-  desummarise_point_on range _ _ (Clear x verdict clears these) = refl
-  desummarise_point_on range _ _ (ClearAgain x verdict reads) = refl
-  desummarise_point_on range _ _ (DropCleared x drops) = refl
+  desummarise_point_on range _ _ _ = refl
 
   desummarise_count_on : (range : ℕ) (old : Phase) (new : Statement) (step : DesummariseStep s range w v old new)
       → desummarise_count (desummarise_on range old new step) ≡ desummarise_count step
   unfolding desummarise_on
   desummarise_count_on range _ _ (ClearMap x named reads) = refl
-  desummarise_count_on range _ _ (ClearNone none reads) = refl
-  desummarise_count_on range _ _ (Clear x verdict clears these) = refl
-  desummarise_count_on range _ _ (ClearAgain x verdict reads) = refl
-  desummarise_count_on range _ _ (DropCleared x drops) = refl
+  desummarise_count_on range _ _ _ = refl
 
 pub insert_makes : (s b k : ℕ) (r : Row) (w v : IndexView) (old : OnIndex) (new : Statement) (step : InsertStep s b k r w v old new)
     → InsertMakes s b k r w (part_of v) old new (insert_point step)

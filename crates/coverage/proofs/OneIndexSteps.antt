@@ -11,8 +11,8 @@ use Rattle.coverage.specs.Points.{insert_point}
 use Rattle.coverage.specs.Counts.{AreTuplesGone}
 use Rattle.coverage.specs.IndexPart.{IndexPart, with_part, InsertMakes, SweepMakes}
 use Rattle.coverage.specs.Table.{Index, Job, Task, Resting, Reaches, Inserts, Considers, Maintains, SweepsFrom, Sweeps, TableState, seen_by, index_view_at}
-use Rattle.coverage.specs.TableSteps.{TaskTurns, SameRows, StepsIn, IsFirstPlace, JobStep, PutsRow, InsertGoes, InsertCompletes, MaintainGoes, MaintainCompletes, SweepsPage}
-use Rattle.coverage.specs.TableSteps.{HasStep, Settles, GoesOn, Stays}
+use Rattle.coverage.specs.TableSteps.{TaskTurns, SameRows, StepsIn, IsFirstPlace, JobStep, PutsRow, InsertGoes, InsertCompletes, MaintainGoes}
+use Rattle.coverage.specs.TableSteps.{MaintainCompletes, SweepsPage, HasStep, Settles, GoesOn, Stays}
 use Rattle.coverage.specs.TablePoints.{job_point}
 use Rattle.coverage.specs.Accounts.{AccountIs, no_account, job_count}
 use Rattle.coverage.specs.InOneIndex.{index_with, with_index, with_rows, RowComesTo, JobMakes, with_ranges, with_unnamed, DoesAt}

@@ -1,8 +1,9 @@
 -- Where a statement comes by its step on an index is one thing: what stands on the pages decides it.
-use Rattle.std.proofs.Common.{◌≡◌, ◌≢◌, ◌⊎◌, ⊎_elim, ℕ, ◌+◌, ◌*◌, ◌≤◌, ◌<◌, min, Option, Some, None, true, false, length, sym, ◌∙◌, ap, subst, arith, zero, suc}
+use Rattle.std.proofs.Common.{◌≡◌, ◌≢◌, ◌⊎◌, inl, inr, ⊎_elim, ℕ, ◌+◌, ◌*◌, ◌≤◌, ◌<◌, min, Option, Some, None, true, false, length, sym, ◌∙◌, ap, subst, arith, zero, suc}
 use Rattle.std.specs.Prelude.{refl}
 use Rattle.std.proofs.lemmas.Option.{same_Some, none-some}
 use Rattle.std.proofs.lemmas.Bool.{cases_eq, false≢true}
+use Rattle.std.proofs.Math.Nat.{le_of_lt, not-le_of_lt}
 use Rattle.block_model.specs.declared.row.Row.{Row}
 use Rattle.block_model.specs.declared.place.Spot.{Spot}
 use Rattle.coverage.specs.IndexView.{IndexTuple, Contents, Progress, ExtentUnread, Passing, PageKind, Unstarted, Mapping, Regular, Emptying, placeholder_length}
@@ -12,11 +13,10 @@ use Rattle.coverage.specs.Verdicts.{IsLocked, Verdict, Differs, Fits, Puts, PutV
 use Rattle.coverage.specs.Statements.{OnIndex, Empty, Held, Copied, Moving, Dropping, Phase, NotBuilding, Vacant, Growing, Evacuating, Placing, IsAt, Statement}
 use Rattle.coverage.specs.Statements.{Idle, Inserting, Maintaining, Holding, rows_added, row_added, HasNoMoreRows}
 use Rattle.coverage.specs.Steps.{IsUnnamed, IsGone, Stands, OnIndexStep, Maps, Gone, Again, MovePut, InsertStep, InsertOnIndex, InsertNoEntry, InsertCopies}
-use Rattle.coverage.specs.Steps.{InsertUnchanged, InsertSwap, InsertSet, InsertDrop, GrowthStep, Grow, CountLeftOver, Count, Flag}
+use Rattle.coverage.specs.Steps.{InsertUnchanged, InsertSwap, InsertSet, InsertDrop, GrowthStep, Grow, CountLeftOver, Count, Flag, EvacuatePut, EvacuateSet}
+use Rattle.coverage.specs.Steps.{EvacuateDrop, EvacuateSweep, Turn, SummariseStep, LookMap, LookGone, IsFinal, Found, ReadNoEntry, GrowMap, Put, Set, Extent}
+use Rattle.coverage.specs.Steps.{Pass, Unite, UniteCopies, SwapFinal, SetFinal, DropOld, DesummariseStep, ClearMap, ClearNone, Clear, ClearAgain, DropCleared}
 use Rattle.coverage.specs.Waiting.{IsNextTuple, Grows}
-use Rattle.coverage.specs.Steps.{EvacuatePut, EvacuateSet, EvacuateDrop, EvacuateSweep, Turn, SummariseStep, LookMap, LookGone, IsFinal, Found, ReadNoEntry}
-use Rattle.coverage.specs.Steps.{GrowMap, Put, Set, Extent, Pass, Unite, UniteCopies, SwapFinal, SetFinal, DropOld, DesummariseStep, ClearMap, ClearNone, Clear}
-use Rattle.coverage.specs.Steps.{ClearAgain, DropCleared}
 use Rattle.coverage.proofs.Numbers.{lt_or_ge}
 use Rattle.coverage.proofs.Verdicts.{free_not_locked, put_once, swap_once, clear_once}
 use Rattle.coverage.proofs.NextSteps.{next_once, named_or_not}
@@ -106,10 +106,7 @@ module _ (w : IndexView) (s b k : ℕ) (r : Row) where
       → (new ≢ old) ⊎ IsLocked w.lock s x.block → Stands w (range_of_block w b) x t → t ≡ w.contents.added r t → IsFree w.lock s x.block → ⊥
   copies_or_not x old new t stands added changes stands' same free =
       let one : old ≡ t = there_same w s (range_of_block w b) x old t stands stands' in
-      ⊎_elim
-      (λ (other : new ≢ old). other (added ∙ ap (w.contents.added r) one ∙ sym same ∙ sym one))
-      (λ (locked : IsLocked w.lock s x.block). free_not_locked w s x.block free locked)
-      changes
+      elim changes [ inl other ↦ other (added ∙ ap (w.contents.added r) one ∙ sym same ∙ sym one) | inr locked ↦ free_not_locked w s x.block free locked ]
 
   insert_same : (g : OnIndex) (e f : Statement) → NextInsert w s b k r g e → NextInsert w s b k r g f → e ≡ f
   insert_same _ _ _ (GoesOn g h one) (GoesOn g' h' two) = ap (Inserting b k r) (on_index_same w s (range_of_block w b) g h h' one two)
@@ -120,7 +117,6 @@ module _ (w : IndexView) (s b k : ℕ) (r : Row) where
   insert_same _ _ _ (GoesOn _ h one) (SetNew x y old new) = absurd (none_moving w s (range_of_block w b) x y old new h one)
   insert_same _ _ _ (GoesOn _ h one) (DropsOld x) = absurd (none_dropping w s (range_of_block w b) x h one)
   insert_same _ _ _ (Unsummarised none) (GoesOn _ h two) = absurd (named_entry w s (range_of_block w b) h two none)
-  insert_same _ _ _ (Unsummarised none) (Unsummarised none') = refl
   insert_same _ _ _ (Copies x old new stands added changes) (GoesOn _ h two) = absurd (lost_stands w s (range_of_block w b) x old h two stands)
   insert_same _ _ _ (Copies x old new stands added changes) (Copies x' old' new' stands' added' changes') =
       let one : old ≡ old' = there_same w s (range_of_block w b) x old old' stands stands' in
@@ -131,13 +127,10 @@ module _ (w : IndexView) (s b k : ℕ) (r : Row) where
   insert_same _ _ _ (Unchanged x t stands same free) (GoesOn _ h two) = absurd (lost_stands w s (range_of_block w b) x t h two stands)
   insert_same _ _ _ (Unchanged x t stands same free) (Copies x' old new stands' added changes) =
       absurd (copies_or_not x old new t stands' added changes stands same free)
-  insert_same _ _ _ (Unchanged x t stands same free) (Unchanged x' t' stands' same' free') = refl
   insert_same _ _ _ (Swapped x old new verdict) (GoesOn _ h two) = absurd (judged_fits w s (range_of_block w b) x old new h two verdict)
-  insert_same _ _ _ (Swapped x old new verdict) (Swapped x' old' new' verdict') = refl
   insert_same _ _ _ (SetNew x y old new) (GoesOn _ h two) = absurd (none_moving w s (range_of_block w b) x y old new h two)
-  insert_same _ _ _ (SetNew x y old new) (SetNew x' y' old' new') = refl
   insert_same _ _ _ (DropsOld x) (GoesOn _ h two) = absurd (none_dropping w s (range_of_block w b) x h two)
-  insert_same _ _ _ (DropsOld x) (DropsOld x') = refl
+  insert_same _ _ _ _ _ = refl
 
 pub insert_one_outcome : (s b k : ℕ) (r : Row) (w v u : IndexView) (g : OnIndex) (e f : Statement) → InsertStep s b k r w v g e → InsertStep s b k r w u g f → e ≡ f
 insert_one_outcome s b k r w v u g e f one two = insert_same w s b k r g e f (insert_next s b k r w v g e one) (insert_next s b k r w u g f two)
@@ -152,22 +145,16 @@ rows_until contents row t n none zero le = ap (λ j. rows_added contents row j t
 rows_until contents row t n none (suc m) le = ⊎_elim
     (λ (is : n ≡ suc m). ap (λ j. rows_added contents row j t) (sym is))
     (λ (other : n ≢ suc m).
-    ap (λ o. row_added contents o (rows_added contents row m t)) (none m (below n m le other))
-    ∙ rows_until contents row t n none m (below n m le other))
+    ap (λ o. row_added contents o (rows_added contents row m t)) (none m (omega arith))
+    ∙ rows_until contents row t n none m (omega arith))
     (cases_eq n (suc m))
-  where
-    below : (n m : ℕ) → n ≤ suc m → n ≢ suc m → n ≤ m
-    below n m le other = omega arith
 
 rows_same : (contents : Contents) (row : ℕ → Option Row) (n m : ℕ) (t : IndexTuple) → HasNoMoreRows row n → HasNoMoreRows row m
     → rows_added contents row n t ≡ rows_added contents row m t
 rows_same contents row n m t none none' = ⊎_elim
-    (λ (less : n < m). sym (rows_until contents row t n none m (before n m less)))
+    (λ (less : n < m). sym (rows_until contents row t n none m (le_of_lt less)))
     (λ (more : m ≤ n). rows_until contents row t m none' n more)
     (lt_or_ge n m)
-  where
-    before : (a c : ℕ) → a < c → a ≤ c
-    before a c less = omega arith
 
 -- A summariser's next state, and what decides it.
 pub data NextGrowth (w : IndexView) (s : ℕ) : PageKind → Phase → Type 0 where
@@ -265,9 +252,6 @@ module _ (w : IndexView) (s range : ℕ) where
   final_or_not x t u stands final stands' flag =
       false≢true (sym final ∙ ap (λ (q : IndexTuple). q.placeholder) (there_same w s range x t u stands stands') ∙ flag)
 
-  passed_or_not : (next extent : ℕ) → next < extent → extent ≤ next → ⊥
-  passed_or_not next extent below all = omega arith
-
   phase_same : (phase : Phase) (e f : Statement) → NextPhase w s range phase e → NextPhase w s range phase f → e ≡ f
   phase_same _ _ _ (LooksNamed x named) (LooksNamed y named') =
       ap (λ z. Maintaining range (NotBuilding (Held z))) (same_Some _ _ (sym named ∙ named'))
@@ -301,8 +285,8 @@ module _ (w : IndexView) (s range : ℕ) where
   phase_same _ _ _ (Passes extent next slots result wider below none made) (Passes extent' next' slots' result' wider' below' none' made') =
       ap (λ q. Maintaining range (IsAt (Passing extent (next + 1) q) Empty))
       (made ∙ rows_same w.contents (w.row next) slots slots' result none none' ∙ sym made')
-  phase_same _ _ _ (Passes extent next slots result wider below none made) (Unites _ _ _ _ h all two) = absurd (passed_or_not next extent below all)
-  phase_same _ _ _ (Unites _ _ _ _ h all one) (Passes extent next slots result wider below none made) = absurd (passed_or_not next extent below all)
+  phase_same _ _ _ (Passes extent next slots result wider below none made) (Unites _ _ _ _ h all two) = absurd (not-le_of_lt below all)
+  phase_same _ _ _ (Unites _ _ _ _ h all one) (Passes extent next slots result wider below none made) = absurd (not-le_of_lt below all)
   phase_same _ _ _ (Unites extent next result g h all one) (Unites _ _ _ _ k all' two) =
       ap (λ q. Maintaining range (IsAt (Passing extent next result) q)) (on_index_same w s range g h k one two)
   phase_same _ _ _ (Unites _ _ _ _ h all one) (CopiesUnited extent next result x old new stands united) =

@@ -1,8 +1,9 @@
 -- Where nobody is at work, a covered index is what steps keep.
-use Rattle.std.proofs.Common.{◌≡◌, ◌≢◌, ◌⊎◌, inl, inr, ⊎_elim, ℕ, ◌/◌, ◌≤◌, ◌<◌, Some, None, Bool, true, sym, ◌∙◌, ap, subst, arith, rules}
+use Rattle.std.proofs.Common.{◌≡◌, ◌⊎◌, inl, inr, ⊎_elim, ℕ, ◌/◌, ◌<◌, Some, Bool, true, sym, ◌∙◌, ap, subst, rules}
 use Rattle.std.specs.Prelude.{refl, IsTrue}
 use Rattle.std.proofs.lemmas.Option.{same_Some, none-some}
 use Rattle.std.proofs.lemmas.Bool.{false≢true}
+use Rattle.std.proofs.Math.Nat.{lt_of_lt_of_le}
 use Rattle.block_model.specs.declared.row.Row.{Row}
 use Rattle.block_model.specs.declared.place.Spot.{Spot}
 use Rattle.coverage.specs.IndexView.{IndexTuple, Contents, Progress, Pages, range_of_block, IsTupleOf, IsBuilding}
@@ -83,17 +84,13 @@ scan_excludes w s b k r scan kept is sees there excluded matches =
     excluded.5.none r (subst (λ q. IsTrue (excluded.1.includes q)) (same_Some _ _ (sym row.1.there ∙ there)) has) matches
 
 -- after a stop
-
 module _ (w v : IndexState) (kept : IsIndexKept w) (stops : Stops w v) where
   nobody_builds' : (s range : ℕ) (p : Progress) → IsBuilding (index_view v) s range p → ⊥
   nobody_builds' s range p is = none-some _ (sym (ap building_of (stops.rest.idle s)) ∙ is)
 
   -- a tuple that stands there stood there before
   came : (x : Spot) (t : IndexTuple) → v.tuple x ≡ Some t → w.tuple x ≡ Some t
-  came x t here = ⊎_elim
-      (λ (same : v.tuple x ≡ w.tuple x). sym same ∙ here)
-      (λ (gone : (v.tuple x ≡ None) × ((range : ℕ) → w.entry range ≢ Some x)). absurd (none-some _ (sym gone.0 ∙ here)))
-      (stops.tuples x)
+  came x t here = elim (stops.tuples x) [ inl same ↦ sym same ∙ here | inr gone ↦ absurd (none-some _ (sym gone.0 ∙ here)) ]
 
   stopped_ordered : AreOrdered (index_view v)
   stopped_ordered = ⊎_elim
@@ -114,9 +111,6 @@ module _ (w v : IndexState) (kept : IsIndexKept w) (stops : Stops w v) where
       (settled x t (ap (λ m. w.entry (b / m)) (sym stops.pages_per_range) ∙ sym (stops.map.entry (range_of_block (index_view v) b)) ∙ named)
       (came x t here))
 
-  within : (b n m : ℕ) → b < n → n ≤ m → b < m
-  within b n m low more = omega arith
-
   -- what was unnamed at the opening and stands still is unnamed
   stopped_formed : (x : Spot) (t : IndexTuple) → v.tuple x ≡ Some t → IsTupleOf (index_view v) t ⊎ IsTrue (v.unnamed x)
   stopped_formed x t here = ⊎_elim
@@ -133,20 +127,14 @@ module _ (w v : IndexState) (kept : IsIndexKept w) (stops : Stops w v) where
     sound = record {
       lawful = subst AreLawful (sym stops.contents) kept.sound.lawful;
       ranged = subst (λ n. 0 < n) (sym stops.pages_per_range) kept.sound.ranged;
-      rows_below = λ b k r there. within b w.blocks v.blocks (kept.sound.rows_below b k r (sym (stops.row b k) ∙ there)) stops.blocks;
+      rows_below = λ b k r there. lt_of_lt_of_le (kept.sound.rows_below b k r (sym (stops.row b k) ∙ there)) stops.blocks;
       entries_name_tuples = λ m x named.
           let t = kept.sound.entries_name_tuples m x (sym (stops.map.entry m) ∙ named) in (
             t.0,
-            ⊎_elim
-                (λ (same : v.tuple x ≡ w.tuple x). same ∙ t.1)
-                (λ (gone : (v.tuple x ≡ None) × ((range : ℕ) → w.entry range ≢ Some x)). absurd (gone.1 m (sym (stops.map.entry m) ∙ named)))
-                (stops.tuples x),
+            elim (stops.tuples x) [ inl same ↦ same ∙ t.1 | inr gone ↦ absurd (gone.1 m (sym (stops.map.entry m) ∙ named)) ],
             t.2,
           );
-      tuples_are_named = λ x t here. ⊎_elim
-          (λ (e : v.entry t.range ≡ Some x). inl e)
-          (λ (u : IsTrue (v.unnamed x)). inr (inr u))
-          (stops.unnamed x t here);
+      tuples_are_named = λ x t here. elim (stops.unnamed x t here) [ inl e ↦ inl e | inr u ↦ inr (inr u) ];
       formed = stopped_formed;
       unnamed_tuples = stops.rest.unnamed_tuples;
       builder_holds = λ s range p is. absurd (nobody_builds' s range p is);

@@ -1,5 +1,5 @@
 -- What the slots of a page come to: none where no tuple stands there, those of a list where they are its; and what a put makes of the room.
-use Rattle.std.proofs.Common.{◌≡◌, ◌≢◌, ◌⊎◌, inl, inr, ℕ, zero, suc, ◌+◌, ◌-◌, ◌*◌, ◌≤◌, ◌<◌, Bool, true, false, if◌then◌else◌, List, [], ◌∷◌, length, Option, Some, None, refl, sym, ◌∙◌, ap, arith}
+use Rattle.std.proofs.Common.{◌≡◌, ◌≢◌, inl, inr, ℕ, zero, suc, ◌+◌, ◌-◌, ◌*◌, ◌≤◌, ◌<◌, Bool, true, false, if◌then◌else◌, List, [], ◌∷◌, length, Some, None, refl, sym, ◌∙◌, ap, arith}
 use Rattle.std.specs.Prelude.{nat_lt, slice_index_or}
 use Rattle.std.proofs.Math.Nat.{add-mul, suc-mul}
 use Rattle.std.proofs.lemmas.Bool.{cases_lt, le-ltb, lt-ltb}
@@ -54,16 +54,10 @@ behind tuple bytes old new is =
 
 here : (bytes : List ℕ) (slots : List Slot) → taken (Some bytes ∷ slots) ≡ taken (before None slots) + length bytes + new_entry (before None slots)
 unfolding taken free_slot_of
-here bytes [] = alone (length bytes)
-  where
-    alone : (size : ℕ) → 4 + size + 0 ≡ 0 + size + 4
-    alone size = omega arith
+here bytes [] = omega arith
 here bytes (slot ∷ slots) =
-    gap (length bytes) (taken (slot ∷ slots))
+    omega arith
     ∙ ap (λ (less : Bool). 4 + 0 + taken (slot ∷ slots) + length bytes + (if less then 0 else 4)) (sym (lt-ltb 0 (suc (suc (length slots))) (omega arith)))
-  where
-    gap : (size rest : ℕ) → 4 + size + rest ≡ 4 + 0 + rest + size + 0
-    gap size rest = omega arith
 
 -- bytes come to the lowest free slot
 put_taken : (f g : ℕ → Slot) (n k : ℕ) (bytes : List ℕ) → k < n → f k ≡ None → ((j : ℕ) → j < k → f j ≢ None) → g k ≡ Some bytes → ((j : ℕ) → j ≢ k → g j ≡ f j)

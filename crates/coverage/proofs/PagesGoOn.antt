@@ -2,14 +2,14 @@
 use Rattle.std.proofs.Common.{◌≡◌, ◌≢◌, ◌⊎◌, inl, inr, ⊎_elim, ℕ, ◌+◌, ◌*◌, ◌/◌, ◌≤◌, ◌<◌, Some, None, Bool, List, [], ◌∷◌, sym, ◌∙◌, ap, subst, arith}
 use Rattle.std.specs.Prelude.{refl}
 use Rattle.std.proofs.lemmas.Option.{same_Some, none-some}
+use Rattle.std.proofs.Math.Nat.{le_trans}
 use Rattle.block_model.specs.declared.place.Spot.{Spot}
-use Rattle.coverage.specs.IndexView.{IndexTuple, Progress, ExtentUnread, Passing, PageKind, Pages, IndexView, map_page_of, next_map_page}
-use Rattle.coverage.specs.IndexView.{range_of_block}
+use Rattle.coverage.specs.IndexView.{IndexTuple, Progress, ExtentUnread, Passing, PageKind, Pages, IndexView, map_page_of, next_map_page, range_of_block}
 use Rattle.coverage.specs.IsSound.{IsSound}
 use Rattle.coverage.specs.GoesOn.{GoesOn}
 use Rattle.coverage.specs.Changes.{ChangesAt, SameHeap, SameMap, SameTuples, OwnLocks, IsFree}
-use Rattle.coverage.specs.Statements.{OnIndex, Empty, Held, Copied, Moving, Dropping, Phase, NotBuilding, Vacant, Growing, Evacuating, Placing, IsAt, Statement}
-use Rattle.coverage.specs.Statements.{Idle, Inserting, Maintaining, Holding, Scanning}
+use Rattle.coverage.specs.Statements.{OnIndex, Held, Moving, Dropping, Phase, NotBuilding, Vacant, Growing, Evacuating, Placing, IsAt, Statement, Inserting}
+use Rattle.coverage.specs.Statements.{Maintaining}
 use Rattle.coverage.specs.Knowing.{LocksThese, Knows}
 use Rattle.coverage.specs.PageOrder.{AreOrdered, HasNamedSort, LocksOnIndex, KnowsSort, IsPassWithin, KnowsPagesOfPhase, KnowsPages}
 use Rattle.coverage.specs.Steps.{TurnsPage, SetsEntry}
@@ -94,10 +94,7 @@ quiet_put w v range x y old new named before of same put map map_pages = record 
 }
   where
     stays : (z : Spot) (u : IndexTuple) → w.tuple z ≡ Some u → v.tuple z ≡ Some u
-    stays z u here = ⊎_elim
-        (λ (at : z ≡ y). absurd (none-some _ (sym put.was ∙ ap w.tuple (sym at) ∙ here)))
-        (λ (e : v.tuple z ≡ w.tuple z). e ∙ here)
-        (put.others z)
+    stays z u here = elim (put.others z) [ inl at ↦ absurd (none-some _ (sym put.was ∙ ap w.tuple (sym at) ∙ here)) | inr e ↦ e ∙ here ]
 
 -- a swap in place, likewise
 pub quiet_swap : (w v : IndexView) (range : ℕ) (x : Spot) (old new : IndexTuple) → w.entry range ≡ Some x → new.range ≡ range
@@ -127,14 +124,8 @@ pub quiet_set : (s : ℕ) (w v : IndexView) (range : ℕ) (x y : Spot) (old new 
     → w.tuple y ≡ Some new → new.placeholder ≡ old.placeholder → SetsEntry s w v range y → Quiet w v
 quiet_set s w v range x y old new named before after same sets = record {
   map_pages = ap (λ (g : Pages). g.map_pages) sets.pages;
-  vacant = λ m none. ⊎_elim
-      (λ (at : m ≡ range). absurd (none-some _ (sym none ∙ ap w.entry at ∙ named)))
-      (λ (e : v.entry m ≡ w.entry m). e ∙ none)
-      (sets.entry.others m);
-  still = λ m z is. ⊎_elim
-      (λ (at : m ≡ range). (y, ap v.entry at ∙ sets.entry.now))
-      (λ (e : v.entry m ≡ w.entry m). (z, e ∙ is))
-      (sets.entry.others m);
+  vacant = λ m none. elim (sets.entry.others m) [ inl at ↦ absurd (none-some _ (sym none ∙ ap w.entry at ∙ named)) | inr e ↦ e ∙ none ];
+  still = λ m z is. elim (sets.entry.others m) [ inl at ↦ (y, ap v.entry at ∙ sets.entry.now) | inr e ↦ (z, e ∙ is) ];
   sorts = λ m z has t there in_m.
       let h = has t (sym (sets.frame.tuples.tuple z) ∙ there) in_m in
       ⊎_elim
@@ -157,10 +148,7 @@ quiet_drop w v x unnamed gone others map map_pages = record {
       (λ (at : z ≡ x). absurd (none-some _ (sym gone ∙ ap v.tuple (sym at) ∙ there)))
       (λ (e : v.tuple z ≡ w.tuple z).
       let h = has t (sym e ∙ there) in_m in
-      ⊎_elim
-      (λ (at : h.0 ≡ x). absurd (unnamed m (h.2 ∙ ap Some at)))
-      (λ (e' : v.tuple h.0 ≡ w.tuple h.0). (h.0, h.1, map.entry m ∙ h.2, e' ∙ h.3, h.4))
-      (others h.0))
+      elim (others h.0) [ inl at ↦ absurd (unnamed m (h.2 ∙ ap Some at)) | inr e' ↦ (h.0, h.1, map.entry m ∙ h.2, e' ∙ h.3, h.4) ])
       (others z);
 }
 
@@ -172,35 +160,24 @@ module _ (s : ℕ) (d : ℕ → ℕ → Bool) (w v : IndexView) (sound : IsSound
   }
 
   locks_on : (range : ℕ) (on_index : OnIndex) → LocksOnIndex w.lock n range on_index → LocksOnIndex v.lock n range on_index
-  locks_on range Empty locks = tt
-  locks_on range (Held x) locks = tt
-  locks_on range (Copied x old new) locks = tt
   locks_on range (Moving x y old new) locks = these_on (x.block ∷ y.block ∷ map_page_of range ∷ []) locks
   locks_on range (Dropping x) locks = (locks.0, these_on (x.block ∷ locks.0 ∷ map_page_of range ∷ []) locks.1)
+  locks_on range _ locks = tt
 
   quiet_on : w.summarise_lock ≡ Some n → Quiet w v
   quiet_on held =
       ⊎_elim (λ (is : w.summarise_lock ≡ Some s). absurd (other (same_Some _ _ (sym held ∙ is)))) (λ (q : Quiet w v). q) pages.quiet
 
   sort_on : w.summarise_lock ≡ Some n → (range : ℕ) (on_index : OnIndex) → KnowsSort w range on_index → KnowsSort v range on_index
-  sort_on held range Empty known = tt
   sort_on held range (Held x) known = (quiet_on held).sorts range x known
-  sort_on held range (Copied x old new) known = tt
-  sort_on held range (Moving x y old new) known = tt
-  sort_on held range (Dropping x) known = tt
+  sort_on held range _ known = tt
 
   within_on : (range : ℕ) (p : Progress) → IsPassWithin w range p → IsPassWithin v range p
   within_on range ExtentUnread known = tt
   within_on range (Passing extent next result) known = (
-    through extent w.blocks v.blocks known.0 pages.blocks,
-    ⊎_elim
-        (λ (le : next ≤ extent). inl le)
-        (λ (is : next ≡ range * w.pages_per_range). inr (is ∙ ap (λ m. range * m) (sym pages.pages_per_range)))
-        known.1,
+    le_trans known.0 pages.blocks,
+    elim known.1 [ inl le ↦ inl le | inr is ↦ inr (is ∙ ap (λ m. range * m) (sym pages.pages_per_range)) ],
   )
-    where
-      through : (a b c : ℕ) → a ≤ b → b ≤ c → a ≤ c
-      through a b c le le' = omega arith
 
   phase_pages_on : w.summarise_lock ≡ Some n → (range : ℕ) (phase : Phase) → KnowsPagesOfPhase w n range phase → KnowsPagesOfPhase v n range phase
   phase_pages_on held range (NotBuilding on_index) known = (locks_on range on_index known.0, sort_on held range on_index known.1)
@@ -219,9 +196,7 @@ module _ (s : ℕ) (d : ℕ → ℕ → Bool) (w v : IndexView) (sound : IsSound
       (locks_on range on_index known.0, placeholder_on s d w v sound on n other held range known.1, within_on range p known.2, known.3)
 
   pub pages_on : (e : Statement) → Knows w n e → KnowsPages w n e → KnowsPages v n e
-  pages_on Idle known pages_known = tt
   pages_on (Inserting b k r on_index) known pages_known =
       subst (λ m. LocksOnIndex v.lock n (b / m) on_index) (sym pages.pages_per_range) (locks_on (range_of_block w b) on_index pages_known)
   pages_on (Maintaining range phase) known pages_known = phase_pages_on known.0 range phase pages_known
-  pages_on Holding known pages_known = tt
-  pages_on (Scanning scan) known pages_known = tt
+  pages_on _ known pages_known = tt

@@ -1,33 +1,33 @@
 -- What each step leaves of the pages' order, and of what its own statement knows of pages and page locks.
-use Rattle.std.proofs.Common.{◌≡◌, ◌≢◌, ◌⊎◌, inl, inr, ⊎_elim, ℕ, ◌+◌, ◌*◌, ◌/◌, ◌≤◌, ◌<◌, min, Option, Some, None, List, [], ◌∷◌, length, sym, ◌∙◌, ap, subst, arith}
+use Rattle.std.proofs.Common.{◌≡◌, ◌≢◌, ◌⊎◌, inl, inr, ⊎_elim, ℕ, ◌+◌, ◌*◌, ◌/◌, ◌≤◌, ◌<◌, Option, Some, None, List, [], ◌∷◌, length, sym, ◌∙◌, ap, subst, arith}
 use Rattle.std.specs.Prelude.{refl}
 use Rattle.std.proofs.lemmas.Option.{none-some}
 use Rattle.std.proofs.lemmas.Bool.{cases_eq}
+use Rattle.std.proofs.Math.Nat.{le_refl}
 use Rattle.block_model.specs.declared.row.Row.{Row}
 use Rattle.block_model.specs.declared.place.Spot.{Spot}
-use Rattle.coverage.specs.IndexView.{IndexTuple, Progress, ExtentUnread, Passing, PageKind, Unstarted, Mapping, Regular, Emptying, Pages, IndexView, placeholder_length}
-use Rattle.coverage.specs.IndexView.{map_page_of, next_map_page, IsPastMap, range_of_block, NamesPlaceholder}
+use Rattle.coverage.specs.IndexView.{IndexTuple, Progress, ExtentUnread, Passing, PageKind, Unstarted, Mapping, Regular, Emptying, Pages, IndexView}
+use Rattle.coverage.specs.IndexView.{placeholder_length, map_page_of, next_map_page, IsPastMap, range_of_block, NamesPlaceholder}
 use Rattle.coverage.specs.IsSound.{IsSound}
 use Rattle.coverage.specs.Changes.{SameHeap, OwnLocks, IsUntouched}
 use Rattle.coverage.specs.Rooms.{bytes_of}
 use Rattle.coverage.specs.Verdicts.{Puts, Fits, IsTarget, PutVerdict, PutGoes, SwapVerdict, SwapFits, SwapMoves}
-use Rattle.coverage.specs.Statements.{OnIndex, Empty, Held, Copied, Dropping, Phase, NotBuilding, Vacant, Growing, IsAt, Statement}
-use Rattle.coverage.specs.Statements.{Idle, Inserting, Maintaining, Holding, IsAdded}
+use Rattle.coverage.specs.Statements.{OnIndex, Empty, Held, Copied, Dropping, Phase, NotBuilding, Vacant, Growing, IsAt, Statement, Idle, Inserting}
+use Rattle.coverage.specs.Statements.{Maintaining, Holding, IsAdded}
 use Rattle.coverage.specs.Knowing.{LocksThese, KnowsOnIndex, KnowsPhase}
 use Rattle.coverage.specs.PageOrder.{AreOrdered, IsForTuples, HasNamedSort, LocksOnIndex, IsPassWithin, IsTurnToUnite, KnowsPagesOfPhase, KnowsPages}
-use Rattle.coverage.specs.Steps.{ReadsIndex, ReplacesTuple, SetsEntry, SameLocks, ClearsEntry, DropsTuple, SweepsTuples, OnIndexStep}
-use Rattle.coverage.specs.Steps.{Maps, Gone, Again, MovePut, InsertStep, InsertOnIndex, InsertNoEntry, InsertCopies, InsertUnchanged, InsertSwap, InsertSet}
-use Rattle.coverage.specs.Steps.{InsertDrop, TurnsKind, CountsPage, GrowthStep, Grow, CountLeftOver, Count, Flag, EvacuatePut, EvacuateSet}
+use Rattle.coverage.specs.Steps.{ReadsIndex, ReplacesTuple, SetsEntry, SameLocks, ClearsEntry, DropsTuple, SweepsTuples, OnIndexStep, Maps, Gone, Again}
+use Rattle.coverage.specs.Steps.{MovePut, InsertStep, InsertOnIndex, InsertNoEntry, InsertCopies, InsertUnchanged, InsertSwap, InsertSet, InsertDrop, TurnsKind}
+use Rattle.coverage.specs.Steps.{CountsPage, GrowthStep, Grow, CountLeftOver, Count, Flag, EvacuatePut, EvacuateSet, EvacuateDrop, EvacuateSweep, Turn}
+use Rattle.coverage.specs.Steps.{SummariseStep, LookMap, LookGone, IsFinal, Found, ReadNoEntry, GrowMap, Put, Set, Extent, Pass, Unite, UniteCopies, SwapFinal}
+use Rattle.coverage.specs.Steps.{SetFinal, DropOld, DesummariseStep, ClearMap, ClearNone, Clear, ClearAgain, DropCleared, MaintainStep, Summarises}
+use Rattle.coverage.specs.Steps.{Desummarises}
 use Rattle.coverage.specs.Waiting.{IsNextTuple}
-use Rattle.coverage.specs.Steps.{EvacuateDrop, EvacuateSweep, Turn, SummariseStep, LookMap, LookGone, IsFinal, Found, ReadNoEntry, GrowMap, Put, Set, Extent}
-use Rattle.coverage.specs.Steps.{Pass, Unite, UniteCopies, SwapFinal, SetFinal, DropOld, DesummariseStep, ClearMap, ClearNone, Clear, ClearAgain, DropCleared}
-use Rattle.coverage.specs.Steps.{MaintainStep, Summarises, Desummarises}
 use Rattle.coverage.proofs.Numbers.{lt_or_ge, lowest_below}
 use Rattle.coverage.proofs.Stable.{held_named}
 use Rattle.coverage.proofs.OnIndexSteps.{move_compares}
 use Rattle.coverage.proofs.InsertSteps.{on_index_keeps}
-use Rattle.coverage.proofs.PagesOrdered.{IsStarted, for_tuples, turned_same, order_same, entries_same, tuples_same, order_turned, order_puts}
-use Rattle.coverage.proofs.PagesOrdered.{order_counted}
+use Rattle.coverage.proofs.PagesOrdered.{IsStarted, for_tuples, turned_same, order_same, entries_same, tuples_same, order_turned, order_puts, order_counted}
 use Rattle.coverage.proofs.PagesGoOn.{Quiet, PagesGoOn, PagesAfter, same_blocks, quiet_same, kinds_turned, still_after, quiet_put, quiet_swap, quiet_set, quiet_drop}
 
 -- the page of a put is the target that was chosen
@@ -221,10 +221,7 @@ names_on_index s range m w v _ _ (MovePut x y old new verdict puts these) names 
   names.0,
   names.1,
   puts.frame.map.entry range ∙ names.2,
-  ⊎_elim
-      (λ (at : names.0 ≡ y). absurd (none-some _ (sym puts.tuple.was ∙ ap w.tuple (sym at) ∙ names.3)))
-      (λ (e : v.tuple names.0 ≡ w.tuple names.0). e ∙ names.3)
-      (puts.tuple.others names.0),
+  elim (puts.tuple.others names.0) [ inl at ↦ absurd (none-some _ (sym puts.tuple.was ∙ ap w.tuple (sym at) ∙ names.3)) | inr e ↦ e ∙ names.3 ],
   names.4,
 )
 
@@ -232,10 +229,7 @@ within_same : (range : ℕ) (w v : IndexView) (p : Progress) → SameHeap w v �
 within_same range w v ExtentUnread heap within = tt
 within_same range w v (Passing extent next result) heap within = (
   subst (λ n. extent ≤ n) (sym heap.blocks) within.0,
-  ⊎_elim
-      (λ (le : next ≤ extent). inl le)
-      (λ (is : next ≡ range * w.pages_per_range). inr (is ∙ ap (λ m. range * m) (sym heap.pages_per_range)))
-      within.1,
+  elim within.1 [ inl le ↦ inl le | inr is ↦ inr (is ∙ ap (λ m. range * m) (sym heap.pages_per_range)) ],
 )
 
 uniting : (s range : ℕ) (w v : IndexView) (extent next : ℕ) (result : IndexTuple) → extent ≤ next → (g h : OnIndex) → OnIndexStep s range w v g h
@@ -250,26 +244,14 @@ module _ (s range : ℕ) (w v : IndexView) (ordered : AreOrdered w) (held : w.su
   turn_ordered : (kind : PageKind) (these : List ℕ) → TurnsKind s w v kind these → next_map_page w.pages < w.pages.limit → (kind ≡ Unstarted → ⊥)
       → ((x : Spot) (t : IndexTuple) → x.block ≡ next_map_page w.pages → w.tuple x ≡ Some t → (kind ≡ Regular) ⊎ (kind ≡ Emptying)) → AreOrdered v
   turn_ordered kind these turns low started holds =
-      order_turned w v ordered (next_map_page w.pages) kind turns.page (past w.pages.map_pages) low started (λ is. self (next_map_page w.pages)) first
+      order_turned w v ordered (next_map_page w.pages) kind turns.page (omega arith) low started (λ is. le_refl (next_map_page w.pages)) first
       (λ x t here.
       let was : w.tuple x ≡ Some t = sym (turns.frame.tuples.tuple x) ∙ here in
-      ⊎_elim
-      (λ (at : x.block ≡ next_map_page w.pages). inl (at, holds x t at was))
-      (λ (other : x.block ≢ next_map_page w.pages). inr (other, ordered.tuples x t was))
-      (cases_eq x.block (next_map_page w.pages)))
+      elim (cases_eq x.block (next_map_page w.pages)) [ inl at ↦ inl (at, holds x t at was) | inr other ↦ inr (other, ordered.tuples x t was) ])
       (entries_same w v ordered turns.frame.map)
     where
-      past : (n : ℕ) → n < n + 1
-      past n = omega arith
-
-      self : (n : ℕ) → n ≤ n
-      self n = omega arith
-
-      before : (p n : ℕ) → p < n + 1 → p ≤ n
-      before p n less = omega arith
-
       first : (p : ℕ) → p < next_map_page w.pages → w.pages.kind p ≢ Unstarted
-      first p less is = subst IsStarted (sym (ordered.map p (before p w.pages.map_pages less)) ∙ is) tt
+      first p less is = subst IsStarted (sym (ordered.map p (omega arith)) ∙ is) tt
 
   grown : (these : List ℕ) (turns : TurnsKind s w v Mapping these) → these ≡ (next_map_page w.pages ∷ 0 ∷ []) → KnowsPagesOfPhase v s range Growing
   grown these turns are = (
@@ -321,10 +303,7 @@ module _ (s range : ℕ) (w v : IndexView) (ordered : AreOrdered w) (held : w.su
   }
 
   long_enough : (IsPastMap w.pages range → ⊥) → map_page_of range ≤ w.pages.map_pages
-  long_enough long = ⊎_elim
-      (λ (past : w.pages.map_pages < map_page_of range). absurd (long past))
-      (λ (le : map_page_of range ≤ w.pages.map_pages). le)
-      (lt_or_ge w.pages.map_pages (map_page_of range))
+  long_enough long = elim (lt_or_ge w.pages.map_pages (map_page_of range)) [ inl past ↦ absurd (long past) | inr le ↦ le ]
 
   -- where the map was read, the tuple at the place is the one that it names
   sort_read : (x : Spot) → w.entry range ≡ Some x → ReadsIndex s w v → HasNamedSort v range x
@@ -357,24 +336,18 @@ module _ (s range : ℕ) (w v : IndexView) (ordered : AreOrdered w) (held : w.su
         tt,
         names_reads s range w v reads pages.1,
         (
-          subst (λ n. extent ≤ n) (sym reads.frame.heap.blocks) (least extent w.blocks ((range + 1) * w.pages_per_range) is),
+          subst (λ n. extent ≤ n) (sym reads.frame.heap.blocks) (omega arith),
           inr (ap (λ m. range * m) (sym reads.frame.heap.pages_per_range)),
         ),
         tt,
       )
-    where
-      least : (e a b : ℕ) → e ≡ min a b → e ≤ a
-      least e a b is = omega arith
   summarise_after _ _ (Pass extent next slots result wider below none made reads) known pages =
       read_after s w v ordered (Maintaining range (IsAt (Passing extent (next + 1) wider) Empty)) reads (
         tt,
         names_reads s range w v reads pages.1,
-        (subst (λ n. extent ≤ n) (sym reads.frame.heap.blocks) pages.2.0, inl (after next extent below)),
+        (subst (λ n. extent ≤ n) (sym reads.frame.heap.blocks) pages.2.0, inl (omega arith)),
         tt,
       )
-    where
-      after : (n e : ℕ) → n < e → n + 1 ≤ e
-      after n e less = omega arith
   summarise_after _ _ (Unite extent next result old new all step) known pages =
       let after = on_index_after s w v ordered range (inl held) old new step in
       record {
@@ -415,10 +388,7 @@ module _ (s range : ℕ) (w v : IndexView) (ordered : AreOrdered w) (held : w.su
       (
         x.block,
         record {
-          locked = λ p one. ⊎_elim
-              (λ (at : p ≡ x.block). these.locked p (inl at))
-              (λ (more : (p ≡ x.block) ⊎ ((p ≡ map_page_of range) ⊎ ⊥)). these.locked p more)
-              one;
+          locked = λ p one. elim one [ inl at ↦ these.locked p (inl at) | inr more ↦ these.locked p more ];
           only = λ p is. inr (these.only p is);
         },
       ),

@@ -3,6 +3,7 @@ use Rattle.std.proofs.Common.{◌≡◌, ◌≢◌, ◌⊎◌, inl, inr, ⊎_eli
 use Rattle.std.specs.Prelude.{refl}
 use Rattle.std.proofs.lemmas.Option.{none-some}
 use Rattle.std.proofs.lemmas.Bool.{cases_eq}
+use Rattle.std.proofs.Math.Nat.{not-le_of_lt}
 use Rattle.block_model.specs.declared.place.Spot.{Spot}
 use Rattle.coverage.specs.IndexView.{IndexTuple, PageKind, Unstarted, Mapping, Regular, Emptying, Pages, IndexView, map_page_of, next_map_page}
 use Rattle.coverage.specs.Changes.{SameMap, SameTuples}
@@ -23,18 +24,12 @@ IsNoMap kind = Unit
 
 -- a page with tuples is started, and is no map page
 pub for_tuples : (w : IndexView) (p : ℕ) → IsForTuples w.pages p → IsStarted (w.pages.kind p) × IsNoMap (w.pages.kind p)
-for_tuples w p is = ⊎_elim
-    (λ (r : w.pages.kind p ≡ Regular). (subst IsStarted (sym r) tt, subst IsNoMap (sym r) tt))
-    (λ (e : w.pages.kind p ≡ Emptying). (subst IsStarted (sym e) tt, subst IsNoMap (sym e) tt))
-    is
+for_tuples w p is = elim is [ inl r ↦ (subst IsStarted (sym r) tt, subst IsNoMap (sym r) tt) | inr e ↦ (subst IsStarted (sym e) tt, subst IsNoMap (sym e) tt) ]
 
 -- a page that turns to the kind that it is of
 pub turned_same : (w v : IndexView) (page : ℕ) (kind : PageKind) → TurnsPage w.pages v.pages page kind → w.pages.kind page ≡ kind → (p : ℕ)
     → v.pages.kind p ≡ w.pages.kind p
-turned_same w v page kind turns was p = ⊎_elim
-    (λ (at : p ≡ page). ap v.pages.kind at ∙ turns.now ∙ sym was ∙ ap w.pages.kind (sym at))
-    (λ (e : v.pages.kind p ≡ w.pages.kind p). e)
-    (turns.kinds p)
+turned_same w v page kind turns was p = elim (turns.kinds p) [ inl at ↦ ap v.pages.kind at ∙ turns.now ∙ sym was ∙ ap w.pages.kind (sym at) | inr e ↦ e ]
 
 abbrev TuplesOn : IndexView → IndexView → Type 0
 TuplesOn w v = (x : Spot) (t : IndexTuple) → v.tuple x ≡ Some t → IsForTuples w.pages x.block
@@ -52,10 +47,7 @@ module _ (w v : IndexView) (ordered : AreOrdered w) where
     left_over = λ p is. subst (λ n. p ≤ n + 1) (sym map_pages) (ordered.left_over p (sym (kinds p) ∙ is));
     started = λ p q less is. kinds q ∙ ordered.started p q less (sym (kinds p) ∙ is);
     below = λ p not. subst (λ n. p < n) (sym limit) (ordered.below p (λ is. not (kinds p ∙ is)));
-    tuples = λ x t here. ⊎_elim
-        (λ (r : w.pages.kind x.block ≡ Regular). inl (kinds x.block ∙ r))
-        (λ (e : w.pages.kind x.block ≡ Emptying). inr (kinds x.block ∙ e))
-        (tuples x t here);
+    tuples = λ x t here. elim (tuples x t here) [ inl r ↦ inl (kinds x.block ∙ r) | inr e ↦ inr (kinds x.block ∙ e) ];
     entries = λ range x named. subst (λ n. map_page_of range ≤ n) (sym map_pages) (entries range x named);
   }
 
@@ -77,19 +69,13 @@ module _ (w v : IndexView) (ordered : AreOrdered w) where
     other_kind : (p : ℕ) → p ≢ page → v.pages.kind p ≡ w.pages.kind p
     other_kind p other = ⊎_elim (λ (at : p ≡ page). absurd (other at)) (λ (e : v.pages.kind p ≡ w.pages.kind p). e) (turns.kinds p)
 
-    apart : (p : ℕ) → p ≤ w.pages.map_pages → p ≢ page
-    apart p le at = differ p page w.pages.map_pages le past at
-      where
-        differ : (a b n : ℕ) → a ≤ n → n < b → a ≡ b → ⊥
-        differ a b n le less is = omega arith
-
     abbrev Lies : Spot → Type 0
     Lies x = ((x.block ≡ page) × ((kind ≡ Regular) ⊎ (kind ≡ Emptying))) ⊎ ((x.block ≢ page) × IsForTuples w.pages x.block)
 
     pub order_turned : ((x : Spot) (t : IndexTuple) → v.tuple x ≡ Some t → Lies x) → EntriesWithin w v → AreOrdered v
     order_turned tuples entries = record {
       counted = subst (λ n. 0 < n) (sym turns.map_pages) ordered.counted;
-      map = λ p le. let le' = subst (λ n. p ≤ n) turns.map_pages le in other_kind p (apart p le') ∙ ordered.map p le';
+      map = λ p le. let le' = subst (λ n. p ≤ n) turns.map_pages le in other_kind p (omega arith) ∙ ordered.map p le';
       left_over = λ p is. subst (λ n. p ≤ n + 1) (sym turns.map_pages) (⊎_elim
           (λ (at : p ≡ page). subst (λ q. q ≤ next_map_page w.pages) (sym at) (next (sym turns.now ∙ ap v.pages.kind (sym at) ∙ is)))
           (λ (other : p ≢ page). ordered.left_over p (sym (other_kind p other) ∙ is))
@@ -117,16 +103,10 @@ module _ (w v : IndexView) (ordered : AreOrdered w) where
   -- the next page that isn't started is started, for tuples
   module _ (page : ℕ) (lowest : IsLowestNumber (IsPageUnstarted w.pages) page) (low : page < w.pages.limit) (turns : TurnsPage w.pages v.pages page Regular) where
     past_map : w.pages.map_pages < page
-    past_map = ⊎_elim
-        (λ (less : w.pages.map_pages < page). less)
-        (λ (le : page ≤ w.pages.map_pages). absurd (subst IsStarted (sym (ordered.map page le) ∙ lowest.0) tt))
-        (lt_or_ge w.pages.map_pages page)
+    past_map = elim (lt_or_ge w.pages.map_pages page) [ inl less ↦ less | inr le ↦ absurd (subst IsStarted (sym (ordered.map page le) ∙ lowest.0) tt) ]
 
     none_before : (p : ℕ) → p < page → w.pages.kind p ≢ Unstarted
-    none_before p less is = cross p page less (lowest.1 p is)
-      where
-        cross : (a b : ℕ) → a < b → b ≤ a → ⊥
-        cross a b less more = omega arith
+    none_before p less is = not-le_of_lt less (lowest.1 p is)
 
     pub order_started : ((x : Spot) (t : IndexTuple) → v.tuple x ≡ Some t → (x.block ≡ page) ⊎ IsForTuples w.pages x.block) → EntriesWithin w v → AreOrdered v
     order_started tuples entries =
@@ -159,17 +139,14 @@ module _ (w v : IndexView) (ordered : AreOrdered w) where
       → SameTuples w v
       → AreOrdered v
   order_counted pages next same_map same_tuples = record {
-    counted = subst (λ n. 0 < n) (sym map_pages) (more w.pages.map_pages);
+    counted = subst (λ n. 0 < n) (sym map_pages) (omega arith);
     map = λ p le. kinds p ∙ mapping p (subst (λ n. p ≤ n) map_pages le);
-    left_over = λ p is. subst (λ n. p ≤ n + 1) (sym map_pages) (wider p (next_map_page w.pages) (ordered.left_over p (sym (kinds p) ∙ is)));
+    left_over = λ p is. subst (λ n. p ≤ n + 1) (sym map_pages) (omega (arith, ordered.left_over p (sym (kinds p) ∙ is)));
     started = λ p q less is. kinds q ∙ ordered.started p q less (sym (kinds p) ∙ is);
     below = λ p not. subst (λ n. p < n) (sym (ap (λ (g : Pages). g.limit) pages)) (ordered.below p (λ is. not (kinds p ∙ is)));
-    tuples = λ x t here. ⊎_elim
-        (λ (r : w.pages.kind x.block ≡ Regular). inl (kinds x.block ∙ r))
-        (λ (e : w.pages.kind x.block ≡ Emptying). inr (kinds x.block ∙ e))
-        (tuples_same same_tuples x t here);
+    tuples = λ x t here. elim (tuples_same same_tuples x t here) [ inl r ↦ inl (kinds x.block ∙ r) | inr e ↦ inr (kinds x.block ∙ e) ];
     entries = λ range x named.
-        subst (λ n. map_page_of range ≤ n) (sym map_pages) (wider (map_page_of range) w.pages.map_pages (entries_same same_map range x named));
+        subst (λ n. map_page_of range ≤ n) (sym map_pages) (omega (arith, entries_same same_map range x named));
   }
     where
       map_pages : v.pages.map_pages ≡ next_map_page w.pages
@@ -178,50 +155,23 @@ module _ (w v : IndexView) (ordered : AreOrdered w) where
       kinds : (p : ℕ) → v.pages.kind p ≡ w.pages.kind p
       kinds p = ap (λ (g : Pages). g.kind p) pages
 
-      more : (n : ℕ) → 0 < n + 1
-      more n = omega arith
-
-      wider : (a n : ℕ) → a ≤ n → a ≤ n + 1
-      wider a n le = omega arith
-
-      below_next : (p n : ℕ) → p ≤ n + 1 → p ≢ n + 1 → p ≤ n
-      below_next p n le other = omega arith
-
       mapping : (p : ℕ) → p ≤ next_map_page w.pages → w.pages.kind p ≡ Mapping
-      mapping p le = ⊎_elim
-          (λ (at : p ≡ next_map_page w.pages). ap w.pages.kind at ∙ next)
-          (λ (other : p ≢ next_map_page w.pages). ordered.map p (below_next p w.pages.map_pages le other))
-          (cases_eq p (next_map_page w.pages))
+      mapping p le = elim (cases_eq p (next_map_page w.pages)) [ inl at ↦ ap w.pages.kind at ∙ next | inr other ↦ ordered.map p (omega arith) ]
 
 -- a new index
 pub order_new : (w : IndexView) → AreNewPages w.pages → ((x : Spot) → w.tuple x ≡ None) → ((range : ℕ) → w.entry range ≡ None) → AreOrdered w
 order_new w new tuples entries = record {
   counted = subst (λ n. 0 < n) (sym new.one) (omega arith);
-  map = λ p le. new.map p (first p (subst (λ n. p ≤ n) new.one le));
+  map = λ p le. new.map p (omega (arith, subst (λ n. p ≤ n) new.one le));
   left_over = λ p is. subst (λ n. p ≤ n + 1) (sym new.one) (⊎_elim
       (λ (low : p < 2). below p low)
       (λ (high : 2 ≤ p). absurd (subst IsStarted (sym is ∙ new.rest p high) tt))
       (lt_or_ge p 2));
-  started = λ p q less is. ⊎_elim
-      (λ (low : p < 2). absurd (subst IsStarted (sym (new.map p low) ∙ is) tt))
-      (λ (high : 2 ≤ p). new.rest q (higher p q high less))
-      (lt_or_ge p 2);
-  below = λ p not. ⊎_elim
-      (λ (low : p < 2). within p w.pages.limit low new.below)
-      (λ (high : 2 ≤ p). absurd (not (new.rest p high)))
-      (lt_or_ge p 2);
+  started = λ p q less is. elim (lt_or_ge p 2) [ inl low ↦ absurd (subst IsStarted (sym (new.map p low) ∙ is) tt) | inr high ↦ new.rest q (omega arith) ];
+  below = λ p not. elim (lt_or_ge p 2) [ inl low ↦ omega (arith, low, new.below) | inr high ↦ absurd (not (new.rest p high)) ];
   tuples = λ x t here. absurd (none-some _ (sym (tuples x) ∙ here));
   entries = λ range x named. absurd (none-some _ (sym (entries range) ∙ named));
 }
   where
-    first : (p : ℕ) → p ≤ 1 → p < 2
-    first p le = omega arith
-
     below : (p : ℕ) → p < 2 → p ≤ 1 + 1
     below p low = omega arith
-
-    higher : (p q : ℕ) → 2 ≤ p → p < q → 2 ≤ q
-    higher p q high less = omega arith
-
-    within : (p n : ℕ) → p < 2 → 1 < n → p < n
-    within p n low more = omega arith

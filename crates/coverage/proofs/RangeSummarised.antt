@@ -1,24 +1,19 @@
 -- A run that takes a range of a new index to its final tuple: the steps, one after the other.
-use Rattle.std.proofs.Common.{◌≡◌, ℕ, ◌+◌, ◌<◌, ◌≤◌, Option, Some, None, false, [], ◌∷◌, sym, ap, subst, arith, zero, suc}
+use Rattle.std.proofs.Common.{◌≡◌, ℕ, ◌<◌, ◌≤◌, Some, None, false, [], ◌∷◌, sym, ap, subst, arith, zero, suc}
 use Rattle.std.specs.Prelude.{refl}
-use Rattle.block_model.specs.declared.row.Row.{Row}
 use Rattle.coverage.specs.IndexView.{ExtentUnread, Passing, Unstarted, Mapping, Regular}
 use Rattle.coverage.specs.Statements.{Empty, Held, Copied, NotBuilding, Vacant, Placing, IsAt, Idle, Maintaining, Holding}
 use Rattle.coverage.specs.Verdicts.{OnNew, PutGoes, SwapFits}
-use Rattle.index_layout.specs.IndexReading.{free_of}
 use Rattle.coverage.specs.PageOrder.{AreNewPages}
-use Rattle.coverage.specs.Rooms.{bytes_of, slots_on}
 use Rattle.coverage.specs.IsCovered.{IndexState, new_index, IsIndexKept}
-use Rattle.coverage.specs.Steps.{Step, TakeSummariseLock, BeginRange, GiveSummariseLock, ReadNoEntry, Put, Set, Extent}
-use Rattle.coverage.specs.Steps.{Pass, Unite, UniteCopies, SwapFinal, Maps, Run, Done, Next}
+use Rattle.coverage.specs.Steps.{Step, TakeSummariseLock, BeginRange, GiveSummariseLock, ReadNoEntry, Put, Set, Extent, Pass, Unite, UniteCopies, SwapFinal}
+use Rattle.coverage.specs.Steps.{Maps, Run, Done, Next}
 use Rattle.coverage.proofs.Opening.{new_kept}
 use Rattle.coverage.proofs.Runs.{run_kept}
 use Rattle.coverage.proofs.ExampleTuples.{contents, lawful, empty_tuple, final_tuple}
-use Rattle.coverage.proofs.SmallIndex.{no_tuples, place, one_tuple, new_kind, pages, kind_number, differ, Small, statement_at, index_of, view, at_statement, put_at, set_at, held_by}
-use Rattle.coverage.proofs.SmallIndex.{placed_again, turned, summarises, free, locks_these, nobody, reads, puts, sets, replaces, passes}
-
-abbrev pub no_rows : ℕ → ℕ → Option Row
-no_rows b k = None
+use Rattle.coverage.proofs.SmallIndex.{no_rows, no_tuples, place, one_tuple, new_kind, pages, kind_number, differ, Small, statement_at, index_of, at_statement}
+use Rattle.coverage.proofs.SmallIndex.{put_at, set_at, held_by, placed_again, turned, summarises, free, locks_these, nobody, reads, puts, sets, replaces}
+use Rattle.coverage.proofs.SmallIndex.{passes}
 
 -- the states of the run, each named for the step that led to it
 abbrev new : Small
@@ -118,12 +113,9 @@ nine = summarises no_rows placeholder_read result_copied 0 (IsAt (Passing 1 1 em
     (UniteCopies 1 1 empty_tuple place empty_tuple final_tuple (omega arith) (refl, refl) refl
     (reads no_rows placeholder_read (Maintaining 0 (IsAt (Passing 1 1 empty_tuple) (Copied place empty_tuple final_tuple))) refl))
 
-in_place : (size free : ℕ) → size ≤ free + size
-in_place size free = omega arith
-
 ten : Step 0 (index_of no_rows result_copied) (index_of no_rows final_swapped)
 ten = summarises no_rows result_copied final_swapped 0 (IsAt (Passing 1 1 empty_tuple) (Copied place empty_tuple final_tuple)) Holding refl refl
-    (SwapFinal (Passing 1 1 empty_tuple) place empty_tuple final_tuple (SwapFits (free no_rows result_copied 2) refl refl (in_place 8 (free_of (slots_on (bytes_of (view no_rows result_copied).tuple) 2))))
+    (SwapFinal (Passing 1 1 empty_tuple) place empty_tuple final_tuple (SwapFits (free no_rows result_copied 2) refl refl (omega arith))
     (replaces no_rows result_copied place empty_tuple final_tuple (one_tuple (Some final_tuple)) Holding
     (record { was = refl; now = refl; others = placed_again place (Some final_tuple) (Some empty_tuple) no_tuples }) refl refl))
 
@@ -131,26 +123,17 @@ eleven : Step 0 (index_of no_rows final_swapped) range_done
 eleven = GiveSummariseLock (turned no_rows final_swapped summarised Holding Idle refl refl) (passes no_rows final_swapped (Some 0) None Idle refl refl)
     (record { counts = λ t. refl })
 
-new_pages : AreNewPages (pages new_kind)
+pub new_pages : AreNewPages (pages new_kind)
 new_pages = record { one = refl; map = map; rest = rest; below = omega arith }
   where
     map : (p : ℕ) → p < 2 → new_kind p ≡ Mapping
     map zero low = refl
     map (suc zero) low = refl
-    map (suc (suc p)) low = absurd (cross p low)
-      where
-        cross : (p : ℕ) → suc (suc p) < 2 → ⊥
-        cross p low = omega arith
+    map (suc (suc p)) low = absurd (omega arith)
 
     rest : (p : ℕ) → 2 ≤ p → new_kind p ≡ Unstarted
-    rest zero high = absurd (low 0 high)
-      where
-        low : (p : ℕ) → 2 ≤ 0 → ⊥
-        low p high = omega arith
-    rest (suc zero) high = absurd (low 0 high)
-      where
-        low : (p : ℕ) → 2 ≤ 1 → ⊥
-        low p high = omega arith
+    rest zero high = absurd (omega arith)
+    rest (suc zero) high = absurd (omega arith)
     rest (suc (suc p)) high = refl
 
 abbrev empty_index : IndexState

@@ -2,21 +2,21 @@
 use Rattle.std.proofs.Common.{◌≡◌, ◌≢◌, ◌⊎◌, inl, inr, ⊎_elim, ℕ, ◌+◌, ◌≤◌, ◌<◌, List, [], ◌∷◌, length, sym, ◌∙◌, ap, subst, arith, suc}
 use Rattle.std.specs.Prelude.{refl, ◌↔◌}
 use Rattle.std.proofs.lemmas.Bool.{cases_eq}
+use Rattle.std.proofs.Math.Nat.{le-suc, le_refl, le_trans, lt_irrefl}
 use Rattle.coverage.specs.IndexView.{IndexView}
 use Rattle.coverage.specs.Statements.{Dropping, Phase, NotBuilding, Statement, Maintaining, Holding}
 use Rattle.coverage.specs.Knowing.{Knows}
-use Rattle.coverage.specs.Steps.{SummariseStep, LookMap, LookGone, IsFinal, Found, ReadNoEntry, GrowMap, Put, Set, Extent, Pass, Unite, UniteCopies}
-use Rattle.coverage.specs.Steps.{SwapFinal, SetFinal, DropOld, GrowthStep, Grow, CountLeftOver, Count, Flag, EvacuatePut, EvacuateSet, EvacuateDrop, EvacuateSweep, Turn}
+use Rattle.coverage.specs.Steps.{SummariseStep, IsFinal, GrowMap, SwapFinal, SetFinal, DropOld, GrowthStep, Grow}
 use Rattle.coverage.specs.Counts.{NamesFinal, summarise_count}
 use Rattle.coverage.proofs.CountsExact.{summarise_exact}
 use Rattle.coverage.proofs.FinalsElsewhere.{same_final, sweeps_final, summarise_elsewhere}
-use Rattle.coverage.specs.Table.{Index, Job, EachRange, OneRange, WholeRanges, Desummarising, Task, Resting, Reaches, Considers, Maintains}
-use Rattle.coverage.specs.Table.{Prunes, SweepsFrom, Sweeps, Restarts, Scans, TableState, seen_by, index_state, index_view_at}
-use Rattle.coverage.specs.TableSteps.{TaskTurns, StepsIn, JobStep, BeginsWith, Summarize, SummarizeOne, Work, Desummarize, Vacuum, IndexFull}
-use Rattle.coverage.specs.TableSteps.{Does, PutsRow, RefusesRow, AsksSummary, InsertGoes, InsertCompletes, RefusesInsert, TakesLock, MaintainGoes}
-use Rattle.coverage.specs.TableSteps.{MaintainCompletes, RefusesMaintain, RefusesVacuum, PrunesBlock, SweepsPage, RestartsIndex, BeginsScan, Judges}
-use Rattle.coverage.specs.TableSteps.{ReadsBlock, RefusesScan, MarksRow, Conflicts, Blocked, Transacts, IsFrom, Onward, Stays, ToAsk, ToIndex, Inserted}
-use Rattle.coverage.specs.TableSteps.{ToRange, NextIndex, Pruned, ToPage, Swept, JudgesNext, Scanned, ToMarks, Marked, Settles, GoesOn, GivesLock, TableStep}
+use Rattle.coverage.specs.Table.{Index, Job, Desummarising, Task, Resting, Reaches, Considers, Maintains, Prunes, SweepsFrom, Sweeps, Restarts, Scans}
+use Rattle.coverage.specs.Table.{TableState, seen_by, index_state, index_view_at}
+use Rattle.coverage.specs.TableSteps.{TaskTurns, StepsIn, JobStep, BeginsWith, Work, IndexFull, Does, PutsRow, RefusesRow, AsksSummary, InsertGoes}
+use Rattle.coverage.specs.TableSteps.{InsertCompletes, RefusesInsert, TakesLock, MaintainGoes, MaintainCompletes, RefusesMaintain, RefusesVacuum, PrunesBlock}
+use Rattle.coverage.specs.TableSteps.{SweepsPage, RestartsIndex, BeginsScan, Judges, ReadsBlock, RefusesScan, MarksRow, Conflicts, Blocked, Transacts, IsFrom}
+use Rattle.coverage.specs.TableSteps.{Onward, Stays, ToAsk, ToIndex, ToRange, NextIndex, Pruned, ToPage, Swept, JudgesNext, ToMarks, Settles, GoesOn, GivesLock}
+use Rattle.coverage.specs.TableSteps.{TableStep}
 use Rattle.coverage.specs.StepsLeft.{IsIn}
 use Rattle.coverage.specs.TableCovered.{IsTableKept}
 use Rattle.coverage.specs.Accounts.{Account, Accounts, Begins, Adds, job_count, AccountsStep, AccountsRun, AccountsDone, AccountsNext}
@@ -50,61 +50,24 @@ abbrev Counts : (range count : ℕ) → Phase → Statement → Type 0
 Counts range count old new = ((count ≡ 0) × (next_uncounted range old ≤ uncounted_after range new))
     ⊎ ((count ≡ 1) × (next_uncounted range old ≡ range) × (uncounted_after range new ≡ suc range))
 
-self : (n : ℕ) → n ≤ n
-self n = omega arith
-
-onto : (n : ℕ) → n ≤ suc n
-onto n = omega arith
-
 module _ (s range : ℕ) (w v : IndexView) where
   growth_counts : (old new : Phase) → GrowthStep s range w v old new → next_uncounted range old ≤ next_uncounted range new
-  growth_counts _ _ (Grow grows free meta turns) = self range
-  growth_counts _ _ (CountLeftOver grows meta counts) = self range
-  growth_counts _ _ (Count counts) = self range
-  growth_counts _ _ (Flag grows free turns) = self range
-  growth_counts _ _ (EvacuatePut x y t grows next named free verdict puts these) = self range
-  growth_counts _ _ (EvacuateSet m x y t u sets same) = self range
-  growth_counts _ _ (EvacuateDrop m x drops) = self range
-  growth_counts _ _ (EvacuateSweep x t grows next unnamed sweeps) = self range
-  growth_counts _ _ (Turn grows empty free meta turns) = self range
+  growth_counts _ _ (Grow grows free meta turns) = le_refl range
+  growth_counts _ _ _ = le_refl range
 
   step_counts : (old : Phase) (new : Statement) (step : SummariseStep s range w v old new) → Counts range (summarise_count step) old new
-  step_counts _ _ (LookMap x named reads) = inl (refl, self range)
-  step_counts _ _ (LookGone x gone reads) = inl (refl, self range)
-  step_counts _ _ (IsFinal x t stands final reads) = inl (refl, onto range)
-  step_counts _ _ (Found x t stands flag reads) = inl (refl, self range)
-  step_counts _ _ (ReadNoEntry none of reads) = inl (refl, self range)
+  step_counts _ _ (IsFinal x t stands final reads) = inl (refl, le-suc range)
   step_counts _ _ (GrowMap old new step) = inl (refl, growth_counts old new step)
-  step_counts _ _ (Put x t is long verdict puts these) = inl (refl, self range)
-  step_counts _ _ (Set x sets none) = inl (refl, self range)
-  step_counts _ _ (Extent extent result start is reads) = inl (refl, self range)
-  step_counts _ _ (Pass extent next slots result wider below none made reads) = inl (refl, self range)
-  step_counts _ _ (Unite extent next result old new all step) = inl (refl, self range)
-  step_counts _ _ (UniteCopies extent next result x old new all stands united reads) = inl (refl, self range)
   step_counts _ _ (SwapFinal p x old new verdict swap) = inr (refl, refl, refl)
   step_counts _ _ (SetFinal p x y old new sets same) = inr (refl, refl, refl)
-  step_counts _ _ (DropOld x drops) = inl (refl, self (suc range))
+  step_counts _ _ (DropOld x drops) = inl (refl, le_refl (suc range))
+  step_counts _ _ _ = inl (refl, le_refl range)
 
 from_mono : (at a b i m : ℕ) → a ≤ b → IsFrom at b i m → IsFrom at a i m
-from_mono at a b i m le from = ⊎_elim
-    (λ (later : at < i). inl later)
-    (λ (same : (at ≡ i) × (b ≤ m)). inr (same.0, through a b m le same.1))
-    from
-  where
-    through : (a b m : ℕ) → a ≤ b → b ≤ m → a ≤ m
-    through a b m le le' = omega arith
+from_mono at a b i m le from = elim from [ inl later ↦ inl later | inr same ↦ inr (same.0, le_trans le same.1) ]
 
 from_not : (at range n : ℕ) → n ≡ suc range → IsFrom at n at range → ⊥
-from_not at range n is from = ⊎_elim
-    (λ (later : at < at). apart at later)
-    (λ (same : (at ≡ at) × (n ≤ range)). past n range is same.1)
-    from
-  where
-    apart : (a : ℕ) → a < a → ⊥
-    apart a less = omega arith
-
-    past : (n range : ℕ) → n ≡ suc range → n ≤ range → ⊥
-    past n range is le = omega arith
+from_not at range n is from = elim from [ inl later ↦ lt_irrefl at later | inr same ↦ omega (arith, is, same.1) ]
 
 -- where an index stays, its ranges keep their final tuples, and no others have them
 index_final : (i m : ℕ) (w v : TableState) → v.index i ≡ w.index i → NamesFinal (index_view_at i v) m → NamesFinal (index_view_at i w) m
@@ -128,10 +91,8 @@ GoesOnGiving t = GivesFinals t ⊎ (t ≡ Resting)
 
 count_of : (job : Job) (is : IsBuilder job) (s range : ℕ) (w v : IndexView) (old : Phase) (e : Statement) (step : JobStep job s range w v old e)
     → job_count job s range w v old e step ≡ summarise_count (job_summarises job is s range w v old e step)
-count_of (EachRange extent) is s range w v old e step = refl
-count_of (OneRange extent only) is s range w v old e step = refl
-count_of (WholeRanges extent) is s range w v old e step = refl
 count_of (Desummarising only) is s range w v old e step = absurd is
+count_of _ is s range w v old e step = refl
 
 module _ (s : ℕ) (w u : TableState) (a b : Accounts) where
   abbrev Makes : Task → Task → Type 0
@@ -198,32 +159,16 @@ module _ (s : ℕ) (w u : TableState) (a b : Accounts) where
       made new ahead count = ⊎_elim
           (λ (none : (summarise_count step ≡ 0) × (next_uncounted range old ≤ uncounted_after range e)).
           MakesNone (λ i m is'. let one = itself i m is' in
-          not_both (summarise_count step) none.0
-          (exact.1 (subst (λ j. IsMadeFinal w u j range) one.0 (subst (IsMadeFinal w u i) one.1 is'))))
-          (zeroth (summarise_count step) ((a.of s).ranges) ((b.of s).ranges) none.0 count)
+          omega (arith, none.0, exact.1 (subst (λ j. IsMadeFinal w u j range) one.0 (subst (IsMadeFinal w u i) one.1 is'))))
+          (omega (arith, none.0, count))
           (λ i m is'. from_mono at (next_uncounted range old) (uncounted_after range e) i m none.1 (ahead i m is')))
           (λ (one : (summarise_count step ≡ 1) × (next_uncounted range old ≡ range) × (uncounted_after range e ≡ suc range)).
-          MakesOne at range (exact.0 one.0) itself (first (summarise_count step) ((a.of s).ranges) ((b.of s).ranges) one.0 count)
-          (inr (refl, least (next_uncounted range old) one.1))
+          MakesOne at range (exact.0 one.0) itself (omega (arith, one.0, count))
+          (inr (refl, omega (arith, one.1)))
           (λ is'. from_not at range (uncounted_after range e) one.2 (ahead at range is'))
-          (λ i m is'. from_mono at (next_uncounted range old) (uncounted_after range e) i m (lower (next_uncounted range old) (uncounted_after range e) one.1 one.2)
+          (λ i m is'. from_mono at (next_uncounted range old) (uncounted_after range e) i m (omega (arith, one.1, one.2))
           (ahead i m is')))
           (step_counts s range (index_view_at at w) (index_view_at at u) old e step)
-        where
-          not_both : (n : ℕ) → n ≡ 0 → n ≡ 1 → ⊥
-          not_both n none one = omega arith
-
-          zeroth : (c x y : ℕ) → c ≡ 0 → y ≡ x + c → y ≡ x
-          zeroth c x y none is = omega arith
-
-          first : (c x y : ℕ) → c ≡ 1 → y ≡ x + c → y ≡ x + 1
-          first c x y one is = omega arith
-
-          least : (n : ℕ) → n ≡ range → n ≤ range
-          least n is = omega arith
-
-          lower : (n m : ℕ) → n ≡ range → m ≡ suc range → n ≤ m
-          lower n m is is' = omega arith
 
   ranges_of : (now : Account) → b.of s ≡ now → (b.of s).ranges ≡ now.ranges
   ranges_of now same = ap (λ (x : Account). x.ranges) same
@@ -297,46 +242,25 @@ fails : (t : Task) → (GivesFinals t → ⊥) → Acts t → GoesOnGiving t →
 fails t none acts gives = ⊎_elim none (λ (is : t ≡ Resting). subst Acts is acts) gives
 
 onward_ahead : (u : TableState) (old new : Task) → Onward u old new → (i m : ℕ) → AheadOf new i m → AheadOf old i m
-onward_ahead u _ _ (Stays task has) i m ahead = ahead
-onward_ahead u _ _ (ToAsk b k r at inside asks) i m ahead = ahead
-onward_ahead u _ _ (ToIndex b k r at inside none) i m ahead = ahead
-onward_ahead u _ _ (Inserted b k r at all) i m ahead = ahead
-onward_ahead u _ _ (ToRange job at range has) i m ahead = ahead
-onward_ahead u _ _ (NextIndex extent at range none more) i m ahead = ⊎_elim
-    (λ (later : suc at < i). inl (lower at i later))
-    (λ (same : (suc at ≡ i) × (0 ≤ m)). inl (here at i same.0))
-    ahead
-  where
-    lower : (a i : ℕ) → suc a < i → a < i
-    lower a i less = omega arith
-
-    here : (a i : ℕ) → suc a ≡ i → a < i
-    here a i is = omega arith
+onward_ahead u _ _ (NextIndex extent at range none more) i m ahead = elim ahead [ inl later ↦ inl (omega arith) | inr same ↦ inl (omega (arith, same.0)) ]
 onward_ahead u _ _ (Pruned extent next new all onward) i m ahead = tt
 onward_ahead u _ _ (ToPage at from n p page) i m ahead = tt
 onward_ahead u _ _ (Swept at from none some) i m ahead = tt
 onward_ahead u _ _ (JudgesNext scan new inside low held onward) i m ahead = absurd (onward_ahead u _ _ onward i m ahead)
-onward_ahead u _ _ (Scanned scan read none) i m ahead = ahead
-onward_ahead u _ _ (ToMarks scan id rest read not is lists) i m ahead = ahead
-onward_ahead u _ _ (Marked scan) i m ahead = ahead
+onward_ahead u _ _ _ i m ahead = ahead
 
 onward_gives : (u : TableState) (old new : Task) → Onward u old new → GoesOnGiving old → GoesOnGiving new
 onward_gives u _ _ (Stays task has) gives = gives
 onward_gives u _ _ (ToAsk b k r at inside asks) gives = absurd (fails (Reaches b k r at) (λ x. x) tt gives)
 onward_gives u _ _ (ToIndex b k r at inside none) gives = absurd (fails (Reaches b k r at) (λ x. x) tt gives)
-onward_gives u _ _ (Inserted b k r at all) gives = inr refl
-onward_gives u _ _ (ToRange job at range has) gives = ⊎_elim
-    (λ (is : IsBuilder job). inl is)
-    (λ (is : Considers job at range ≡ Resting). absurd (subst Acts is tt))
-    gives
+onward_gives u _ _ (ToRange job at range has) gives = elim gives [ inl is ↦ inl is | inr is ↦ absurd (subst Acts is tt) ]
 onward_gives u _ _ (NextIndex extent at range none more) gives = inl tt
 onward_gives u _ _ (Pruned extent next new all onward) gives = onward_gives u _ _ onward (inl tt)
 onward_gives u _ _ (ToPage at from n p page) gives = inl tt
 onward_gives u _ _ (Swept at from none some) gives = inl tt
 onward_gives u _ _ (JudgesNext scan new inside low held onward) gives = absurd (fails (Scans scan) (λ x. x) tt gives)
-onward_gives u _ _ (Scanned scan read none) gives = inr refl
 onward_gives u _ _ (ToMarks scan id rest read not is lists) gives = absurd (fails (Scans scan) (λ x. x) tt gives)
-onward_gives u _ _ (Marked scan) gives = inr refl
+onward_gives u _ _ _ gives = inr refl
 
 abbrev SettlesTo : (s : ℕ) (u v : TableState) → Type 0
 SettlesTo s u v = GoesOnGiving (v.task s) × ((i m : ℕ) → AheadOf (v.task s) i m → AheadOf (u.task s) i m) × ((i : ℕ) → v.index i ≡ u.index i)
@@ -393,10 +317,7 @@ module _ (s n : ℕ) (rest : List ℕ) (w u v : TableState) (a b c : Accounts) (
       apart = more.1.apart;
       all = λ i m. (
         λ is. inr ((more.1.all i m).0 is),
-        λ makes. ⊎_elim
-            (λ (first : (n ≡ s) × IsMadeFinal w u i m). absurd (none i m first.0 first.1))
-            (λ (later : MakesFinal s i m run). (more.1.all i m).1 later)
-            makes,
+        λ makes. elim makes [ inl first ↦ absurd (none i m first.0 first.1) | inr later ↦ (more.1.all i m).1 later ],
       );
     },
     λ i m is. ahead i m (more.2 i m is),
@@ -411,10 +332,7 @@ module _ (s n : ℕ) (rest : List ℕ) (w u v : TableState) (a b c : Accounts) (
     record {
       apart = ((λ twice. past (more.2 at range twice)), more.1.apart);
       all = λ i m. (
-        λ among. ⊎_elim
-            (λ (one : IsSame (i, m) (at, range)). inl (is, back i m one))
-            (λ (later : IsIn more.0 (i, m)). inr ((more.1.all i m).0 later))
-            among,
+        λ among. elim among [ inl one ↦ inl (is, back i m one) | inr later ↦ inr ((more.1.all i m).0 later) ],
         λ makes. ⊎_elim
             (λ (one : (n ≡ s) × IsMadeFinal w u i m). let here = only i m one.1 in inl (λ j. (here.0 j, here.1 j)))
             (λ (later : MakesFinal s i m run). inr ((more.1.all i m).1 later))
@@ -425,14 +343,11 @@ module _ (s n : ℕ) (rest : List ℕ) (w u v : TableState) (a b c : Accounts) (
         (λ (one : IsSame (i, m) (at, range)). subst (λ (p : ℕ × ℕ). AheadOf (w.task s) p.0 p.1) (sym one) first)
         (λ (later : IsIn more.0 (i, m)). ahead i m (more.2 i m later))
         among,
-    one_more ((a.of s).ranges) ((b.of s).ranges) ((c.of s).ranges) (length more.0) count more.3,
+    omega (arith, count, more.3),
   )
     where
       back : (i m : ℕ) → IsSame (i, m) (at, range) → IsMadeFinal w u i m
       back i m one = subst (λ (p : ℕ × ℕ). IsMadeFinal w u p.0 p.1) (sym one) made
-
-      one_more : (x y z k : ℕ) → y ≡ x + 1 → z ≡ y + k → z ≡ x + suc k
-      one_more x y z k is is' = omega arith
 
 -- another session's step leaves the session its statement and its account
 others_leave : (s n : ℕ) (w u : TableState) → TableStep n w u → n ≢ s → u.task s ≡ w.task s
@@ -453,11 +368,8 @@ run_counts s _ _ _ _ _ (AccountsDone w a) kept gives in_hand = (
   [],
   record { apart = tt; all = λ i m. ((λ x. x), λ x. x) },
   λ i m is. absurd is,
-  none ((a.of s).ranges),
+  omega arith,
 )
-  where
-    none : (x : ℕ) → x ≡ x + 0
-    none x = omega arith
 run_counts s _ _ _ _ _ (AccountsNext n rest w u v a b c step adds run) kept gives in_hand = ⊎_elim
     (λ (is : n ≡ s).
     let own : Stepped s w u a b = subst (λ k. Stepped k w u a b) is (step, adds) in
@@ -480,11 +392,8 @@ abbrev Begun : (s : ℕ) (w u : TableState) (b : Accounts) → Type 0
 Begun s w u b = ((b.of s).ranges ≡ 0) × ((i : ℕ) → u.index i ≡ w.index i)
 
 begins_empty : (s : ℕ) (w : TableState) (first : Task) (begins : BeginsWith w first) (a b : Accounts) → Begins s w first begins a b → (b.of s).ranges ≡ 0
-begins_empty s w _ (Summarize at inside) a b one = ap (λ (x : Account). x.ranges) one.account
-begins_empty s w _ (SummarizeOne at only inside) a b one = ap (λ (x : Account). x.ranges) one.account
 begins_empty s w _ (Work at only inside) a b one = ap (λ (x : Account). x.ranges) one.0
-begins_empty s w _ (Desummarize at only inside) a b one = ap (λ (x : Account). x.ranges) one.account
-begins_empty s w _ Vacuum a b one = ap (λ (x : Account). x.ranges) one.account
+begins_empty s w _ _ a b one = ap (λ (x : Account). x.ranges) one.account
 
 module _ (s : ℕ) (w u : TableState) (a b : Accounts) (rested : w.task s ≡ Resting) (gives : GivesFinals (u.task s)) where
   was_not : (old new : Task) → TaskTurns s w u old new → Acts old → ⊥
@@ -536,8 +445,5 @@ replies_count s rest w u v a b c step adds run kept rested gives in_hand =
               makes,
         );
       },
-      from_zero ((b.of s).ranges) ((c.of s).ranges) (length counted.0) start.0 counted.3,
+      omega (arith, start.0, counted.3),
     )
-  where
-    from_zero : (x y k : ℕ) → x ≡ 0 → y ≡ x + k → k ≡ y
-    from_zero x y k none is = omega arith

@@ -3,34 +3,27 @@ use Rattle.std.proofs.Common.{◌≡◌, ◌≢◌, ◌⊎◌, inl, inr, ⊎_eli
 use Rattle.std.specs.Prelude.{refl, ◌↔◌}
 use Rattle.std.proofs.lemmas.Option.{same_Some, none-some}
 use Rattle.std.proofs.lemmas.Bool.{cases_eq}
+use Rattle.std.proofs.Math.Nat.{lt-suc_self, lt_of_le_of_lt, not-le_of_lt}
 use Rattle.block_model.specs.declared.row.Row.{Row}
 use Rattle.coverage.specs.IndexView.{IndexView}
 use Rattle.coverage.specs.Statements.{Phase}
 use Rattle.coverage.proofs.Numbers.{lt_or_ge, lowest_below}
 use Rattle.coverage.proofs.FullApart.{full_swap, full_phase}
-use Rattle.coverage.specs.Table.{Job, Task, Resting, Inserts, Maintains, Prunes, Sweeps, Restarts, Scans}
-use Rattle.coverage.specs.Table.{Marks, Considers, Reaches, Asks, SweepsFrom, TableState, index_view_at}
-use Rattle.coverage.specs.TableSteps.{range_in, IsVacantPlace, IsFirstPlace, IsHeapFull, IsVacuuming, IsRowRefused, HeapFull, RowLacksMemory}
-use Rattle.coverage.specs.TableSteps.{IsInsertRefused, IndexFull, IsMaintainRefused, NoPage, Does, PutsRow, RefusesRow, AsksSummary, InsertGoes}
-use Rattle.coverage.specs.TableSteps.{InsertCompletes, RefusesInsert, TakesLock, MaintainGoes, MaintainCompletes, RefusesMaintain, RefusesVacuum}
-use Rattle.coverage.specs.TableSteps.{PrunesBlock, SweepsPage, RestartsIndex, BeginsScan, Judges, ReadsBlock, RefusesScan, MarksRow, Conflicts, Blocked}
-use Rattle.coverage.specs.TableSteps.{Transacts}
+use Rattle.coverage.specs.Table.{Job, Task, Resting, Maintains, Prunes, Sweeps, Restarts, Scans, TableState, index_view_at}
+use Rattle.coverage.specs.TableSteps.{range_in, IsVacantPlace, IsFirstPlace, IsHeapFull, IsVacuuming, IsRowRefused, HeapFull, RowLacksMemory, IsInsertRefused}
+use Rattle.coverage.specs.TableSteps.{IndexFull, IsMaintainRefused, NoPage, Does, PutsRow, RefusesRow, AsksSummary, InsertGoes, InsertCompletes, RefusesInsert}
+use Rattle.coverage.specs.TableSteps.{TakesLock, MaintainGoes, MaintainCompletes, RefusesMaintain, RefusesVacuum, PrunesBlock, SweepsPage, RestartsIndex}
+use Rattle.coverage.specs.TableSteps.{BeginsScan, Judges, ReadsBlock, RefusesScan, MarksRow, Conflicts, Blocked, Transacts}
 use Rattle.coverage.specs.Refusals.{Relation, Heap, IndexNumber, Refusal, LacksMemory, IsFull, HasConflict, row_refusal, insert_refusal, maintain_refusal}
 use Rattle.coverage.specs.Refusals.{does_refusal, MayLackMemory, IsTaskFull, InsertFull, MaintainFull}
 
 vacuuming_may : (task : Task) → IsVacuuming task → MayLackMemory task
 vacuuming_may Resting is = tt
-vacuuming_may (Reaches b k r at) is = absurd is
-vacuuming_may (Asks b k r at) is = absurd is
-vacuuming_may (Inserts b k r at on_index) is = absurd is
-vacuuming_may (Considers job at range) is = absurd is
-vacuuming_may (Maintains job at range phase) is = absurd is
 vacuuming_may (Prunes extent next) is = tt
-vacuuming_may (SweepsFrom at from) is = absurd is
 vacuuming_may (Sweeps at page) is = tt
 vacuuming_may (Restarts at) is = tt
 vacuuming_may (Scans scan) is = tt
-vacuuming_may (Marks scan ids) is = absurd is
+vacuuming_may _ is = absurd is
 
 full_no_memory : (w : TableState) (s b k : ℕ) (r : Row) (task : Task) (refused : IsInsertRefused w s b k r task) → insert_refusal refused ≡ LacksMemory → ⊥
 full_no_memory w s b k r _ (IndexFull number at x old new verdict) is = cc
@@ -44,32 +37,17 @@ module _ (s : ℕ) (w v : TableState) where
   may task was is = subst MayLackMemory (sym was) is
 
   pub lacks_memory : (does : Does s w v) → does_refusal s w v does ≡ Some LacksMemory → MayLackMemory (w.task s)
-  lacks_memory (PutsRow b k r place turns takes) is = absurd (none-some _ is)
   lacks_memory (RefusesRow t refused turns fails) is = may Resting turns.was tt
-  lacks_memory (AsksSummary b k r at turns only) is = absurd (none-some _ is)
-  lacks_memory (InsertGoes b k r at old new turns stepped step) is = absurd (none-some _ is)
-  lacks_memory (InsertCompletes b k r at old turns stepped step) is = absurd (none-some _ is)
   lacks_memory (RefusesInsert b k r old refused turns fails) is = absurd (full_no_memory w s b k r old refused (same_Some _ _ is))
-  lacks_memory (TakesLock first begins turns free held rows indexes) is = absurd (none-some _ is)
-  lacks_memory (MaintainGoes job at range old new turns stepped step) is = absurd (none-some _ is)
-  lacks_memory (MaintainCompletes job at range old turns stepped step) is = absurd (none-some _ is)
   lacks_memory (RefusesMaintain job at range phase refused turns stepped passes) is =
       absurd (page_no_memory at (index_view_at at w) s range phase refused (same_Some _ _ is))
   lacks_memory (RefusesVacuum old vacuuming turns given rows indexes) is = may old turns.was (vacuuming_may old vacuuming)
-  lacks_memory (PrunesBlock extent next dropped inside spared turns drops) is = absurd (none-some _ is)
-  lacks_memory (SweepsPage at page turns stepped sweeps) is = absurd (none-some _ is)
-  lacks_memory (RestartsIndex at turns only) is = absurd (none-some _ is)
-  lacks_memory (BeginsScan scan begins turns only) is = absurd (none-some _ is)
-  lacks_memory (Judges old new inside low step turns only) is = absurd (none-some _ is)
-  lacks_memory (ReadsBlock scan next found reads turns only) is = absurd (none-some _ is)
   lacks_memory (RefusesScan scan t turns how) is = may (Scans scan) turns.was tt
-  lacks_memory (MarksRow scan id rest turns only) is = absurd (none-some _ is)
   lacks_memory (Conflicts scan id rest t turns fails) is = absurd (is_conflict (same_Some _ _ is))
     where
       is_conflict : HasConflict id ≡ LacksMemory → ⊥
       is_conflict e = cc
-  lacks_memory (Blocked task blocked turns only) is = absurd (none-some _ is)
-  lacks_memory (Transacts counts resting few same) is = absurd (none-some _ is)
+  lacks_memory _ is = absurd (none-some _ is)
 
 -- what is told as full is full, and the number is its size
 data TellsFull (w : TableState) (s : ℕ) : Task → Refusal → Type 0 where
@@ -101,29 +79,14 @@ module _ (s : ℕ) (w v : TableState) where
   other refusal apart said is = subst (TellsFull w s (w.task s)) (same_Some _ _ is) (TellsOther (w.task s) refusal apart)
 
   does_tell : (does : Does s w v) (said : Refusal) → does_refusal s w v does ≡ Some said → TellsFull w s (w.task s) said
-  does_tell (PutsRow b k r place turns takes) said is = absurd (none-some _ is)
   does_tell (RefusesRow t refused turns fails) said is = tells_at Resting _ said turns.was (row_tells refused) is
-  does_tell (AsksSummary b k r at turns only) said is = absurd (none-some _ is)
-  does_tell (InsertGoes b k r at old new turns stepped step) said is = absurd (none-some _ is)
-  does_tell (InsertCompletes b k r at old turns stepped step) said is = absurd (none-some _ is)
   does_tell (RefusesInsert b k r old refused turns fails) said is = tells_at old _ said turns.was (insert_tells b k r old refused) is
-  does_tell (TakesLock first begins turns free held rows indexes) said is = absurd (none-some _ is)
-  does_tell (MaintainGoes job at range old new turns stepped step) said is = absurd (none-some _ is)
-  does_tell (MaintainCompletes job at range old turns stepped step) said is = absurd (none-some _ is)
   does_tell (RefusesMaintain job at range phase refused turns stepped passes) said is =
       tells_at (Maintains job at range phase) _ said turns.was (maintain_tells job at range phase refused) is
   does_tell (RefusesVacuum old vacuuming turns given rows indexes) said is = other LacksMemory (λ relation number e. cc) said is
-  does_tell (PrunesBlock extent next dropped inside spared turns drops) said is = absurd (none-some _ is)
-  does_tell (SweepsPage at page turns stepped sweeps) said is = absurd (none-some _ is)
-  does_tell (RestartsIndex at turns only) said is = absurd (none-some _ is)
-  does_tell (BeginsScan scan begins turns only) said is = absurd (none-some _ is)
-  does_tell (Judges old new inside low step turns only) said is = absurd (none-some _ is)
-  does_tell (ReadsBlock scan next found reads turns only) said is = absurd (none-some _ is)
   does_tell (RefusesScan scan t turns how) said is = other LacksMemory (λ relation number e. cc) said is
-  does_tell (MarksRow scan id rest turns only) said is = absurd (none-some _ is)
   does_tell (Conflicts scan id rest t turns fails) said is = other (HasConflict id) (λ relation number e. cc) said is
-  does_tell (Blocked task blocked turns only) said is = absurd (none-some _ is)
-  does_tell (Transacts counts resting few same) said is = absurd (none-some _ is)
+  does_tell _ said is = absurd (none-some _ is)
 
 abbrev number_of : Refusal → ℕ
 number_of (IsFull relation number) = number
@@ -144,18 +107,14 @@ IsIndex refusal = ⊥
 heap_told : (w : TableState) (s : ℕ) (task : Task) (said : Refusal) → TellsFull w s task said → IsHeap said
     → IsHeapFull w × (number_of said ≡ w.heap_limit * w.rows_per_page)
 heap_told w s _ _ (TellsHeap full) is = (full, refl)
-heap_told w s _ _ (TellsIndex task at number full size) is = absurd is
-heap_told w s _ _ (TellsOther task LacksMemory apart) is = absurd is
-heap_told w s _ _ (TellsOther task (HasConflict id) apart) is = absurd is
 heap_told w s _ _ (TellsOther task (IsFull relation number) apart) is = absurd (apart relation number refl)
+heap_told w s _ _ _ is = absurd is
 
 index_told : (w : TableState) (s : ℕ) (task : Task) (said : Refusal) → TellsFull w s task said → IsIndex said
     → IsTaskFull w s task (at_of said) (number_of said) × (number_of said ≡ (w.index (at_of said)).pages.limit)
-index_told w s _ _ (TellsHeap full) is = absurd is
 index_told w s _ _ (TellsIndex task at number full size) is = (full, size)
-index_told w s _ _ (TellsOther task LacksMemory apart) is = absurd is
-index_told w s _ _ (TellsOther task (HasConflict id) apart) is = absurd is
 index_told w s _ _ (TellsOther task (IsFull relation number) apart) is = absurd (apart relation number refl)
+index_told w s _ _ _ is = absurd is
 
 pub heap_full : (s : ℕ) (w v : TableState) (does : Does s w v) (number : ℕ) → does_refusal s w v does ≡ Some (IsFull Heap number)
     → IsHeapFull w × (number ≡ w.heap_limit * w.rows_per_page)
@@ -168,14 +127,8 @@ index_full s w v does at number is =
 
 -- where a heap isn't full, an insert has a place for its row, and nowhere else
 vacant_or_not : (w : TableState) (b k : ℕ) → IsVacantPlace w b k ⊎ (IsVacantPlace w b k → ⊥)
-vacant_or_not w b k = ⊎_elim
-    (λ (low : k < w.rows_per_page). by low (w.row b k) refl)
-    (λ (high : w.rows_per_page ≤ k). inr (λ vacant. crosses k w.rows_per_page vacant.0 high))
-    (lt_or_ge k w.rows_per_page)
+vacant_or_not w b k = elim (lt_or_ge k w.rows_per_page) [ inl low ↦ by low (w.row b k) refl | inr high ↦ inr (λ vacant. not-le_of_lt vacant.0 high) ]
   where
-    crosses : (n m : ℕ) → n < m → m ≤ n → ⊥
-    crosses n m less more = omega arith
-
     by : k < w.rows_per_page → (o : Option Row) → w.row b k ≡ o → IsVacantPlace w b k ⊎ (IsVacantPlace w b k → ⊥)
     by low None is = inl (low, is)
     by low (Some r) is = inr (λ vacant. none-some _ (sym vacant.1 ∙ is))
@@ -184,12 +137,9 @@ module _ (w : TableState) (no_place : (b k : ℕ) → IsFirstPlace w b k → ⊥
   abbrev HasVacant : ℕ → Type 0
   HasVacant b = (k : ℕ) × IsVacantPlace w b k × ((j : ℕ) → IsVacantPlace w b j → k ≤ j)
 
-  below_suc : (n : ℕ) → n < suc n
-  below_suc n = omega arith
-
   lowest_slot : (b k : ℕ) → IsVacantPlace w b k → HasVacant b
   lowest_slot b k vacant = ⊎_elim
-      (λ (none : (j : ℕ) → j < suc k → IsVacantPlace w b j → ⊥). absurd (none k (below_suc k) vacant))
+      (λ (none : (j : ℕ) → j < suc k → IsVacantPlace w b j → ⊥). absurd (none k (lt-suc_self k) vacant))
       (λ (one : (j : ℕ) × IsVacantPlace w b j × ((i : ℕ) → IsVacantPlace w b i → j ≤ i)). one)
       (lowest_below (IsVacantPlace w b) (vacant_or_not w b) (suc k))
 
@@ -207,31 +157,22 @@ module _ (w : TableState) (no_place : (b k : ℕ) → IsFirstPlace w b k → ⊥
         let le = lowest c (lowest_slot c j vacant) in
         ⊎_elim
         (λ (same : b ≡ c). inr (same, has.2 j (subst (λ m. IsVacantPlace w m j) (sym same) vacant)))
-        (λ (other : b ≢ c). inl (less b c le other))
+        (λ (other : b ≢ c). inl (omega arith))
         (cases_eq b c);
   })
-    where
-      less : (n m : ℕ) → n ≤ m → n ≢ m → n < m
-      less n m le other = omega arith
 
   pub no_place_full : IsHeapFull w
   no_place_full b k vacant = ⊎_elim
       (λ (low : b < w.heap_limit). absurd (⊎_elim
-      (λ (none : (c : ℕ) → c < suc b → HasVacant c → ⊥). none b (below_suc b) (lowest_slot b k vacant))
+      (λ (none : (c : ℕ) → c < suc b → HasVacant c → ⊥). none b (lt-suc_self b) (lowest_slot b k vacant))
       (λ (one : (c : ℕ) × HasVacant c × ((i : ℕ) → HasVacant i → c ≤ i)).
-      no_block one.0 one.1 one.2 (through one.0 b w.heap_limit (one.2 b (lowest_slot b k vacant)) low))
+      no_block one.0 one.1 one.2 (lt_of_le_of_lt (one.2 b (lowest_slot b k vacant)) low))
       (lowest_below HasVacant block_or_not (suc b))))
       (λ (high : w.heap_limit ≤ b). high)
       (lt_or_ge b w.heap_limit)
-    where
-      through : (a b c : ℕ) → a ≤ b → b < c → a < c
-      through a b c le less = omega arith
 
 pub full_exactly : (w : TableState) → ((b k : ℕ) → IsFirstPlace w b k → ⊥) ↔ IsHeapFull w
-full_exactly w = ((λ none. no_place_full w none), λ full b k place. crosses b w.heap_limit place.below (full b k place.vacant))
-  where
-    crosses : (n m : ℕ) → n < m → m ≤ n → ⊥
-    crosses n m less more = omega arith
+full_exactly w = ((λ none. no_place_full w none), λ full b k place. not-le_of_lt place.below (full b k place.vacant))
 
 -- a statement that comes to rest by what its step does is refused
 abbrev IsRefused : Option Refusal → Type 0
@@ -248,20 +189,16 @@ module _ (s : ℕ) (w v : TableState) (busy : w.task s ≡ Resting → ⊥) (res
   refused_ends (AsksSummary b k r at turns only) = absurd (goes _ turns.now (λ e. cc))
   refused_ends (InsertGoes b k r at old new turns stepped step) = absurd (goes _ turns.now (λ e. cc))
   refused_ends (InsertCompletes b k r at old turns stepped step) = absurd (goes _ turns.now (λ e. cc))
-  refused_ends (RefusesInsert b k r old refused turns fails) = λ is. none-some _ (sym is)
   refused_ends (TakesLock first begins turns free held rows indexes) = absurd (busy turns.was)
   refused_ends (MaintainGoes job at range old new turns stepped step) = absurd (goes _ turns.now (λ e. cc))
   refused_ends (MaintainCompletes job at range old turns stepped step) = absurd (goes _ turns.now (λ e. cc))
-  refused_ends (RefusesMaintain job at range phase refused turns stepped passes) = λ is. none-some _ (sym is)
-  refused_ends (RefusesVacuum old vacuuming turns given rows indexes) = λ is. none-some _ (sym is)
   refused_ends (PrunesBlock extent next dropped inside spared turns drops) = absurd (goes _ turns.now (λ e. cc))
   refused_ends (SweepsPage at page turns stepped sweeps) = absurd (goes _ turns.now (λ e. cc))
   refused_ends (RestartsIndex at turns only) = absurd (goes _ turns.now (λ e. cc))
   refused_ends (BeginsScan scan begins turns only) = absurd (busy turns.was)
   refused_ends (Judges old new inside low step turns only) = absurd (goes _ turns.now (λ e. cc))
   refused_ends (ReadsBlock scan next found reads turns only) = absurd (goes _ turns.now (λ e. cc))
-  refused_ends (RefusesScan scan t turns how) = λ is. none-some _ (sym is)
   refused_ends (MarksRow scan id rest turns only) = absurd (goes _ turns.now (λ e. cc))
-  refused_ends (Conflicts scan id rest t turns fails) = λ is. none-some _ (sym is)
   refused_ends (Blocked task blocked turns only) = absurd (busy (turns.was ∙ sym turns.now ∙ rests))
   refused_ends (Transacts counts resting few same) = absurd (busy resting)
+  refused_ends _ = λ is. none-some _ (sym is)

@@ -1,7 +1,8 @@
 -- The rows of a block that are added to a tuple of an index are included by it, and it is one of the index still.
-use Rattle.std.proofs.Common.{◌≡◌, ⊎_elim, ℕ, ◌≤◌, ◌<◌, Option, Some, None, sym, ◌∙◌, ap, subst, arith, zero, suc}
+use Rattle.std.proofs.Common.{◌≡◌, ⊎_elim, ℕ, ◌≤◌, ◌<◌, Option, Some, None, sym, ◌∙◌, ap, subst, zero, suc}
 use Rattle.std.specs.Prelude.{IsTrue}
 use Rattle.std.proofs.lemmas.Option.{same_Some, none-some}
+use Rattle.std.proofs.Math.Nat.{not-suc-le-zero}
 use Rattle.block_model.specs.declared.row.Row.{Row}
 use Rattle.coverage.specs.IndexView.{IndexTuple, Contents, IsFormed}
 use Rattle.coverage.specs.Changes.{IsWithin}
@@ -31,10 +32,7 @@ module _ (contents : Contents) (lawful : AreLawful contents) (row : ℕ → Opti
   one_has (Some q) t r formed is = subst (λ p. IsTrue ((contents.added q t).includes p)) (same_Some _ _ is) (lawful.added q t formed).1.row
 
   below_has : (n : ℕ) (t : IndexTuple) (k : ℕ) (r : Row) → IsFormed contents t → k < n → row k ≡ Some r → IsTrue ((rows_added contents row n t).includes r)
-  below_has zero t k r formed below is = absurd (nothing k below)
-    where
-      nothing : (k : ℕ) → k < zero → ⊥
-      nothing k below = omega arith
+  below_has zero t k r formed below is = absurd (not-suc-le-zero below)
   below_has (suc n) t k r formed below is = ⊎_elim
       (λ (at : k ≡ n). one_has (row n) (rows_added contents row n t) r (rows_formed n t formed) (ap row (sym at) ∙ is))
       (λ (less : k < n). one_wider (row n) (rows_added contents row n t) (rows_formed n t formed) r (below_has n t k r formed less is))

@@ -1,26 +1,14 @@
 -- Ids in order, and the same ones, are one list.
-use Rattle.std.proofs.Common.{◌≡◌, inl, inr, ⊎_elim, ℕ, ◌<◌, List, [], ◌∷◌, sym, ◌∙◌, subst, arith}
+use Rattle.std.proofs.Common.{◌≡◌, inl, inr, ⊎_elim, ◌<◌, List, [], ◌∷◌, sym, ◌∙◌, subst, arith}
 use Rattle.std.specs.Prelude.{refl}
 use Rattle.block_model.specs.declared.row.RowId.{RowId}
 use Rattle.coverage.specs.RowOrder.{IsBefore, IsAmong, AreInOrder}
 
-less_self : (n m : ℕ) → n < m → m ≡ n → ⊥
-less_self n m less is = omega arith
-
-less_both : (n m : ℕ) → n < m → m < n → ⊥
-less_both n m one two = omega arith
-
 -- two ids aren't each before the other
 before_once : (a b : RowId) → IsBefore a b → IsBefore b a → ⊥
 before_once a b one two = ⊎_elim
-    (λ (less : a.t < b.t). ⊎_elim
-    (λ (more : b.t < a.t). less_both a.t b.t less more)
-    (λ (same : (b.t ≡ a.t) × (b.k < a.k)). less_self a.t b.t less same.0)
-    two)
-    (λ (same : (a.t ≡ b.t) × (a.k < b.k)). ⊎_elim
-    (λ (more : b.t < a.t). less_self b.t a.t more same.0)
-    (λ (back : (b.t ≡ a.t) × (b.k < a.k)). less_both a.k b.k same.1 back.1)
-    two)
+    (λ (less : a.t < b.t). elim two [ inl more ↦ omega arith | inr same ↦ omega (arith, less, same.0) ])
+    (λ (same : (a.t ≡ b.t) × (a.k < b.k)). elim two [ inl more ↦ omega (arith, more, same.0) | inr back ↦ omega (arith, same.1, back.1) ])
     one
 
 not_before : (a : RowId) → IsBefore a a → ⊥
@@ -35,19 +23,13 @@ module _ (id : RowId) (rest : List RowId) (order : AreInOrder (id ∷ rest)) whe
 firsts_same : (a b : RowId) (l m : List RowId) → AreInOrder (a ∷ l) → AreInOrder (b ∷ m) → IsAmong (b ∷ m) a → IsAmong (a ∷ l) b → a ≡ b
 firsts_same a b l m one two a_in b_in = ⊎_elim
     (λ (is : a ≡ b). is)
-    (λ (behind : IsAmong m a). ⊎_elim
-    (λ (is : b ≡ a). sym is)
-    (λ (behind' : IsAmong l b). absurd (before_once a b (one.0 b behind') (two.0 a behind)))
-    b_in)
+    (λ (behind : IsAmong m a). elim b_in [ inl is ↦ sym is | inr behind' ↦ absurd (before_once a b (one.0 b behind') (two.0 a behind)) ])
     a_in
 
 -- without the firsts they have the same ids
 rests_in : (a : RowId) (l : List RowId) (b : RowId) (m : List RowId) → AreInOrder (a ∷ l) → a ≡ b
     → ((id : RowId) → IsAmong (a ∷ l) id → IsAmong (b ∷ m) id) → (id : RowId) → IsAmong l id → IsAmong m id
-rests_in a l b m order same all id among = ⊎_elim
-    (λ (is : id ≡ b). absurd (first_once a l order id among (is ∙ sym same)))
-    (λ (behind : IsAmong m id). behind)
-    (all id (inr among))
+rests_in a l b m order same all id among = elim (all id (inr among)) [ inl is ↦ absurd (first_once a l order id among (is ∙ sym same)) | inr behind ↦ behind ]
 
 pub one_order : (l m : List RowId) → AreInOrder l → AreInOrder m → ((id : RowId) → IsAmong l id → IsAmong m id) → ((id : RowId) → IsAmong m id → IsAmong l id)
     → l ≡ m

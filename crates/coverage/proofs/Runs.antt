@@ -1,28 +1,27 @@
 -- Every step of every statement keeps what the index rests on.
-use Rattle.std.proofs.Common.{◌≡◌, ◌≢◌, ◌⊎◌, inl, inr, ⊎_elim, ℕ, ◌+◌, ◌/◌, ◌≤◌, ◌<◌, Option, Some, None, Bool, true, false, sym, ◌∙◌, ap, subst, arith}
-use Rattle.std.specs.Prelude.{refl, IsTrue, ◌↔◌}
+use Rattle.std.proofs.Common.{◌≡◌, ◌≢◌, ◌⊎◌, inl, inr, ⊎_elim, ℕ, ◌/◌, ◌≤◌, ◌<◌, Option, Some, None, Bool, false, sym, ◌∙◌, ap, subst, arith}
+use Rattle.std.specs.Prelude.{refl, IsTrue, ◌↔◌, List}
 use Rattle.std.proofs.lemmas.Option.{same_Some, none-some}
 use Rattle.std.proofs.lemmas.Bool.{cases_eq, false≢true}
+use Rattle.std.proofs.Math.Nat.{le_refl, le_trans}
 use Rattle.block_model.specs.declared.row.Row.{Row}
 use Rattle.block_model.specs.declared.place.Spot.{Spot}
 use Rattle.coverage.specs.IndexView.{Pages, IndexView, range_of_block}
-use Rattle.coverage.specs.IsSettled.{AllAwait, IsAccounted, TupleShows}
+use Rattle.coverage.specs.IsSettled.{IsAccounted, TupleShows}
 use Rattle.coverage.specs.GoesOn.{IsHeld, GoesOn}
 use Rattle.coverage.specs.Changes.{TouchesNothing, Frame, SameHeap, PutsRow, Prunes, Takes, Ends}
 use Rattle.coverage.specs.Statements.{OnIndex, Empty, Phase, NotBuilding, Scan, Statement, Idle, Inserting, Maintaining, Holding, Scanning, loose_in, loose_of}
 use Rattle.coverage.specs.Statements.{building_of}
 use Rattle.coverage.specs.Knowing.{KnowsRow, Knows, Spares}
 use Rattle.coverage.specs.PageOrder.{KnowsPages}
-use Rattle.std.specs.Prelude.{List}
 use Rattle.coverage.specs.IsCovered.{IndexState, index_view, IsIndexKept}
-use Rattle.coverage.specs.Steps.{ReadsIndex, RowsDropped, IsUnnamed, InsertStep, InsertOnIndex, InsertNoEntry}
-use Rattle.coverage.specs.Steps.{InsertCopies, InsertUnchanged, InsertSwap, InsertSet, InsertDrop, GrowthStep, Grow, CountLeftOver, Count, Flag, EvacuatePut}
-use Rattle.coverage.specs.Steps.{EvacuateSet, EvacuateDrop, EvacuateSweep, Turn, SummariseStep, LookMap, LookGone, IsFinal, Found, ReadNoEntry, GrowMap, Put}
-use Rattle.coverage.specs.Steps.{Set, Extent, Pass, Unite, UniteCopies, SwapFinal, SetFinal, DropOld, DesummariseStep, ClearMap, ClearNone, Clear, ClearAgain}
-use Rattle.coverage.specs.Steps.{DropCleared, MaintainStep, Summarises, Desummarises, ScanStep, ScanMap, ScanNoEntry, ScanGone, ScanKeeps, ScanDrops}
-use Rattle.coverage.specs.Steps.{ScanElsewhere, ScanPage, Turned, SameCounts, RowPut, SummariseLockPasses, ScanBegins, Rests, Step, PutRow, Insert, Refused}
-use Rattle.coverage.specs.Steps.{TakeSummariseLock, BeginRange, Maintain, Prune, Sweep, GiveSummariseLock, Abandon, BeginScan, Scans, EndScan, Elsewhere}
-use Rattle.coverage.specs.Steps.{Counts, Run, Done, Next}
+use Rattle.coverage.specs.Steps.{ReadsIndex, RowsDropped, IsUnnamed, InsertStep, InsertOnIndex, InsertNoEntry, InsertCopies, InsertUnchanged, InsertSwap}
+use Rattle.coverage.specs.Steps.{InsertSet, InsertDrop, GrowthStep, Grow, CountLeftOver, Count, Flag, EvacuatePut, EvacuateSet, EvacuateDrop, EvacuateSweep}
+use Rattle.coverage.specs.Steps.{Turn, SummariseStep, LookMap, LookGone, IsFinal, Found, ReadNoEntry, GrowMap, Put, Set, Extent, Pass, Unite, UniteCopies}
+use Rattle.coverage.specs.Steps.{SwapFinal, SetFinal, DropOld, DesummariseStep, ClearMap, ClearNone, Clear, ClearAgain, DropCleared, MaintainStep, Summarises}
+use Rattle.coverage.specs.Steps.{Desummarises, ScanStep, ScanMap, ScanNoEntry, ScanGone, ScanKeeps, ScanDrops, ScanElsewhere, ScanPage, Turned, SameCounts}
+use Rattle.coverage.specs.Steps.{RowPut, SummariseLockPasses, ScanBegins, Rests, Step, PutRow, Insert, Refused, TakeSummariseLock, BeginRange, Maintain, Prune}
+use Rattle.coverage.specs.Steps.{Sweep, GiveSummariseLock, Abandon, BeginScan, Scans, EndScan, Elsewhere, Counts, Run, Done, Next}
 use Rattle.coverage.proofs.Sound.{puts_row_sound, prunes_sound, takes_sound, ends_sound}
 use Rattle.coverage.proofs.OthersGoOn.{puts_row_go_on, prunes_go_on, takes_go_on, ends_go_on}
 use Rattle.coverage.proofs.Stable.{knows_on}
@@ -36,59 +35,24 @@ use Rattle.coverage.proofs.Numbers.{lt_or_ge}
 use Rattle.coverage.proofs.FullApart.{ended_loose, full_loose}
 
 pub insert_keeps : (s b k : ℕ) (r : Row) (w v : IndexView) (h : OnIndex) (e : Statement) → InsertStep s b k r w v h e → KeepsHeapAndLock w v
-insert_keeps s b k r w v _ _ (InsertOnIndex old new step) = on_index_keeps s (range_of_block w b) w v old new step
-insert_keeps s b k r w v _ _ (InsertNoEntry none reads) = (reads.frame.heap, reads.frame.summarise_lock)
-insert_keeps s b k r w v _ _ (InsertCopies x old new stands added changes reads) = (reads.frame.heap, reads.frame.summarise_lock)
-insert_keeps s b k r w v _ _ (InsertUnchanged x t stands added free reads) = (reads.frame.heap, reads.frame.summarise_lock)
-insert_keeps s b k r w v _ _ (InsertSwap x old new verdict swap) = (swap.frame.heap, swap.frame.summarise_lock)
-insert_keeps s b k r w v _ _ (InsertSet x y old new sets same) = (sets.frame.heap, sets.frame.summarise_lock)
-insert_keeps s b k r w v _ _ (InsertDrop x drops) = (drops.frame.heap, drops.frame.summarise_lock)
+insert_keeps s b k r w v h e step = grind (arith, on_index_keeps)
 
 growth_keeps : (s range : ℕ) (w v : IndexView) (old new : Phase) → GrowthStep s range w v old new → KeepsHeapAndLock w v
-growth_keeps s range w v _ _ (Grow grows free meta turns) = (turns.frame.heap, turns.frame.summarise_lock)
-growth_keeps s range w v _ _ (CountLeftOver grows meta counts) = (counts.frame.heap, counts.frame.summarise_lock)
-growth_keeps s range w v _ _ (Count counts) = (counts.frame.heap, counts.frame.summarise_lock)
-growth_keeps s range w v _ _ (Flag grows free turns) = (turns.frame.heap, turns.frame.summarise_lock)
-growth_keeps s range w v _ _ (EvacuatePut x y t grows next named free verdict puts these) = (puts.frame.heap, puts.frame.summarise_lock)
-growth_keeps s range w v _ _ (EvacuateSet m x y t u sets same) = (sets.frame.heap, sets.frame.summarise_lock)
-growth_keeps s range w v _ _ (EvacuateDrop m x drops) = (drops.frame.heap, drops.frame.summarise_lock)
-growth_keeps s range w v _ _ (EvacuateSweep x t grows next unnamed sweeps) = (sweeps.frame.heap, sweeps.frame.summarise_lock)
-growth_keeps s range w v _ _ (Turn grows empty free meta turns) = (turns.frame.heap, turns.frame.summarise_lock)
+growth_keeps s range w v old new step = grind arith
 
 pub summarise_keeps : (s range : ℕ) (w v : IndexView) (old : Phase) (new : Statement) → SummariseStep s range w v old new → KeepsHeapAndLock w v
-summarise_keeps s range w v _ _ (LookMap x named reads) = (reads.frame.heap, reads.frame.summarise_lock)
-summarise_keeps s range w v _ _ (LookGone x gone reads) = (reads.frame.heap, reads.frame.summarise_lock)
-summarise_keeps s range w v _ _ (IsFinal x t stands final reads) = (reads.frame.heap, reads.frame.summarise_lock)
-summarise_keeps s range w v _ _ (Found x t stands flag reads) = (reads.frame.heap, reads.frame.summarise_lock)
-summarise_keeps s range w v _ _ (ReadNoEntry none of reads) = (reads.frame.heap, reads.frame.summarise_lock)
-summarise_keeps s range w v _ _ (GrowMap old new step) = growth_keeps s range w v old new step
-summarise_keeps s range w v _ _ (Put x t is long verdict puts these) = (puts.frame.heap, puts.frame.summarise_lock)
-summarise_keeps s range w v _ _ (Set x sets none) = (sets.frame.heap, sets.frame.summarise_lock)
-summarise_keeps s range w v _ _ (Extent extent result start is reads) = (reads.frame.heap, reads.frame.summarise_lock)
-summarise_keeps s range w v _ _ (Pass extent next slots result wider below none made reads) = (reads.frame.heap, reads.frame.summarise_lock)
-summarise_keeps s range w v _ _ (Unite extent next result old new all step) = on_index_keeps s range w v old new step
-summarise_keeps s range w v _ _ (UniteCopies extent next result x old new all stands united reads) = (reads.frame.heap, reads.frame.summarise_lock)
-summarise_keeps s range w v _ _ (SwapFinal p x old new verdict swap) = (swap.frame.heap, swap.frame.summarise_lock)
-summarise_keeps s range w v _ _ (SetFinal p x y old new sets same) = (sets.frame.heap, sets.frame.summarise_lock)
-summarise_keeps s range w v _ _ (DropOld x drops) = (drops.frame.heap, drops.frame.summarise_lock)
+summarise_keeps s range w v old new step = grind (arith, growth_keeps, on_index_keeps)
 
 pub desummarise_keeps : (s range : ℕ) (w v : IndexView) (old : Phase) (new : Statement) → DesummariseStep s range w v old new → KeepsHeapAndLock w v
-desummarise_keeps s range w v _ _ (ClearMap x named reads) = (reads.frame.heap, reads.frame.summarise_lock)
-desummarise_keeps s range w v _ _ (ClearNone none reads) = (reads.frame.heap, reads.frame.summarise_lock)
-desummarise_keeps s range w v _ _ (Clear x verdict clears these) = (clears.frame.heap, clears.frame.summarise_lock)
-desummarise_keeps s range w v _ _ (ClearAgain x verdict reads) = (reads.frame.heap, reads.frame.summarise_lock)
-desummarise_keeps s range w v _ _ (DropCleared x drops) = (drops.frame.heap, drops.frame.summarise_lock)
+desummarise_keeps s range w v old new step = grind arith
 
 pub maintain_keeps : (s range : ℕ) (w v : IndexView) (old : Phase) (new : Statement) → MaintainStep s range w v old new → KeepsHeapAndLock w v
-maintain_keeps s range w v old new (Summarises step) = summarise_keeps s range w v old new step
-maintain_keeps s range w v old new (Desummarises step) = desummarise_keeps s range w v old new step
+maintain_keeps s range w v old new step = grind (arith, summarise_keeps, desummarise_keeps)
 
 spares_never : (d : Statement) → Spares never d
-spares_never Idle = tt
 spares_never (Inserting b k r on_index) = λ dead. false≢true dead
-spares_never (Maintaining range phase) = tt
-spares_never Holding = tt
 spares_never (Scanning scan) = λ b k sees dead. false≢true dead
+spares_never _ = tt
 
 module _ (s : ℕ) (dropped : ℕ → ℕ → Bool) (w v : IndexState) (old new : Statement) (kept : IsIndexKept w) (turned : Turned s w v old new)
     (out : Outcome s dropped w v old new) (after : PagesAfter s (index_view w) (index_view v) new)
@@ -145,18 +109,12 @@ module _ (s : ℕ) (dropped : ℕ → ℕ → Bool) (w v : IndexState) (old new 
     ordered = after.ordered;
     knows = knows_after;
     knows_pages = pages_after;
-    rows = λ b k r there counted. ⊎_elim
-        (λ (was : w.row b k ≡ Some r). row_after b k r was counted)
-        (λ (fresh : new ≡ Inserting b k r Empty). inr (s, Empty, turned.now ∙ fresh))
-        (rows b k r there);
+    rows = λ b k r there counted. elim (rows b k r there) [ inl was ↦ row_after b k r was counted | inr fresh ↦ inr (s, Empty, turned.now ∙ fresh) ];
   }
 
 -- where the entry of a settled row's range names a place, a final tuple there includes the row
 settled_shows : (w : IndexView) (b : ℕ) (r : Row) (x : Spot) → w.entry (range_of_block w b) ≡ Some x → IsAccounted w b r → TupleShows w x b r
-settled_shows w b r x named settled t here of final = ⊎_elim
-    (λ (has : IsTrue (t.includes r)). has)
-    (λ (waits : (t.placeholder ≡ true) × AllAwait w b r). absurd (false≢true (sym final ∙ waits.0)))
-    (settled x t named here)
+settled_shows w b r x named settled t here of final = elim (settled x t named here) [ inl has ↦ has | inr waits ↦ absurd (false≢true (sym final ∙ waits.0)) ]
 
 module _ (w : IndexView) (b k : ℕ) (r : Row) where
   scan_row : (old new : Scan) → ScanStep w old new → IsTrue (old.sees b k) → KnowsRow w old b k r → KnowsRow w new b k r
@@ -170,18 +128,6 @@ module _ (w : IndexView) (b k : ℕ) (r : Row) where
     kept = known.kept;
   }
   scan_row old _ (ScanNoEntry range empty none) sees known = known
-  scan_row old _ (ScanGone range x held gone) sees known = record {
-    there = known.there;
-    settled = known.settled;
-    shown = λ y none. absurd (none-some _ none);
-    kept = known.kept;
-  }
-  scan_row old _ (ScanKeeps range x t held stands keeps) sees known = record {
-    there = known.there;
-    settled = known.settled;
-    shown = λ y none. absurd (none-some _ none);
-    kept = known.kept;
-  }
   scan_row old _ (ScanDrops range x t candidate held stands keeps excludes others) sees known = record {
     there = known.there;
     settled = known.settled;
@@ -199,10 +145,7 @@ module _ (w : IndexView) (b k : ℕ) (r : Row) where
     there = known.there;
     settled = known.settled;
     shown = known.shown;
-    kept = λ matches. ⊎_elim
-        (λ (found : IsTrue (old.found b k)). inl found)
-        (λ (left : IsTrue (old.candidate b) × (old.read ≤ b)). inr (others b k r known.there sees matches left.0, left.1))
-        (known.kept matches);
+    kept = λ matches. elim (known.kept matches) [ inl found ↦ inl found | inr left ↦ inr (others b k r known.there sees matches left.0, left.1) ];
   }
   scan_row old _ (ScanPage next found given unread first keeps page only) sees known = record {
     there = known.there;
@@ -213,34 +156,30 @@ module _ (w : IndexView) (b k : ℕ) (r : Row) where
         (λ (left : IsTrue (old.candidate b) × (old.read ≤ b)). ⊎_elim
         (λ (is : next ≡ b).
         inl (subst (λ n. IsTrue (found n k)) is (page k r (ap (λ n. w.row n k) is ∙ known.there) (subst (λ n. IsTrue (old.sees n k)) (sym is) sees) matches)))
-        (λ (other : next ≢ b). inr (left.0, after next b (first b left.0 left.1) other))
+        (λ (other : next ≢ b). inr (left.0, omega (arith, first b left.0 left.1, other)))
         (cases_eq next b))
         (known.kept matches);
   }
-    where
-      after : (m n : ℕ) → m ≤ n → m ≢ n → m + 1 ≤ n
-      after m n le other = omega arith
+  scan_row old _ _ sees known = record {
+    there = known.there;
+    settled = known.settled;
+    shown = λ y none. absurd (none-some _ none);
+    kept = known.kept;
+  }
 
 scan_sees : (w : IndexView) (old new : Scan) → ScanStep w old new → (b k : ℕ) → IsTrue (new.sees b k) → IsTrue (old.sees b k)
 scan_sees w old _ (ScanMap range x empty named) b k sees = sees
-scan_sees w old _ (ScanNoEntry range empty none) b k sees = sees
-scan_sees w old _ (ScanGone range x held gone) b k sees = sees
-scan_sees w old _ (ScanKeeps range x t held stands keeps) b k sees = sees
-scan_sees w old _ (ScanDrops range x t candidate held stands keeps excludes others) b k sees = sees
-scan_sees w old _ (ScanElsewhere candidate others) b k sees = sees
-scan_sees w old _ (ScanPage next found given unread first keeps page only) b k sees = sees
+scan_sees w old _ _ b k sees = sees
 
 scan_held : (w : IndexView) (old new : Scan) → ScanStep w old new → ((range : ℕ) (x : Spot) → old.held ≡ Some (range, x) → IsHeld w range x)
     → (range : ℕ) (x : Spot) → new.held ≡ Some (range, x) → IsHeld w range x
 scan_held w old _ (ScanMap m y empty named) before range x held =
     let both : (m, y) ≡ (range, x) = same_Some _ _ held in
     λ t here of. inl (ap w.entry (sym (ap (λ (q : ℕ × Spot). q.0) both)) ∙ named ∙ ap Some (ap (λ (q : ℕ × Spot). q.1) both))
-scan_held w old _ (ScanNoEntry m empty none) before range x held = before range x held
 scan_held w old _ (ScanGone m y was gone) before range x held = absurd (none-some _ held)
 scan_held w old _ (ScanKeeps m y t was stands keeps) before range x held = absurd (none-some _ held)
 scan_held w old _ (ScanDrops m y t candidate was stands keeps excludes others) before range x held = absurd (none-some _ held)
-scan_held w old _ (ScanElsewhere candidate others) before range x held = before range x held
-scan_held w old _ (ScanPage next found given unread first keeps page only) before range x held = before range x held
+scan_held w old _ _ before range x held = before range x held
 
 -- what a scan knows of a row stays true while no row is dropped
 row_on : (s : ℕ) (w v : IndexView) → GoesOn s never w v → (scan : Scan) (b k : ℕ) (r : Row) → KnowsRow w scan b k r → KnowsRow v scan b k r
@@ -385,10 +324,7 @@ module _ (s : ℕ) (w v : IndexState) (kept : IsIndexKept w) where
       (still_after s (index_view w) (index_view v) Holding drops.rows.pages_per_range (not_less v.blocks w.blocks drops.rows.blocks) drops.frame.map
       drops.frame.tuples drops.pages drops.frame.locks kept.ordered tt)
       spares
-      (λ b k r there. ⊎_elim
-      (λ (was : v.row b k ≡ w.row b k). inl (sym was ∙ there))
-      (λ (gone : IsTrue (dropped b k) × (v.row b k ≡ None)). absurd (none-some _ (sym gone.1 ∙ there)))
-      (drops.rows.row b k))
+      (λ b k r there. elim (drops.rows.row b k) [ inl was ↦ inl (sym was ∙ there) | inr gone ↦ absurd (none-some _ (sym gone.1 ∙ there)) ])
       (λ t counted. sym (counts.counts t) ∙ counted)
 
   scans : (old new : Scan) → Turned s w v (Scanning old) (Scanning new) → ScanStep (index_view w) old new → ReadsIndex s (index_view w) (index_view v)
@@ -431,10 +367,7 @@ module _ (s : ℕ) (w v : IndexState) (kept : IsIndexKept w) where
       first_row : (b k : ℕ) → (sees : IsTrue (scan.sees b k)) → KnowsRow (index_view w) scan b k (begins.1 b k sees).0
       first_row b k sees = let row = begins.1 b k sees in record {
         there = row.1;
-        settled = ⊎_elim
-            (λ (a : IsAccounted (index_view w) b row.0). a)
-            (λ (i : (n : ℕ) × (on_index : OnIndex) × (w.statement n ≡ Inserting b k row.0 on_index)). absurd (row.3 i.0 i.1 i.2))
-            (kept.rows b k row.0 row.1 row.2);
+        settled = elim (kept.rows b k row.0 row.1 row.2) [ inl a ↦ a | inr i ↦ absurd (row.3 i.0 i.1 i.2) ];
         shown = λ x held. absurd (none-some _ (sym begins.0 ∙ held));
         kept = λ matches. inr (row.4 matches);
       }
@@ -508,10 +441,7 @@ module _ (s : ℕ) (w v : IndexState) (kept : IsIndexKept w) where
     ordered = kept.ordered;
     knows = kept.knows;
     knows_pages = kept.knows_pages;
-    rows = λ b k r there counted. ⊎_elim
-        (λ (was : IsTrue (w.counts r.id.t)). kept.rows b k r there was)
-        (λ (none : (c j : ℕ) (q : Row) → w.row c j ≡ Some q → q.id.t ≢ r.id.t). absurd (none b k r there refl))
-        (few r.id.t counted);
+    rows = λ b k r there counted. elim (few r.id.t counted) [ inl was ↦ kept.rows b k r there was | inr none ↦ absurd (none b k r there refl) ];
   })
 
 -- a session that doesn't hold the summarise lock leaves it to its holder which ranges have an entry
@@ -567,30 +497,8 @@ run_kept _ _ _ kept (Next s rest w u v step more) = run_kept rest u v (step_kept
 
 -- blocks of the table are never taken away
 step_blocks : (s : ℕ) (w v : IndexState) → Step s w v → w.blocks ≤ v.blocks
-step_blocks s w v (PutRow b k r turned puts counts) = puts.row.grown
-step_blocks s w v (Insert b k r on_index new turned step counts) =
-    same_blocks (index_view w) (index_view v) (insert_keeps s b k r (index_view w) (index_view v) on_index new step).0
-step_blocks s w v (Refused b k r on_index ended turned reads fails counts) = same_blocks (index_view w) (index_view v) reads.frame.heap
-step_blocks s w v (TakeSummariseLock turned passes counts) = same_blocks (index_view w) (index_view v) passes.frame.heap
-step_blocks s w v (BeginRange range turned reads counts) = same_blocks (index_view w) (index_view v) reads.frame.heap
-step_blocks s w v (Maintain range old new turned step counts) =
-    same_blocks (index_view w) (index_view v) (maintain_keeps s range (index_view w) (index_view v) old new step).0
-step_blocks s w v (Prune dropped spares turned drops counts) = not_less v.blocks w.blocks drops.rows.blocks
-step_blocks s w v (Sweep page turned sweeps counts) = same_blocks (index_view w) (index_view v) sweeps.frame.heap
-step_blocks s w v (GiveSummariseLock turned passes counts) = same_blocks (index_view w) (index_view v) passes.frame.heap
-step_blocks s w v (Abandon range number phase full turned passes counts) = same_blocks (index_view w) (index_view v) passes.frame.heap
-step_blocks s w v (BeginScan scan begins turned reads counts) = same_blocks (index_view w) (index_view v) reads.frame.heap
-step_blocks s w v (Scans old new turned step reads counts) = same_blocks (index_view w) (index_view v) reads.frame.heap
-step_blocks s w v (EndScan scan turned reads counts) = same_blocks (index_view w) (index_view v) reads.frame.heap
-step_blocks s w v (Elsewhere rests) = same_blocks (index_view w) (index_view v) rests.heap
-step_blocks s w v (Counts counts few same) = not_less v.blocks w.blocks (ap (λ (u : IndexState). u.blocks) same)
-
-through : (a b c : ℕ) → a ≤ b → b ≤ c → a ≤ c
-through a b c le le' = omega arith
-
-self : (n : ℕ) → n ≤ n
-self n = omega arith
+step_blocks s w v step = grind (arith, insert_keeps, maintain_keeps)
 
 pub run_blocks : (steps : List ℕ) (w v : IndexState) → Run steps w v → w.blocks ≤ v.blocks
-run_blocks _ _ _ (Done w) = self w.blocks
-run_blocks _ _ _ (Next s rest w u v step more) = through w.blocks u.blocks v.blocks (step_blocks s w u step) (run_blocks rest u v more)
+run_blocks _ _ _ (Done w) = le_refl w.blocks
+run_blocks _ _ _ (Next s rest w u v step more) = le_trans (step_blocks s w u step) (run_blocks rest u v more)

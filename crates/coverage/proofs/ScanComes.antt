@@ -1,16 +1,15 @@
 -- Where the scans of a table come from, and the rows that deletes have to mark: what holds of all of them is shown case by case.
-use Rattle.std.proofs.Common.{◌≡◌, ◌≢◌, ◌⊎◌, ⊎_elim, ℕ, ◌+◌, ◌≤◌, ◌<◌, Option, Some, None, Bool, false, List, ◌∷◌, sym, ◌∙◌, ap, subst, suc}
+use Rattle.std.proofs.Common.{◌≡◌, ◌≢◌, ◌⊎◌, inl, inr, ⊎_elim, ℕ, ◌+◌, ◌≤◌, ◌<◌, Option, Some, None, Bool, false, List, ◌∷◌, sym, ◌∙◌, ap, subst, suc}
 use Rattle.std.specs.Prelude.{refl}
 use Rattle.std.proofs.lemmas.Option.{same_Some, none-some}
 use Rattle.std.proofs.lemmas.Bool.{cases_eq}
 use Rattle.block_model.specs.declared.row.RowId.{RowId}
 use Rattle.coverage.specs.Table.{TableScan, Task, Resting, SweepsFrom, Scans, Marks, TableState, index_view_at}
-use Rattle.coverage.specs.TableSteps.{OnlyTurns, SameRows, SameIndexes, first_block, JudgeStep, ReadsPage, ScanBegins, BeginsWith, Summarize}
-use Rattle.coverage.specs.TableSteps.{SummarizeOne, Work, Desummarize, Vacuum, Does, PutsRow, RefusesRow, AsksSummary, InsertGoes, InsertCompletes}
-use Rattle.coverage.specs.TableSteps.{RefusesInsert, TakesLock, MaintainGoes, MaintainCompletes, RefusesMaintain, RefusesVacuum, PrunesBlock}
-use Rattle.coverage.specs.TableSteps.{SweepsPage, RestartsIndex, BeginsScan, Judges, ReadsBlock, RefusesScan, MarksRow, Conflicts, Blocked, Transacts}
-use Rattle.coverage.specs.TableSteps.{Onward, Stays, ToAsk, ToIndex, Inserted, ToRange, NextIndex, Pruned, ToPage, Swept, JudgesNext, Scanned, ToMarks}
-use Rattle.coverage.specs.TableSteps.{Marked, IsScanRead, ListsFound, Settles, GoesOn, GivesLock}
+use Rattle.coverage.specs.TableSteps.{OnlyTurns, SameRows, SameIndexes, first_block, JudgeStep, ReadsPage, ScanBegins, BeginsWith, Summarize, Does, PutsRow}
+use Rattle.coverage.specs.TableSteps.{RefusesRow, AsksSummary, InsertGoes, InsertCompletes, RefusesInsert, TakesLock, MaintainGoes, MaintainCompletes}
+use Rattle.coverage.specs.TableSteps.{RefusesMaintain, RefusesVacuum, PrunesBlock, SweepsPage, RestartsIndex, BeginsScan, Judges, ReadsBlock, RefusesScan}
+use Rattle.coverage.specs.TableSteps.{MarksRow, Conflicts, Blocked, Transacts, Onward, Stays, Pruned, JudgesNext, ToMarks, IsScanRead, ListsFound, Settles}
+use Rattle.coverage.specs.TableSteps.{GoesOn, GivesLock}
 use Rattle.coverage.proofs.Views.{scan_of, begins_no_scan}
 
 -- how the scan of a session that stepped came about
@@ -29,10 +28,7 @@ marks_of task = None
 
 begins_no_marks : (w : TableState) (first : Task) → BeginsWith w first → marks_of first ≡ None
 begins_no_marks w _ (Summarize at below) = refl
-begins_no_marks w _ (SummarizeOne at only below) = refl
-begins_no_marks w _ (Work at only below) = refl
-begins_no_marks w _ (Desummarize at only below) = refl
-begins_no_marks w _ Vacuum = refl
+begins_no_marks w _ _ = refl
 
 -- how the rows that a delete which stepped has still to mark came about
 pub data MarksCome (s : ℕ) (w v : TableState) : TableScan → List RowId → Type 0 where
@@ -100,20 +96,11 @@ module _ (P : TableScan → Type 0) (w : TableState)
     → P (record scan { at = suc scan.at; range = 0 })) where
   pub onward_scan : (old new : Task) → Onward w old new → ((q : TableScan) → old ≡ Scans q → P q) → (q : TableScan) → new ≡ Scans q → P q
   onward_scan _ _ (Stays task has) before q is = before q is
-  onward_scan _ _ (ToAsk b k r at inside asks) before q is = absurd (none-some _ (ap scan_of is))
-  onward_scan _ _ (ToIndex b k r at inside not) before q is = absurd (none-some _ (ap scan_of is))
-  onward_scan _ _ (Inserted b k r at all) before q is = absurd (none-some _ (ap scan_of is))
-  onward_scan _ _ (ToRange job at range has) before q is = absurd (none-some _ (ap scan_of is))
-  onward_scan _ _ (NextIndex extent at range done inside) before q is = absurd (none-some _ (ap scan_of is))
   onward_scan _ _ (Pruned extent from new all more) before q is = onward_scan (SweepsFrom 0 0) new more (λ p e. absurd (none-some _ (ap scan_of e))) q is
-  onward_scan _ _ (ToPage at from m p page) before q is = absurd (none-some _ (ap scan_of is))
-  onward_scan _ _ (Swept at from nothing some) before q is = absurd (none-some _ (ap scan_of is))
   onward_scan _ _ (JudgesNext scan new inside all empty more) before q is =
       onward_scan (Scans (record scan { at = suc scan.at; range = 0 })) new more
       (λ p e. subst P (same_Some _ _ (ap scan_of e)) (next scan inside all (before scan refl))) q is
-  onward_scan _ _ (Scanned scan read nothing) before q is = absurd (none-some _ (ap scan_of is))
-  onward_scan _ _ (ToMarks scan id rest read reads deletes lists) before q is = absurd (none-some _ (ap scan_of is))
-  onward_scan _ _ (Marked scan) before q is = absurd (none-some _ (ap scan_of is))
+  onward_scan _ _ _ before q is = absurd (none-some _ (ap scan_of is))
 
 -- what holds of all scans of a table before a step holds of all after it
 abbrev pub OfScans : (TableState → TableScan → Type 0) → TableState → Type 0
@@ -124,10 +111,7 @@ module _ (P : TableState → TableScan → Type 0) (s : ℕ) (w v : TableState) 
       → ((scan : TableScan) → v.task s ≡ Scans scan → P v scan) → OfScans P v
   scans_after others theirs own n scan is = ⊎_elim
       (λ (at : n ≡ s). own scan (ap v.task (sym at) ∙ is))
-      (λ (apart : n ≢ s). ⊎_elim
-      (λ (at : n ≡ s). absurd (apart at))
-      (λ (same : v.task n ≡ w.task n). theirs n scan apart (sym same ∙ is) (kept n scan (sym same ∙ is)))
-      (others n))
+      (λ (apart : n ≢ s). elim (others n) [ inl at ↦ absurd (apart at) | inr same ↦ theirs n scan apart (sym same ∙ is) (kept n scan (sym same ∙ is)) ])
       (cases_eq n s)
 
   pub scans_settled : ((scan : TableScan) → SameRows w v → SameIndexes w v → P w scan → P v scan)
@@ -154,23 +138,15 @@ module _ (P : TableScan → Type 0) (Q : TableScan → List RowId → Type 0) (w
   pub onward_marks : (old new : Task) → Onward w old new → ((q : TableScan) → old ≡ Scans q → P q)
       → ((q : TableScan) (ids : List RowId) → old ≡ Marks q ids → Q q ids) → (q : TableScan) (ids : List RowId) → new ≡ Marks q ids → Q q ids
   onward_marks _ _ (Stays task has) before marking q ids is = marking q ids is
-  onward_marks _ _ (ToAsk b k r at inside asks) before marking q ids is = absurd (none-some _ (ap marks_of is))
-  onward_marks _ _ (ToIndex b k r at inside not) before marking q ids is = absurd (none-some _ (ap marks_of is))
-  onward_marks _ _ (Inserted b k r at all) before marking q ids is = absurd (none-some _ (ap marks_of is))
-  onward_marks _ _ (ToRange job at range has) before marking q ids is = absurd (none-some _ (ap marks_of is))
-  onward_marks _ _ (NextIndex extent at range done inside) before marking q ids is = absurd (none-some _ (ap marks_of is))
   onward_marks _ _ (Pruned extent from new all more) before marking q ids is =
       onward_marks (SweepsFrom 0 0) new more (λ p e. absurd (none-some _ (ap scan_of e))) (λ p l e. absurd (none-some _ (ap marks_of e))) q ids is
-  onward_marks _ _ (ToPage at from m p page) before marking q ids is = absurd (none-some _ (ap marks_of is))
-  onward_marks _ _ (Swept at from nothing some) before marking q ids is = absurd (none-some _ (ap marks_of is))
   onward_marks _ _ (JudgesNext scan new inside all empty more) before marking q ids is =
       onward_marks (Scans (record scan { at = suc scan.at; range = 0 })) new more
       (λ p e. subst P (same_Some _ _ (ap scan_of e)) (next scan inside all (before scan refl)))
       (λ p l e. absurd (none-some _ (ap marks_of e))) q ids is
-  onward_marks _ _ (Scanned scan read nothing) before marking q ids is = absurd (none-some _ (ap marks_of is))
   onward_marks _ _ (ToMarks scan id rest read reads deletes lists) before marking q ids is =
       same_marks scan q (id ∷ rest) ids is (made scan (id ∷ rest) (before scan refl) read reads lists)
-  onward_marks _ _ (Marked scan) before marking q ids is = absurd (none-some _ (ap marks_of is))
+  onward_marks _ _ _ before marking q ids is = absurd (none-some _ (ap marks_of is))
 
 -- who rests has nothing to mark
 pub marks_differ : (scan : TableScan) (ids : List RowId) → Resting ≡ Marks scan ids → ⊥

@@ -1,17 +1,16 @@
 -- What scans find stands there and matches, and so does what deletes have to mark.
-use Rattle.std.proofs.Common.{◌≡◌, ◌≢◌, ◌⊎◌, inr, ⊎_elim, ℕ, Some, List, ◌∷◌, sym, ◌∙◌, ap, subst}
+use Rattle.std.proofs.Common.{◌≡◌, ◌≢◌, ◌⊎◌, inr, inl, ⊎_elim, ℕ, Some, List, ◌∷◌, sym, ◌∙◌, ap, subst}
 use Rattle.std.specs.Prelude.{IsTrue}
 use Rattle.std.proofs.lemmas.Option.{same_Some}
 use Rattle.std.proofs.lemmas.Bool.{cases_eq, false≢true}
 use Rattle.block_model.specs.declared.row.Row.{Row}
 use Rattle.block_model.specs.declared.row.RowId.{RowId}
 use Rattle.coverage.specs.Table.{TableScan, Marks, TableState, index_view_at}
-use Rattle.coverage.specs.TableSteps.{SeesPlace, JudgeStep, JudgeMap, JudgeNoEntry, JudgeGone, JudgeKeeps, JudgeDrops}
-use Rattle.coverage.specs.TableSteps.{Does, ListsFound, Settles, GoesOn, GivesLock}
+use Rattle.coverage.specs.TableSteps.{SeesPlace, JudgeStep, JudgeMap, Does, ListsFound, Settles, GoesOn, GivesLock}
 use Rattle.coverage.specs.TableCovered.{FindsOnly, AreToMark}
 use Rattle.coverage.proofs.Leaves.{does_leaves}
-use Rattle.coverage.proofs.ScanComes.{ScanComes, ScanBegan, ScanJudged, ScanRead, ScanStayed, scan_comes, OfScans, scans_after, scans_settled}
-use Rattle.coverage.proofs.ScanComes.{MarksCome, MarkedOne, MarksStayed, marks_come, onward_marks, marks_differ}
+use Rattle.coverage.proofs.ScanComes.{ScanComes, ScanBegan, ScanJudged, ScanRead, ScanStayed, scan_comes, OfScans, scans_after, scans_settled, MarksCome}
+use Rattle.coverage.proofs.ScanComes.{MarkedOne, MarksStayed, marks_come, onward_marks, marks_differ}
 
 found_on : (w v : TableState) → ((b k : ℕ) → v.row b k ≡ w.row b k) → (scan : TableScan) → FindsOnly w scan → FindsOnly v scan
 found_on w v rows scan finds b k has = let row = finds b k has in (row.0, rows b k ∙ row.1, row.2, row.3)
@@ -19,10 +18,7 @@ found_on w v rows scan finds b k has = let row = finds b k has in (row.0, rows b
 -- a judgement finds nothing
 judge_finds : (w : TableState) (old new : TableScan) → JudgeStep (index_view_at old.at w) old new → FindsOnly w old → FindsOnly w new
 judge_finds w old _ (JudgeMap x empty named) finds = finds
-judge_finds w old _ (JudgeNoEntry empty none) finds = finds
-judge_finds w old _ (JudgeGone x held gone) finds = finds
-judge_finds w old _ (JudgeKeeps x t held stands keeps) finds = finds
-judge_finds w old _ (JudgeDrops x t candidate held stands drops excludes others) finds = finds
+judge_finds w old _ _ finds = finds
 
 module _ (s : ℕ) (w v : TableState) (kept : OfScans FindsOnly w) where
   own_finds : (scan : TableScan) → ScanComes s w v scan → FindsOnly v scan
@@ -69,10 +65,7 @@ module _ (s : ℕ) (w v : TableState) (kept : OfMarks w) where
       → ((scan : TableScan) (ids : List RowId) → v.task s ≡ Marks scan ids → AreToMark v scan ids) → OfMarks v
   marks_after others theirs own n scan ids is = ⊎_elim
       (λ (at : n ≡ s). own scan ids (ap v.task (sym at) ∙ is))
-      (λ (apart : n ≢ s). ⊎_elim
-      (λ (at : n ≡ s). absurd (apart at))
-      (λ (same : v.task n ≡ w.task n). theirs n scan ids apart (sym same ∙ is) (kept n scan ids (sym same ∙ is)))
-      (others n))
+      (λ (apart : n ≢ s). elim (others n) [ inl at ↦ absurd (apart at) | inr same ↦ theirs n scan ids apart (sym same ∙ is) (kept n scan ids (sym same ∙ is)) ])
       (cases_eq n s)
 
   own_marks : (scan : TableScan) (ids : List RowId) → MarksCome s w v scan ids → AreToMark v scan ids

@@ -3,6 +3,7 @@ use Rattle.std.proofs.Common.{◌≡◌, ◌≢◌, ◌⊎◌, inl, inr, ⊎_eli
 use Rattle.std.specs.Prelude.{refl, IsTrue}
 use Rattle.std.proofs.lemmas.Option.{same_Some, none-some}
 use Rattle.std.proofs.lemmas.Bool.{cases_eq, false≢true}
+use Rattle.std.proofs.Math.Nat.{not-le_of_lt}
 use Rattle.block_model.specs.declared.row.Row.{Row}
 use Rattle.block_model.specs.declared.place.Spot.{Spot}
 use Rattle.coverage.specs.IndexView.{IndexTuple, IndexView, range_of_block}
@@ -89,12 +90,9 @@ module _ (w : TableState) (scan : TableScan) (reads : scan.explains ≡ false) (
   left_or_not : (b : ℕ) → IsLeft b ⊎ (IsLeft b → ⊥)
   left_or_not b = by (scan.candidate b) refl
     where
-      below : (n m : ℕ) → n < m → m ≤ n → ⊥
-      below n m less more = omega arith
-
       by : (c : Bool) → scan.candidate b ≡ c → IsLeft b ⊎ (IsLeft b → ⊥)
       by true is = ⊎_elim
-          (λ (less : b < scan.read). inr (λ left. below b scan.read less left.1))
+          (λ (less : b < scan.read). inr (λ left. not-le_of_lt less left.1))
           (λ (more : scan.read ≤ b). inl (is, more))
           (lt_or_ge b scan.read)
       by false is = inr (λ left. false≢true (sym is ∙ left.0))

@@ -3,20 +3,20 @@ use Rattle.std.proofs.Common.{◌≡◌, ⊎_elim, ℕ, ◌+◌, ◌-◌, ◌*�
 use Rattle.std.specs.Prelude.{refl}
 use Rattle.std.proofs.lemmas.Nat.{le-div}
 use Rattle.std.proofs.lemmas.Option.{same_Some, none-some}
+use Rattle.std.proofs.Math.Nat.{le_of_lt, ne_of_lt}
 use Rattle.block_model.specs.declared.row.Row.{Row}
 use Rattle.block_model.specs.declared.row.RowId.{RowId}
 use Rattle.block_model.specs.declared.place.Spot.{Spot}
 use Rattle.coverage.specs.IndexView.{IndexTuple}
 use Rattle.coverage.specs.Steps.{Stands}
-use Rattle.coverage.specs.Table.{TableScan, Task, Resting, Reaches, Asks, Inserts, Considers, Maintains, Prunes, SweepsFrom, Sweeps, Restarts}
-use Rattle.coverage.specs.Table.{Scans, Marks, TableState, index_view_at}
-use Rattle.coverage.specs.TableSteps.{first_block, OnlyTurns, ReadsPage, JudgeStep, JudgeMap, JudgeNoEntry, JudgeGone, JudgeKeeps, JudgeDrops}
-use Rattle.coverage.specs.TableSteps.{Onward, Stays, JudgesNext, Scanned, ToMarks, Marked, IsMaintained, RangesDone, NothingToSweep, Settles, TableStep, ListsFound}
+use Rattle.coverage.specs.Table.{TableScan, Task, Resting, Scans, Marks, TableState, index_view_at}
+use Rattle.coverage.specs.TableSteps.{first_block, OnlyTurns, ReadsPage, JudgeStep, JudgeMap, JudgeNoEntry, JudgeGone, JudgeKeeps, JudgeDrops, Onward, Stays}
+use Rattle.coverage.specs.TableSteps.{JudgesNext, Scanned, ToMarks, Marked, IsMaintained, RangesDone, NothingToSweep, Settles, TableStep, ListsFound}
 use Rattle.coverage.specs.GoingOn.{StepsAlone, LastAlone, OneMoreAlone}
 use Rattle.coverage.specs.StepsLeft.{sum_below, ranges_below, unjudged_ranges, held_steps, unread_blocks, scan_steps, HasAtMostToMark}
 use Rattle.coverage.specs.TableCovered.{FindsOnly, AreToMark, IsTableKept}
 use Rattle.coverage.proofs.Sums.{sum_grows}
-use Rattle.coverage.proofs.StepDid.{Did, DidBegin, DidAsk, DidInsert, DidComplete, DidMaintain, DidRange, DidPrune, DidSweep, DidRestart, DidJudge, DidRead, DidMark, step_did, step_settles}
+use Rattle.coverage.proofs.StepDid.{Did, DidJudge, DidRead, DidMark, step_did, step_settles}
 use Rattle.coverage.proofs.TableSeen.{table_step_kept, table_between_kept}
 
 -- a scan or a delete's marks
@@ -45,25 +45,17 @@ same_table w v only = λ j. record {
 -- a range that begins below the extent is one of them, and no other is
 module _ (per extent range : ℕ) (ranged : 0 < per) where
   pub one_of_ranges : range * per < extent → range < (extent + per - 1) / per
-  one_of_ranges low = le-div (suc range) (extent + per - 1) per ranged (subst (λ n. n ≤ extent + per - 1) (sym (suc-mul range per)) (fits (range * per) low))
-    where
-      fits : (n : ℕ) → n < extent → n + per ≤ extent + per - 1
-      fits n low = omega arith
+  one_of_ranges low = le-div (suc range) (extent + per - 1) per ranged (subst (λ n. n ≤ extent + per - 1) (sym (suc-mul range per)) (omega arith))
 
   -- so it is for a range all of whose blocks lie below it
   pub one_of_whole_ranges : (range + 1) * per ≤ extent → range < extent / per
   one_of_whole_ranges low = le-div (suc range) extent per ranged (subst (λ n. n * per ≤ extent) (add-one range) low)
 
   none_of_ranges : extent ≤ range * per → (extent + per - 1) / per ≤ range
-  none_of_ranges high = lower ((extent + per - 1) / per)
-      ((div-lt_iff_lt-mul {k = per} {x = extent + per - 1} {y = suc range} ranged).1
-      (subst (λ n. extent + per - 1 < n) (sym (suc-mul range per)) (fits (range * per) high)))
-    where
-      fits : (n : ℕ) → extent ≤ n → extent + per - 1 < n + per
-      fits n high = omega arith
-
-      lower : (n : ℕ) → n < suc range → n ≤ range
-      lower n less = omega arith
+  none_of_ranges high =
+      let below = (div-lt_iff_lt-mul {k = per} {x = extent + per - 1} {y = suc range} ranged).1
+          (subst (λ n. extent + per - 1 < n) (sym (suc-mul range per)) (omega arith)) in
+      omega arith
 
 -- a tuple of the range stands at the place that the scan holds
 abbrev HoldsTuple : TableState → TableScan → Type 0
@@ -84,21 +76,9 @@ ToMark rows z (Scans scan) = HasAtMostToMark z scan rows
 ToMark rows z task = Unit
 
 none_left : (rows : ℕ) (z : TableState) (task : Task) → Within rows 0 z task
-none_left rows z (Scans scan) = ((λ inside holds. least _), least _)
-  where
-    least : (n : ℕ) → 0 ≤ n
-    least n = omega arith
+none_left rows z (Scans scan) = ((λ inside holds. omega arith), omega arith)
 none_left rows z (Marks scan ids) = omega arith
-none_left rows z Resting = tt
-none_left rows z (Reaches b k r at) = tt
-none_left rows z (Asks b k r at) = tt
-none_left rows z (Inserts b k r at on_index) = tt
-none_left rows z (Considers job at range) = tt
-none_left rows z (Maintains job at range phase) = tt
-none_left rows z (Prunes extent next) = tt
-none_left rows z (SweepsFrom at from) = tt
-none_left rows z (Sweeps at page) = tt
-none_left rows z (Restarts at) = tt
+none_left rows z _ = tt
 
 -- the sums of what is left: a range fewer, or the same, in steps
 module _ (all before range un rows n : ℕ) where
@@ -124,15 +104,7 @@ module _ (rows n : ℕ) (w : TableState) (old : TableScan) (inside : old.at < w.
   before = sum_below old.at (ranges_below w old.extent)
 
   one_more : before + old.range < all
-  one_more = through before old.range (ranges_below w old.extent old.at) all
-      (one_of_ranges (w.index old.at).pages_per_range old.extent old.range ranged low)
-      (sum_grows (ranges_below w old.extent) (suc old.at) w.indexes (next_of old.at w.indexes inside))
-    where
-      through : (a b c d : ℕ) → b < c → a + c ≤ d → a + b < d
-      through a b c d less le = omega arith
-
-      next_of : (a b : ℕ) → a < b → suc a ≤ b
-      next_of a b less = omega arith
+  one_more = omega (arith, one_of_ranges (w.index old.at).pages_per_range old.extent old.range ranged low, sum_grows (ranges_below w old.extent) (suc old.at) w.indexes inside)
 
   abbrev steps_held : ℕ → ℕ → Type 0
   steps_held held m = m ≤ held + 2 * (all - (before + old.range)) + unread old + rows
@@ -164,36 +136,20 @@ module _ (rows n : ℕ) (w : TableState) (old : TableScan) (inside : old.at < w.
 -- a block is read
 module _ (rows n : ℕ) (z w : TableState) (scan : TableScan) (next : ℕ) (found : ℕ → ℕ → Bool) (reads : ReadsPage w scan next found)
     (all : scan.at ≡ z.indexes) (below : next < scan.extent) where
-  fewer : (a extent read rows : ℕ) → read ≤ next → next < extent → n ≤ a + (extent - (next + 1)) + rows → suc n ≤ a + (extent - read) + rows
-  fewer a extent read rows unread less le = omega arith
-
   read_within : Within rows n z (Scans (record scan { read = next + 1; found = found })) → Within rows (suc n) z (Scans scan)
   read_within left = (
-    (λ inside holds. absurd (crosses scan.at z.indexes inside all)),
+    (λ inside holds. absurd (ne_of_lt inside all)),
     subst (λ e. suc n ≤ held_steps scan.held + 2 * unjudged_ranges z scan + unread_blocks e scan.extent scan.read + rows) (sym reads.reads)
-        (fewer (held_steps scan.held + 2 * unjudged_ranges z scan) scan.extent scan.read rows reads.unread below
-        (subst (λ e. n ≤ held_steps scan.held + 2 * unjudged_ranges z scan + unread_blocks e scan.extent (next + 1) + rows) reads.reads left.1)),
+        (omega (arith, reads.unread, below, subst (λ e. n ≤ held_steps scan.held + 2 * unjudged_ranges z scan + unread_blocks e scan.extent (next + 1) + rows) reads.reads left.1)),
   )
-    where
-      crosses : (a b : ℕ) → a < b → a ≡ b → ⊥
-      crosses a b less is = omega arith
 
 -- where a scan comes by its step: what is left there was left before it went on
 module _ (rows n : ℕ) (u : TableState) (ranged : (i : ℕ) → i < u.indexes → 0 < (u.index i).pages_per_range) where
-  through_rows : (m a : ℕ) → n ≤ m → m ≤ rows → n ≤ a + rows
-  through_rows m a le le' = omega arith
-
-  least : (m : ℕ) → 0 ≤ m
-  least m = omega arith
-
   no_range_left : (m k : ℕ) → m ≤ k → k ≤ m → k ≡ m
   no_range_left m k le ge = omega arith
 
   sums : (a b c : ℕ) → c ≡ b → a + c + 0 ≡ a + b
   sums a b c is = omega arith
-
-  crosses : (a b : ℕ) → a < b → a ≡ b → ⊥
-  crosses a b less is = omega arith
 
   found_to_mark : (scan : TableScan) (ids : List RowId) → FindsOnly u scan → ListsFound u scan ids → AreToMark u scan ids
   found_to_mark scan ids finds lists id among =
@@ -208,13 +164,12 @@ module _ (rows n : ℕ) (u : TableState) (ranged : (i : ℕ) → i < u.indexes �
   onward_within scan _ (Scanned _ read nothing) low finds few ends left =
       subst (λ m. Within rows m (table_of u) (Scans scan)) (sym (ends refl)) (none_left rows (table_of u) (Scans scan))
   onward_within scan _ (ToMarks _ id rest read reads deletes lists) low finds few ends left = (
-    (λ inside holds. absurd (crosses scan.at u.indexes inside read.0)),
-    through_rows (length (id ∷ rest)) (scan_steps u scan) left
-        (few reads deletes (id ∷ rest) lists.ordered (found_to_mark scan (id ∷ rest) finds lists)),
+    (λ inside holds. absurd (ne_of_lt inside read.0)),
+    omega (arith, left, few reads deletes (id ∷ rest) lists.ordered (found_to_mark scan (id ∷ rest) finds lists)),
   )
   onward_within scan t (JudgesNext _ _ inside all empty more) low finds few ends left =
       let next = record scan { at = suc scan.at; range = 0 } in
-      let on = onward_within next t more (λ _. least (ranges_below u scan.extent (suc scan.at))) finds few ends left in
+      let on = onward_within next t more (λ _. omega arith) finds few ends left in
       let f = ranges_below u scan.extent in
       let is = no_range_left scan.range (f scan.at) (low inside)
       (none_of_ranges (u.index scan.at).pages_per_range scan.extent scan.range (ranged scan.at inside) all) in (
@@ -226,16 +181,13 @@ module _ (rows n : ℕ) (u : TableState) (ranged : (i : ℕ) → i < u.indexes �
   marks_within : (scan : TableScan) (ids : List RowId) (t : Task) → Onward u (Marks scan ids) t → (t ≡ Resting → n ≡ 0) → Within rows n (table_of u) t
       → n ≤ length ids
   marks_within scan ids _ (Stays _ has) ends left = left
-  marks_within scan _ _ (Marked _) ends left = subst (λ m. m ≤ 0) (sym (ends refl)) (least 0)
+  marks_within scan _ _ (Marked _) ends left = subst (λ m. m ≤ 0) (sym (ends refl)) (omega arith)
 
 -- what a delete has to mark at most is the same all along
 judge_marks : (rows : ℕ) (w : TableState) (old new : TableScan) → JudgeStep (index_view_at old.at w) old new → HasAtMostToMark w old rows
     → HasAtMostToMark w new rows
 judge_marks rows w old _ (JudgeMap x empty named) few = few
-judge_marks rows w old _ (JudgeNoEntry empty none) few = few
-judge_marks rows w old _ (JudgeGone x held gone) few = few
-judge_marks rows w old _ (JudgeKeeps x t held stands keeps) few = few
-judge_marks rows w old _ (JudgeDrops x t candidate held stands drops excludes others) few = few
+judge_marks rows w old _ _ few = few
 
 onward_marks : (rows : ℕ) (u : TableState) (scan : TableScan) (t : Task) → Onward u (Scans scan) t → HasAtMostToMark u scan rows → ToMark rows u t
 onward_marks rows u scan _ (Stays _ has) few = few
@@ -247,10 +199,8 @@ onward_marks rows u scan t (JudgesNext _ _ inside _ empty more) few = onward_mar
 judge_range : (Is : (extent at range : ℕ) → Type 0) (w : TableState) (old new : TableScan) → JudgeStep (index_view_at old.at w) old new
     → Is old.extent old.at old.range → Is old.extent old.at (suc old.range) → Is new.extent new.at new.range
 judge_range Is w old _ (JudgeMap x empty named) here there = here
-judge_range Is w old _ (JudgeNoEntry empty none) here there = there
 judge_range Is w old _ (JudgeGone x held gone) here there = here
-judge_range Is w old _ (JudgeKeeps x t held stands keeps) here there = there
-judge_range Is w old _ (JudgeDrops x t candidate held stands drops excludes others) here there = there
+judge_range Is w old _ _ here there = there
 
 unmaintained : (u : TableState) (task : Task) → IsMaintained u task → IsScanning task → ⊥
 unmaintained u _ (RangesDone job at range done last) is = is
@@ -272,15 +222,6 @@ module _ (s rows : ℕ) where
     kept_u : IsTableKept u
     kept_u = table_between_kept s w u kept step.does
 
-    least_of : (a b : ℕ) → a < b → a ≤ b
-    least_of a b less = omega arith
-
-    next_of : (a b : ℕ) → a < b → suc a ≤ b
-    next_of a b less = omega arith
-
-    crossed : (a b c : ℕ) → a ≡ b → c ≡ b → a < c → ⊥
-    crossed a b c is same less = omega arith
-
     -- what is left of the scan that the step made
     scan_left : (scan : TableScan) → u.task s ≡ Scans scan → OnlyTurns w u → (scan.at < u.indexes → scan.range ≤ ranges_below u scan.extent scan.at)
         → HasAtMostToMark w scan rows → Within rows n (table_of w) (Scans scan)
@@ -301,33 +242,22 @@ module _ (s rows : ℕ) where
         (scan_left new now only
         (λ _. subst (λ z. new.range ≤ ranges_below z new.extent new.at) (sym (same_table w u only))
         (judge_range (λ e a r. r ≤ ranges_below w e a) w old new judge
-        (least_of old.range (ranges_below w old.extent old.at) lower) (next_of old.range (ranges_below w old.extent old.at) lower)))
+        (le_of_lt lower) lower))
         (judge_marks rows w old new judge few))
     step_within _ _ (DidRead scan next found reads only) was now few =
         read_within rows n (table_of w) w scan next found reads reads.judged (((kept.exact s scan was).candidate next).0 reads.given).0
         (scan_left (record scan { read = next + 1; found = found }) now only
-        (λ inside. absurd (crossed scan.at w.indexes u.indexes reads.judged only.rows.layout.indexes inside)) few)
+        (λ inside. absurd (omega (arith, reads.judged, only.rows.layout.indexes, inside))) few)
     step_within _ _ (DidMark scan id rest only) was now few =
         let settled = scan_settles s u v step.settles (Marks scan rest) tt now in
-        one_more_id (length rest)
-        (marks_within rows n u (λ i below. (kept_u.indexes i below).sound.ranged) scan rest (v.task s) settled.0 ends
-        (subst (λ z. Within rows n z (v.task s)) (same_table u v settled.1) (more (to_mark scan rest (v.task s) settled.0))))
+        let fewer = marks_within rows n u (λ i below. (kept_u.indexes i below).sound.ranged) scan rest (v.task s) settled.0 ends
+            (subst (λ z. Within rows n z (v.task s)) (same_table u v settled.1) (more (to_mark scan rest (v.task s) settled.0))) in
+        omega arith
       where
-        one_more_id : (m : ℕ) → n ≤ m → suc n ≤ suc m
-        one_more_id m le = omega arith
-
         to_mark : (scan : TableScan) (ids : List RowId) (t : Task) → Onward u (Marks scan ids) t → ToMark rows (table_of v) t
         to_mark scan ids _ (Stays _ has) = tt
         to_mark scan _ _ (Marked _) = tt
-    step_within _ _ (DidBegin new) was now few = tt
-    step_within _ _ (DidAsk b k r at) was now few = tt
-    step_within _ _ (DidInsert b k r at old new step) was now few = tt
-    step_within _ _ (DidComplete b k r at old step) was now few = tt
-    step_within _ _ (DidMaintain job at range old new stepped step) was now few = tt
-    step_within _ _ (DidRange job at range old stepped step) was now few = tt
-    step_within _ _ (DidPrune extent next dropped inside drops) was now few = tt
-    step_within _ _ (DidSweep at page stepped sweeps) was now few = tt
-    step_within _ _ (DidRestart at only) was now few = tt
+    step_within _ _ _ was now few = tt
 
   within : (n : ℕ) (w : TableState) → StepsAlone s n w → IsTableKept w → ToMark rows (table_of w) (w.task s) → Within rows n (table_of w) (w.task s)
   within _ _ (LastAlone w v step p point) kept few =

@@ -5,12 +5,13 @@ use Rattle.std.proofs.lemmas.Option.{same_Some, none-some}
 use Rattle.block_model.specs.declared.row.Row.{Row}
 use Rattle.block_model.specs.declared.place.Spot.{Spot}
 use Rattle.coverage.specs.IndexView.{IndexTuple, PageKind, Unstarted, Mapping, Regular, Emptying, Pages, IndexView}
-use Rattle.coverage.specs.Changes.{ChangesAt, SameHeap, OwnLocks, TouchesNothing, TouchesEntries, TouchesTuples, Frame}
+use Rattle.coverage.specs.Changes.{ChangesAt, OwnLocks, Touched, TouchesNothing, TouchesRows, TouchesEntries, TouchesTuples, TouchesUnnamed}
+use Rattle.coverage.specs.Changes.{TouchesSummariseLock, KeepsHeap, KeepsMap, KeepsTuples, KeepsUnnamed, KeepsSummariseLock, Frame}
 use Rattle.coverage.specs.Statements.{OnIndex, Phase, Statement, Idle, Inserting, Maintaining}
 use Rattle.coverage.specs.Knowing.{IsOneOf, LocksThese}
 use Rattle.coverage.specs.IsCovered.{IndexState, index_view}
-use Rattle.coverage.specs.Steps.{ReadsIndex, PutsTuple, ReplacesTuple, SetsEntry, DropsTuple, TurnsKind, CountsPage, InsertStep, SummariseStep, Summarises, Turned}
-use Rattle.coverage.specs.Steps.{SummariseLockPasses, Step, Insert, Maintain}
+use Rattle.coverage.specs.Steps.{ReadsIndex, PutsTuple, ReplacesTuple, SetsEntry, DropsTuple, TurnsKind, CountsPage, InsertStep, SummariseStep, Summarises}
+use Rattle.coverage.specs.Steps.{Turned, SummariseLockPasses, Step, Insert, Maintain}
 use Rattle.coverage.proofs.ExampleTuples.{contents}
 
 -- the first where the numbers are the same
@@ -39,6 +40,16 @@ at_both (suc n) (suc m) a = at_both n m a
 at_same : {A : Type 0} → (n m : ℕ) (a b : A) → n ≡ m → at_number n m a b ≡ a
 at_same n m a b is = ap (λ k. at_number k m a b) is ∙ at_here m a b
 
+-- where a value stands at one place, and another everywhere else
+pub at_spot : {A : Type 0} → (y : Spot) (a b : A) (x : Spot) → (x ≡ y) ⊎ (at_number x.block y.block (at_number x.slot y.slot a b) b ≡ b)
+at_spot y a b x = elim (at_other x.block y.block (at_number x.slot y.slot a b) b) [ inl block ↦ on block | inr e ↦ inr e ]
+  where
+    on : x.block ≡ y.block → (x ≡ y) ⊎ (at_number x.block y.block (at_number x.slot y.slot a b) b ≡ b)
+    on block = elim (at_other x.slot y.slot a b) [
+      | inl slot ↦ inl (λ i. record { block = block i; slot = slot i })
+      | inr e ↦ inr (ap (λ z. at_number x.block y.block z b) e ∙ at_both x.block y.block b)
+    ]
+
 -- a tuple at a place, over those of before
 abbrev pub placed : Spot → Option IndexTuple → (Spot → Option IndexTuple) → Spot → Option IndexTuple
 placed y o f x = at_number x.block y.block (at_number x.slot y.slot o (f x)) (f x)
@@ -47,13 +58,7 @@ placed_here : (y : Spot) (o : Option IndexTuple) (f : Spot → Option IndexTuple
 placed_here y o f = at_here y.block (at_number y.slot y.slot o (f y)) (f y) ∙ at_here y.slot o (f y)
 
 pub placed_others : (y : Spot) (o : Option IndexTuple) (f : Spot → Option IndexTuple) (x : Spot) → (x ≡ y) ⊎ (placed y o f x ≡ f x)
-placed_others y o f x = ⊎_elim
-    (λ (block : x.block ≡ y.block). ⊎_elim
-    (λ (slot : x.slot ≡ y.slot). inl (λ i. record { block = block i; slot = slot i }))
-    (λ (e : at_number x.slot y.slot o (f x) ≡ f x). inr (ap (λ z. at_number x.block y.block z (f x)) e ∙ at_both x.block y.block (f x)))
-    (at_other x.slot y.slot o (f x)))
-    (λ (e : placed y o f x ≡ f x). inr e)
-    (at_other x.block y.block (at_number x.slot y.slot o (f x)) (f x))
+placed_others y o f x = at_spot y o (f x) x
 
 pub placed_again : (y : Spot) (o p : Option IndexTuple) (f : Spot → Option IndexTuple) (x : Spot) → (x ≡ y) ⊎ (placed y o f x ≡ placed y p f x)
 placed_again y o p f x = ⊎_elim
@@ -69,6 +74,12 @@ place = record { block = 2; slot = 0 }
 
 abbrev pub one_tuple : Option IndexTuple → Spot → Option IndexTuple
 one_tuple o = placed place o no_tuples
+
+abbrev pub no_rows : ℕ → ℕ → Option Row
+no_rows b k = None
+
+abbrev pub one_row : Row → ℕ → ℕ → Option Row
+one_row r b k = at_number b 0 (at_number k 0 (Some r) None) None
 
 abbrev pub no_locks : ℕ → Option ℕ
 no_locks p = None
@@ -117,10 +128,7 @@ locked_by (q ∷ more) p one = ⊎_elim
 
 only_by : (these : List ℕ) (p : ℕ) → locks_of these p ≡ Some 0 → IsOneOf these p
 only_by [] p is = absurd (none-some _ is)
-only_by (q ∷ more) p is = ⊎_elim
-    (λ (at : p ≡ q). inl at)
-    (λ (e : locks_of (q ∷ more) p ≡ locks_of more p). inr (only_by more p (sym e ∙ is)))
-    (at_other p q (Some 0) (locks_of more p))
+only_by (q ∷ more) p is = elim (at_other p q (Some 0) (locks_of more p)) [ inl at ↦ inl at | inr e ↦ inr (only_by more p (sym e ∙ is)) ]
 
 -- what a small index is: entries, tuples, pages, the pages that the session locks, who holds the summarise lock, and what the session is at
 pub record Small : Type 0 where
@@ -194,45 +202,21 @@ module _ (row : ℕ → ℕ → Option Row) (w v : Small) where
     taken = λ p n is other. absurd (other (own_locks v.locks p n is));
   }
 
-  heap : SameHeap (view row w) (view row v)
-  heap = record { pages_per_range = refl; blocks = refl; row = λ b k. refl }
-
   pub turned : (d e : Statement) → w.statement ≡ d → v.statement ≡ e → Turned 0 (index_of row w) (index_of row v) d e
   turned d e was now = record { was = was; now = now; others = λ n. turns w.statement v.statement n }
 
-  nothing_frame : ((m : ℕ) → v.entry m ≡ w.entry m) → ((x : Spot) → v.tuple x ≡ w.tuple x) → v.held ≡ w.held
-      → Frame 0 TouchesNothing (view row w) (view row v)
-  nothing_frame entry tuple held = record {
-    heap = heap;
-    map = record { entry = entry };
-    tuples = record { tuple = tuple };
-    unnamed_tuples = record { unnamed = λ x. refl };
-    summarise_lock = held;
-    locks = own;
-    contents = refl;
-  }
+  heap : (touched : Touched) → KeepsHeap touched (view row w) (view row v)
+  heap TouchesRows = tt
+  heap _ = record { pages_per_range = refl; blocks = refl; row = λ b k. refl }
 
-  tuples_frame : ((m : ℕ) → v.entry m ≡ w.entry m) → v.held ≡ w.held → Frame 0 TouchesTuples (view row w) (view row v)
-  tuples_frame entry held = record {
-    heap = heap;
-    map = record { entry = entry };
-    tuples = tt;
-    unnamed_tuples = record { unnamed = λ x. refl };
-    summarise_lock = held;
-    locks = own;
-    contents = refl;
-  }
+  unnamed : (touched : Touched) → KeepsUnnamed touched (view row w) (view row v)
+  unnamed TouchesUnnamed = tt
+  unnamed _ = record { unnamed = λ x. refl }
 
-  entries_frame : ((x : Spot) → v.tuple x ≡ w.tuple x) → v.held ≡ w.held → Frame 0 TouchesEntries (view row w) (view row v)
-  entries_frame tuple held = record {
-    heap = heap;
-    map = tt;
-    tuples = record { tuple = tuple };
-    unnamed_tuples = record { unnamed = λ x. refl };
-    summarise_lock = held;
-    locks = own;
-    contents = refl;
-  }
+  frame : (touched : Touched) → KeepsMap touched (view row w) (view row v) → KeepsTuples touched (view row w) (view row v)
+      → KeepsSummariseLock touched (view row w) (view row v) → Frame 0 touched (view row w) (view row v)
+  frame touched map tuples held =
+      record { heap = heap touched; map = map; tuples = tuples; unnamed_tuples = unnamed touched; summarise_lock = held; locks = own; contents = refl }
 
   -- a step of an insert, and one of a summariser
   pub inserts : (b k : ℕ) (r : Row) (on_index : OnIndex) (new : Statement) → w.statement ≡ Inserting b k r on_index → v.statement ≡ new
@@ -252,7 +236,7 @@ module _ (row : ℕ → ℕ → Option Row) (w : Small) where
   free p n is = own_locks w.locks p n is
 
   pub reads : (e : Statement) → w.locks ≡ [] → ReadsIndex 0 (view row w) (view row (at_statement e w))
-  reads e none = record { frame = nothing_frame row w (at_statement e w) (λ m. refl) (λ x. refl) refl; pages = refl; none = nobody w.locks none }
+  reads e none = record { frame = frame row w (at_statement e w) TouchesNothing (record { entry = λ m. refl }) (record { tuple = λ x. refl }) refl; pages = refl; none = nobody w.locks none }
 
   pub puts : (y : Spot) (t : IndexTuple) (these : List ℕ) (e : Statement) → w.tuple y ≡ None
       → PutsTuple 0 (view row w) (view row (at_statement e (put_at y t these w))) y t
@@ -265,7 +249,7 @@ module _ (row : ℕ → ℕ → Option Row) (w : Small) where
       map_pages = refl;
       limit = refl;
     };
-    frame = tuples_frame row w (at_statement e (put_at y t these w)) (λ m. refl) refl;
+    frame = frame row w (at_statement e (put_at y t these w)) TouchesTuples (record { entry = λ m. refl }) tt refl;
   }
 
   pub sets : (range : ℕ) (y : Spot) (these : List ℕ) (e : Statement)
@@ -273,14 +257,14 @@ module _ (row : ℕ → ℕ → Option Row) (w : Small) where
   sets range y these e = record {
     entry = record { now = at_here range (Some y) (w.entry range); others = λ m. at_other m range (Some y) (w.entry m) };
     pages = refl;
-    frame = entries_frame row w (at_statement e (set_at range y these w)) (λ x. refl) refl;
+    frame = frame row w (at_statement e (set_at range y these w)) TouchesEntries tt (record { tuple = λ x. refl }) refl;
   }
 
   pub drops : (x : Spot) (e : Statement) → DropsTuple 0 (view row w) (view row (at_statement e (drop_at x w))) x
   drops x e = record {
     tuple = record { now = placed_here x None w.tuple; others = placed_others x None w.tuple };
     page = record { now = refl; kinds = λ p. inr refl; map_pages = refl; limit = refl };
-    frame = tuples_frame row w (at_statement e (drop_at x w)) (λ m. refl) refl;
+    frame = frame row w (at_statement e (drop_at x w)) TouchesTuples (record { entry = λ m. refl }) tt refl;
     none = nobody [] refl;
   }
 
@@ -291,14 +275,14 @@ module _ (row : ℕ → ℕ → Option Row) (w : Small) where
     tuple = changes;
     free = free x.block;
     page = record { now = regular; kinds = λ p. inr refl; map_pages = refl; limit = refl };
-    frame = tuples_frame row w (at_statement e (record w { tuple = tuple })) (λ m. refl) refl;
+    frame = frame row w (at_statement e (record w { tuple = tuple })) TouchesTuples (record { entry = λ m. refl }) tt refl;
     none = nobody w.locks none;
   }
 
   pub turns_kind : (kind : PageKind) (these : List ℕ) (e : Statement)
       → TurnsKind 0 (view row w) (view row (at_statement e (kind_at kind these w))) kind these
   turns_kind kind these e = record {
-    frame = nothing_frame row w (at_statement e (kind_at kind these w)) (λ m. refl) (λ x. refl) refl;
+    frame = frame row w (at_statement e (kind_at kind these w)) TouchesNothing (record { entry = λ m. refl }) (record { tuple = λ x. refl }) refl;
     page = record {
       now = at_here (w.pages.map_pages + 1) kind (w.pages.kind (w.pages.map_pages + 1));
       kinds = λ p. at_other p (w.pages.map_pages + 1) kind (w.pages.kind p);
@@ -310,7 +294,7 @@ module _ (row : ℕ → ℕ → Option Row) (w : Small) where
 
   pub counts_page : (e : Statement) → CountsPage 0 (view row w) (view row (at_statement e (count_at w)))
   counts_page e = record {
-    frame = nothing_frame row w (at_statement e (count_at w)) (λ m. refl) (λ x. refl) refl;
+    frame = frame row w (at_statement e (count_at w)) TouchesNothing (record { entry = λ m. refl }) (record { tuple = λ x. refl }) refl;
     pages = refl;
     none = nobody [] refl;
   }
@@ -322,13 +306,5 @@ module _ (row : ℕ → ℕ → Option Row) (w : Small) where
     now = refl;
     pages = refl;
     none = nobody w.locks none;
-    frame = record {
-      heap = record { pages_per_range = refl; blocks = refl; row = λ b k. refl };
-      map = record { entry = λ m. refl };
-      tuples = record { tuple = λ x. refl };
-      unnamed_tuples = record { unnamed = λ x. refl };
-      summarise_lock = tt;
-      locks = own row w (held_by new e w);
-      contents = refl;
-    };
+    frame = frame row w (held_by new e w) TouchesSummariseLock (record { entry = λ m. refl }) (record { tuple = λ x. refl }) tt;
   }

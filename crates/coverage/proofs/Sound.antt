@@ -1,5 +1,5 @@
 -- Each kind of change leaves the index sound.
-use Rattle.std.proofs.Common.{◌≡◌, ◌≢◌, ◌⊎◌, ⊎_elim, ℕ, Option, Some, Bool, sym, ◌∙◌, subst, rules}
+use Rattle.std.proofs.Common.{◌≡◌, ◌≢◌, ◌⊎◌, inl, inr, ⊎_elim, ℕ, Option, Some, Bool, sym, ◌∙◌, subst, rules}
 use Rattle.std.proofs.lemmas.Bool.{cases_eq}
 use Rattle.block_model.specs.declared.row.Row.{Row}
 use Rattle.block_model.specs.declared.place.Spot.{Spot}
@@ -8,18 +8,15 @@ use Rattle.coverage.specs.Statements.{AreLawful}
 use Rattle.coverage.specs.IsSound.{IsSound}
 use Rattle.coverage.specs.Changes.{OwnLocks, IsLooseLocked, PutsRow, Places, Names, Turn, Swaps, MovePuts, MoveSets, DropsLoose, Clears, Sweeps, Prunes, Takes}
 use Rattle.coverage.specs.Changes.{Ends, TurnsLocks}
-use Rattle.coverage.proofs.Formed.{puts_row_formed, places_formed, names_formed, turn_formed, swaps_formed, move_puts_formed, move_sets_formed}
-use Rattle.coverage.proofs.Formed.{drops_formed, clears_formed, sweeps_formed, prunes_formed, takes_formed, ends_formed, turns_locks_formed}
+use Rattle.coverage.proofs.Formed.{puts_row_formed, places_formed, names_formed, turn_formed, swaps_formed, move_puts_formed, move_sets_formed, drops_formed}
+use Rattle.coverage.proofs.Formed.{clears_formed, sweeps_formed, prunes_formed, takes_formed, ends_formed, turns_locks_formed}
 
 -- a loose tuple's page stays locked
 lock_kept : (s : ℕ) (w v : IndexView) → IsSound w → OwnLocks s w.lock v.lock → IsLooseLocked s v → ((n : ℕ) → (n ≡ s) ⊎ (v.loose n ≡ w.loose n))
     → (n : ℕ) (x : Spot) → v.loose n ≡ Some x → v.lock x.block ≡ Some n
 lock_kept s w v sound locks locked others n x is = ⊎_elim
     (λ (e : n ≡ s). subst (λ m. v.loose m ≡ Some x → v.lock x.block ≡ Some m) (sym e) (locked x) is)
-    (λ (other : n ≢ s). ⊎_elim
-    (λ (e : n ≡ s). absurd (other e))
-    (λ (e : v.loose n ≡ w.loose n). locks.others x.block n (sound.loose_is_locked n x (sym e ∙ is)) other)
-    (others n))
+    (λ (other : n ≢ s). elim (others n) [ inl e ↦ absurd (other e) | inr e ↦ locks.others x.block n (sound.loose_is_locked n x (sym e ∙ is)) other ])
     (cases_eq n s)
 
 -- what is made of tuples stays

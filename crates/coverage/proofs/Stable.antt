@@ -1,5 +1,5 @@
 -- What a statement knows stays true while others step.
-use Rattle.std.proofs.Common.{◌≡◌, ◌≢◌, ⊎_elim, ℕ, ◌/◌, Some, None, Bool, sym, ◌∙◌, ap, subst}
+use Rattle.std.proofs.Common.{◌≡◌, ◌≢◌, inl, inr, ⊎_elim, ℕ, ◌/◌, Some, None, Bool, sym, ◌∙◌, ap, subst}
 use Rattle.std.specs.Prelude.{IsTrue}
 use Rattle.std.proofs.lemmas.Option.{same_Some}
 use Rattle.block_model.specs.declared.row.Row.{Row}
@@ -64,21 +64,15 @@ module _ (a : ℕ) (d : ℕ → ℕ → Bool) (w v : IndexView) (sound : IsSound
   )
     where
       unnamed_on : (m : ℕ) → v.entry m ≢ Some x
-      unnamed_on m is = ⊎_elim
-          (λ (e : w.entry m ≡ Some x). known.1 m e)
-          (λ (e : w.loose a ≡ Some x). other (same_Some _ _ (sym known.0 ∙ sound.loose_is_locked a x e)))
-          (on.named m x is)
+      unnamed_on m is = elim (on.named m x is) [ inl e ↦ known.1 m e | inr e ↦ other (same_Some _ _ (sym known.0 ∙ sound.loose_is_locked a x e)) ]
 
   placed_on : (range : ℕ) (x : Spot) → HasPlaced w s range x → HasPlaced v s range x
   placed_on range x known =
       (on.locks x.block s known.0 other, (known.1.0, on.tuples x s known.0 other ∙ known.1.1, known.1.2, known.1.3))
 
   settled_by_on : (b k : ℕ) (r : Row) (on_index : OnIndex) → w.row b k ≡ Some r → SettledBy w b r on_index → SettledBy v b r on_index
-  settled_by_on b k r Empty there known = tt
-  settled_by_on b k r (Held x) there known = tt
-  settled_by_on b k r (Copied x old new) there known = tt
-  settled_by_on b k r (Moving x y old new) there known = tt
   settled_by_on b k r (Dropping x) there known = on.settled b k r there known
+  settled_by_on b k r _ there known = tt
 
   its_range_on : (range : ℕ) → IsRangeOf w range → IsRangeOf v range
   its_range_on range is = range_of_on w v on.contents on.pages_per_range on.blocks range is

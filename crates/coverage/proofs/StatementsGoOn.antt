@@ -3,21 +3,22 @@ use Rattle.std.proofs.Common.{◌≡◌, ◌≢◌, ◌⊎◌, inl, inr, ⊎_eli
 use Rattle.std.specs.Prelude.{refl, IsTrue}
 use Rattle.std.proofs.lemmas.Option.{none-some}
 use Rattle.std.proofs.lemmas.Bool.{cases_eq}
+use Rattle.std.proofs.Math.Nat.{le_of_lt, lt_of_lt_of_le, not-le_of_lt}
 use Rattle.block_model.specs.declared.reply.Point.TheVariants as points
 use Rattle.block_model.specs.declared.row.Row.{Row}
 use Rattle.block_model.specs.declared.row.RowId.{RowId}
 use Rattle.coverage.specs.IndexView.{IndexView}
-use Rattle.coverage.specs.Statements.{OnIndex, Empty, Copied, Phase, NotBuilding, Vacant, Growing, Evacuating, Placing, IsAt, Statement}
+use Rattle.coverage.specs.Statements.{OnIndex, Empty, Copied, Phase, NotBuilding, Statement}
 use Rattle.coverage.specs.Steps.{SummariseStep}
 use Rattle.coverage.specs.Waiting.{IsPhaseWaiting, IsPhaseFull}
 use Rattle.coverage.proofs.StepsExist.{insert_has_step, desummarise_has_step}
 use Rattle.coverage.proofs.SummariseExists.{summarise_has_step}
 use Rattle.coverage.proofs.Numbers.{lt_or_ge}
-use Rattle.coverage.specs.Table.{Job, EachRange, OneRange, WholeRanges, Desummarising, TableScan, Task, Resting, Reaches, Asks, Inserts, Considers}
-use Rattle.coverage.specs.Table.{Maintains, Prunes, SweepsFrom, Sweeps, Restarts, Scans, Marks, TableState, index_view_at}
+use Rattle.coverage.specs.Table.{Job, EachRange, OneRange, WholeRanges, Desummarising, TableScan, Task, Resting, Asks, Inserts, Maintains, Prunes, Sweeps}
+use Rattle.coverage.specs.Table.{Restarts, Scans, Marks, TableState, index_view_at}
 use Rattle.coverage.specs.TableSteps.{first_block, HasRange, IsBlocked, InsertWaits, SummariseWaits, DesummariseWaits, SweepWaits, JudgeStep, JudgeMap}
-use Rattle.coverage.specs.TableSteps.{JudgeNoEntry, JudgeGone, JudgeKeeps, JudgeDrops, IndexFull, NoPage, ListsFound, Does, AsksSummary, Judges, ReadsBlock}
-use Rattle.coverage.specs.TableSteps.{MarksRow, HasStep, ScanHasStep, Onward, Stays, JudgesNext, Scanned, ToMarks, Marked}
+use Rattle.coverage.specs.TableSteps.{JudgeNoEntry, IndexFull, NoPage, ListsFound, Does, AsksSummary, Judges, ReadsBlock, MarksRow, HasStep, ScanHasStep}
+use Rattle.coverage.specs.TableSteps.{Onward, Stays, JudgesNext, Scanned, ToMarks, Marked}
 use Rattle.coverage.specs.TablePoints.{judge_point, IsTableStuck}
 use Rattle.coverage.specs.Refusals.{IsTaskFull, InsertFull, MaintainFull}
 use Rattle.coverage.specs.GoingOn.{CanGoOn, IsScanHonest}
@@ -30,12 +31,6 @@ use Rattle.coverage.proofs.InTable.{judge_at}
 use Rattle.coverage.proofs.FoundListed.{found_listed}
 use Rattle.coverage.proofs.TableSeen.{table_between_kept}
 use Rattle.coverage.proofs.InIndexStep.{insert_no_step, maintain_no_step}
-
-crosses : (n m : ℕ) → n < m → m ≤ n → ⊥
-crosses n m less more = omega arith
-
-less_through : (a b c : ℕ) → a < b → b ≤ c → a < c
-less_through a b c less le = omega arith
 
 -- a scan that is through with its ranges and blocks replies, or marks what it found
 module _ (u : TableState) (scan : TableScan) (none : (new : Task) → Onward u (Scans scan) new → ⊥) (finds : FindsOnly u scan)
@@ -69,44 +64,30 @@ module _ (u : TableState) (scan : TableScan) (none : (new : Task) → Onward u (
 -- a scan goes on to the next range, the next index, or its end
 pub scan_on : (u : TableState) (n : ℕ) (scan : TableScan) → ((new : Task) → Onward u (Scans scan) new → ⊥) → FindsOnly u scan → (ids : List RowId)
     → ListsFound u scan ids → scan.at + n ≡ u.indexes → (scan.held ≡ None) ⊎ (first_block u scan.at scan.range < scan.extent) → ⊥
-scan_on u zero scan none finds ids lists is held = scan_ends u scan none finds ids lists (ended scan.at u.indexes is)
-  where
-    ended : (a b : ℕ) → a + zero ≡ b → a ≡ b
-    ended a b is = omega arith
+scan_on u zero scan none finds ids lists is held = scan_ends u scan none finds ids lists (omega arith)
 scan_on u (suc n) scan none finds ids lists is held = ⊎_elim
-    (λ (more : first_block u scan.at scan.range < scan.extent). none (Scans scan) (Stays (Scans scan) (inl (inside scan.at u.indexes is, more))))
+    (λ (more : first_block u scan.at scan.range < scan.extent). none (Scans scan) (Stays (Scans scan) (inl (omega arith, more))))
     (λ (all : scan.extent ≤ first_block u scan.at scan.range). ⊎_elim
     (λ (empty : scan.held ≡ None).
     scan_on u n (record scan { at = suc scan.at; range = 0 })
-    (λ new onward. none new (JudgesNext scan new (inside scan.at u.indexes is) all empty onward)) finds ids
-    (record { ordered = lists.ordered; all = lists.all; only = lists.only }) (next scan.at u.indexes is) (inl empty))
-    (λ (more : first_block u scan.at scan.range < scan.extent). crosses (first_block u scan.at scan.range) scan.extent more all)
+    (λ new onward. none new (JudgesNext scan new (omega arith) all empty onward)) finds ids
+    (record { ordered = lists.ordered; all = lists.all; only = lists.only }) (omega arith) (inl empty))
+    (λ (more : first_block u scan.at scan.range < scan.extent). not-le_of_lt more all)
     held)
     (lt_or_ge (first_block u scan.at scan.range) scan.extent)
-  where
-    inside : (a b : ℕ) → a + suc n ≡ b → a < b
-    inside a b is = omega arith
-
-    next : (a b : ℕ) → a + suc n ≡ b → suc a + n ≡ b
-    next a b is = omega arith
 
 -- after a judgement a scan holds no place, or is at its range still
 judged_next : (Low : ℕ → ℕ → ℕ → Type 0) (w : IndexView) (old new : TableScan) → Low old.at old.range old.extent → JudgeStep w old new
     → (new.held ≡ None) ⊎ Low new.at new.range new.extent
 judged_next Low w old _ low (JudgeMap x empty named) = inr low
 judged_next Low w old _ low (JudgeNoEntry empty none) = inl empty
-judged_next Low w old _ low (JudgeGone x held gone) = inl refl
-judged_next Low w old _ low (JudgeKeeps x t held stands keeps) = inl refl
-judged_next Low w old _ low (JudgeDrops x t candidate held stands drops excludes others) = inl refl
+judged_next Low w old _ low _ = inl refl
 
 -- what is left of the indexes
 left_over : (a b : ℕ) → a ≤ b → (n : ℕ) × (a + n ≡ b)
 left_over zero b le = (b, omega arith)
 left_over (suc a) zero le = absurd (omega arith)
-left_over (suc a) (suc b) le = let more = left_over a b (omega arith) in (more.0, step a more.0 b more.1)
-  where
-    step : (a n b : ℕ) → a + n ≡ b → suc a + n ≡ suc b
-    step a n b is = omega arith
+left_over (suc a) (suc b) le = let more = left_over a b (omega arith) in (more.0, omega (arith, more.1))
 
 module _ (w : TableState) (s : ℕ) (kept : IsTableKept w) (can : CanGoOn w) (honest : IsScanHonest w s) (stuck : IsTableStuck w s)
     (unblocked : IsBlocked w s (w.task s) → ⊥) (room : (at number : ℕ) → IsTaskFull w s (w.task s) at number → ⊥) where
@@ -120,9 +101,6 @@ module _ (w : TableState) (s : ℕ) (kept : IsTableKept w) (can : CanGoOn w) (ho
       let listed = found_listed u q can.rows kept_u.rows_below in
       let left = left_over q.at w.indexes le in
       scan_on u left.0 q none (kept_u.finds s q (pick_same s (Scans q) (w.task s))) listed.0 listed.1 left.1 held
-
-  weaker : (a b : ℕ) → a < b → a ≤ b
-  weaker a b less = omega arith
 
   same_le : (a b : ℕ) → a ≡ b → a ≤ b
   same_le a b is = omega arith
@@ -139,7 +117,7 @@ module _ (w : TableState) (s : ℕ) (kept : IsTableKept w) (can : CanGoOn w) (ho
           (no_onward w s stuck (turned w s (Scans q)) (Scans q) (pick_same s (Scans q) (w.task s))
           (Judges scan q inside low step (turns_here w s (Scans scan) (Scans q) was) (only_here w s (Scans q))) (judge_point step) refl)
           (judged_next (λ at range extent. first_block w at range < extent) (index_view_at scan.at w) scan q low step)
-          (subst (λ n. n ≤ w.indexes) (sym (judge_at (index_view_at scan.at w) scan q step)) (weaker scan.at w.indexes inside))
+          (subst (λ n. n ≤ w.indexes) (sym (judge_at (index_view_at scan.at w) scan q step)) (le_of_lt inside))
 
   read_goes_on : (scan : TableScan) → w.task s ≡ Scans scan → scan.explains ≡ false → scan.at ≡ w.indexes → (b : ℕ) → IsTrue (scan.candidate b)
       → scan.read ≤ b → ⊥
@@ -201,20 +179,17 @@ module _ (w : TableState) (s : ℕ) (kept : IsTableKept w) (can : CanGoOn w) (ho
   -- the range that a summariser is at has a block of the table
   range_of : (job : Job) (at range : ℕ) → at < w.indexes → IsExtentWithin w job → HasRange w job at range → ((only : ℕ) → job ≡ Desummarising only → ⊥)
       → first_block w at range < w.blocks
-  range_of (EachRange extent) at range below le has summarises = less_through (first_block w at range) extent w.blocks has le
+  range_of (EachRange extent) at range below le has summarises = lt_of_lt_of_le has le
   range_of (OneRange extent only) at range below le has summarises =
-      subst (λ m. first_block w at m < w.blocks) (sym has.0) (less_through (first_block w at only) extent w.blocks has.1 le)
+      subst (λ m. first_block w at m < w.blocks) (sym has.0) (lt_of_lt_of_le has.1 le)
   range_of (WholeRanges extent) at range below le has summarises =
       first_below range (w.index at).pages_per_range extent w.blocks (kept.indexes at below).sound.ranged has le
     where
       further : (r p : ℕ) → 0 < p → r * p < (r + 1) * p
       further r p some = omega arith
 
-      under : (a b c d : ℕ) → a < b → b ≤ c → c ≤ d → a < d
-      under a b c d one two three = omega arith
-
       first_below : (r p e n : ℕ) → 0 < p → (r + 1) * p ≤ e → e ≤ n → r * p < n
-      first_below r p e n some low le = under (r * p) ((r + 1) * p) e n (further r p some) low le
+      first_below r p e n some low le = omega (arith, further r p some, low, le)
   range_of (Desummarising only) at range below le has summarises = absurd (summarises only refl)
 
   module _ (job : Job) (at range : ℕ) (g : Phase) (was : w.task s ≡ Maintains job at range g) where
@@ -248,11 +223,7 @@ module _ (w : TableState) (s : ℕ) (kept : IsTableKept w) (can : CanGoOn w) (ho
       (λ x p is verdict.
       unblocked (subst (IsBlocked w s) (sym (was ∙ ap (λ h. Maintains (Desummarising only) at range (NotBuilding h)) is))
       (DesummariseWaits p only at range x verdict)))
-  desummarise_goes_on only at range Vacant was of below = of
-  desummarise_goes_on only at range Growing was of below = of
-  desummarise_goes_on only at range (Evacuating m on_index) was of below = of
-  desummarise_goes_on only at range (Placing x) was of below = of
-  desummarise_goes_on only at range (IsAt p on_index) was of below = of
+  desummarise_goes_on only at range _ was of below = of
 
   maintain_goes_on : (job : Job) (at range : ℕ) (g : Phase) → w.task s ≡ Maintains job at range g → IsInTable w (Maintains job at range g) → ⊥
   maintain_goes_on (EachRange extent) at range g was mine =
@@ -282,14 +253,12 @@ module _ (w : TableState) (s : ℕ) (kept : IsTableKept w) (can : CanGoOn w) (ho
     where
       by : (task : Task) → w.task s ≡ task → HasStep w task → ⊥
       by Resting was has = busy was
-      by (Reaches b k r at) was has = has
       by (Asks b k r at) was has = ask_goes_on b k r at was
       by (Inserts b k r at g) was has = insert_goes_on b k r at g was
-      by (Considers job at range) was has = has
       by (Maintains job at range g) was has = maintain_goes_on job at range g was (subst (IsInTable w) was (kept.inside s))
       by (Prunes extent next) was has = prune_goes_on w s extent next was has stuck
-      by (SweepsFrom at from) was has = has
       by (Sweeps at page) was has = sweep_on at page was (subst (IsInTable w) was (kept.inside s))
       by (Restarts at) was has = restart_goes_on w s at was (subst (IsInTable w) was (kept.inside s)) stuck
       by (Scans scan) was has = scan_goes_on scan was has
       by (Marks scan ids) was has = mark_goes_on scan ids was has
+      by _ was has = has

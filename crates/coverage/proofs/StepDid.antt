@@ -6,12 +6,11 @@ use Rattle.block_model.specs.declared.row.Row.{Row}
 use Rattle.block_model.specs.declared.row.RowId.{RowId}
 use Rattle.coverage.specs.Statements.{OnIndex, Empty, Phase, Idle, Inserting, Maintaining, Holding}
 use Rattle.coverage.specs.Steps.{IsUnnamed, SweepsTuples, InsertStep}
-use Rattle.coverage.specs.Table.{Job, WholeRanges, TableScan, Task, Resting, Reaches, Asks, Inserts, Considers, Maintains, Prunes, SweepsFrom, Sweeps}
-use Rattle.coverage.specs.Table.{Restarts, Scans, Marks, TableState, index_view_at}
-use Rattle.coverage.specs.TableSteps.{first_block, OnlyTurns, StepsIn, TaskTurns, DropsRows, ReadsPage, JobStep, JudgeStep, Does, PutsRow, RefusesRow}
-use Rattle.coverage.specs.TableSteps.{AsksSummary, InsertGoes, InsertCompletes, RefusesInsert, TakesLock, MaintainGoes, MaintainCompletes}
-use Rattle.coverage.specs.TableSteps.{RefusesMaintain, RefusesVacuum, PrunesBlock, SweepsPage, RestartsIndex, BeginsScan, Judges, ReadsBlock, RefusesScan}
-use Rattle.coverage.specs.TableSteps.{MarksRow, Conflicts, Blocked, Transacts, Onward, IsMaintained, Settles, GoesOn, GivesLock}
+use Rattle.coverage.specs.Table.{Job, WholeRanges, TableScan, Task, Resting, Reaches, Asks, Inserts, Considers, Maintains, Prunes, SweepsFrom, Sweeps, Restarts}
+use Rattle.coverage.specs.Table.{Scans, Marks, TableState, index_view_at}
+use Rattle.coverage.specs.TableSteps.{first_block, OnlyTurns, StepsIn, TaskTurns, DropsRows, ReadsPage, JobStep, JudgeStep, Does, PutsRow, AsksSummary}
+use Rattle.coverage.specs.TableSteps.{InsertGoes, InsertCompletes, TakesLock, MaintainGoes, MaintainCompletes, PrunesBlock, SweepsPage, RestartsIndex}
+use Rattle.coverage.specs.TableSteps.{BeginsScan, Judges, ReadsBlock, MarksRow, Onward, IsMaintained, Settles, GoesOn, GivesLock}
 use Rattle.coverage.specs.TablePoints.{does_point}
 
 pub data Did (s : ℕ) (w u : TableState) : Task → Task → Type 0 where
@@ -43,27 +42,20 @@ module _ (s : ℕ) (w u : TableState) (p : Point) where
 
   pub step_did : (does : Does s w u) → does_point s w u does ≡ Some p → Did s w u (w.task s) (u.task s)
   step_did (PutsRow b k r place turns takes) is = did _ _ turns (DidBegin _)
-  step_did (RefusesRow t refused turns fails) is = absurd (none-some _ is)
   step_did (AsksSummary b k r at turns only) is = did _ _ turns (DidAsk b k r at)
   step_did (InsertGoes b k r at old new turns stepped step) is = did _ _ turns (DidInsert b k r at old new step)
   step_did (InsertCompletes b k r at old turns stepped step) is = did _ _ turns (DidComplete b k r at old step)
-  step_did (RefusesInsert b k r old refused turns fails) is = absurd (none-some _ is)
   step_did (TakesLock first begins turns free held rows indexes) is = did _ _ turns (DidBegin first)
   step_did (MaintainGoes job at range old new turns stepped step) is = did _ _ turns (DidMaintain job at range old new stepped step)
   step_did (MaintainCompletes job at range old turns stepped step) is = did _ _ turns (DidRange job at range old stepped step)
-  step_did (RefusesMaintain job at range phase refused turns stepped passes) is = absurd (none-some _ is)
-  step_did (RefusesVacuum old vacuuming turns given rows indexes) is = absurd (none-some _ is)
   step_did (PrunesBlock extent next dropped inside spared turns drops) is = did _ _ turns (DidPrune extent next dropped inside drops)
   step_did (SweepsPage at page turns stepped sweeps) is = did _ _ turns (DidSweep at page stepped sweeps)
   step_did (RestartsIndex at turns only) is = did _ _ turns (DidRestart at only)
   step_did (BeginsScan scan begins turns only) is = did _ _ turns (DidBegin (Scans scan))
   step_did (Judges old new inside low step turns only) is = did _ _ turns (DidJudge old new inside low step only)
   step_did (ReadsBlock scan next found reads turns only) is = did _ _ turns (DidRead scan next found reads only)
-  step_did (RefusesScan scan t turns how) is = absurd (none-some _ is)
   step_did (MarksRow scan id rest turns only) is = did _ _ turns (DidMark scan id rest only)
-  step_did (Conflicts scan id rest t turns fails) is = absurd (none-some _ is)
-  step_did (Blocked task blocked turns only) is = absurd (none-some _ is)
-  step_did (Transacts counts resting few same) is = absurd (none-some _ is)
+  step_did _ is = absurd (none-some _ is)
 
 -- from there it goes on, and nothing else changes; or it was maintenance, and is done
 pub step_settles : (s : ℕ) (u v : TableState) → Settles s u v → (task : Task) → u.task s ≡ task

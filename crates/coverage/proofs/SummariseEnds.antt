@@ -1,7 +1,8 @@
 -- A summarise whose session steps alone ends, or waits, or lacks a page, within a number of steps; and so does a vacuum at an index.
-use Rattle.std.proofs.Common.{◌≡◌, ◌⊎◌, inl, inr, ⊎_elim, ℕ, ◌+◌, ◌-◌, ◌*◌, ◌/◌, ◌≤◌, ◌<◌, Bool, true, false, Some, length, sym, ◌∙◌, ap, subst, arith, suc, suc-mul}
+use Rattle.std.proofs.Common.{◌≡◌, ◌⊎◌, inl, inr, ⊎_elim, ℕ, ◌+◌, ◌-◌, ◌*◌, ◌/◌, ◌≤◌, ◌<◌, Bool, true, false, Some, sym, ◌∙◌, ap, subst, arith, suc, suc-mul}
 use Rattle.std.specs.Prelude.{refl}
 use Rattle.std.proofs.lemmas.Option.{none-some}
+use Rattle.std.proofs.Math.Nat.{le_refl}
 use Rattle.block_model.specs.declared.place.Spot.{Spot}
 use Rattle.coverage.specs.IndexView.{IndexTuple, Progress, ExtentUnread, Passing, IndexView}
 use Rattle.coverage.specs.Statements.{OnIndex, Empty, Held, Copied, Moving, Dropping, Phase, NotBuilding, Vacant, Growing, Evacuating, Placing, IsAt, Statement, Maintaining, Holding}
@@ -40,27 +41,18 @@ module _ (w : IndexView) (s range most later tail tuples : ℕ) (has : AreAtMost
 
   counted : (moving : Bool) → AreAtMost (IsTaken w) (with_one moving tuples)
   counted false = has
-  counted true = λ xs apart all. wider (length xs) (has xs apart all)
-    where
-      wider : (n : ℕ) → n ≤ tuples → n ≤ suc tuples
-      wider n le = omega arith
+  counted true = λ xs apart all. omega (arith, has xs apart all)
 
   fits : (unput : Bool) → with_one unput tuples + later ≤ most
   fits true = room
-  fits false = lower room
-    where
-      lower : suc tuples + later ≤ most → tuples + later ≤ most
-      lower le = omega arith
+  fits false = omega arith
 
   base_of : (moving unput : Bool) → Base w per most later g tuples moving unput
   base_of moving unput = record { per_is = refl; tuples_are = counted moving; room = fits unput; pages = refl }
 
   starts : (phase : Phase) (own : ℕ) (moving unput : Bool) → own ≤ range_steps per phase → Own w range per phase own moving unput → Starts phase
   starts phase own moving unput le own_is =
-      Works phase own g tuples moving unput own_is (base_of moving unput) (enough own (range_steps per phase) (g * (3 * most + 3)) le)
-    where
-      enough : (a b c : ℕ) → a ≤ b → a + c + tail ≤ b + c + tail
-      enough a b c le = omega arith
+      Works phase own g tuples moving unput own_is (base_of moving unput) (omega arith)
 
   within : (a b : ℕ) → a ≤ b → per + a ≤ per + b
   within a b le = omega arith
@@ -80,62 +72,39 @@ module _ (w : IndexView) (s range most later tail tuples : ℕ) (has : AreAtMost
 
   start_evacuating : (m : ℕ) (on_index : OnIndex) → KnowsPhase w s range (Evacuating m on_index) → KnowsPagesOfPhase w s range (Evacuating m on_index)
       → Starts (Evacuating m on_index)
-  start_evacuating m Empty known pages = absurd pages.1
-  start_evacuating m (Held x) known pages = absurd pages.1
-  start_evacuating m (Copied x old new) known pages = absurd pages.1
   start_evacuating m (Moving x y old new) known pages =
       starts (Evacuating m (Moving x y old new)) (per + 10) true true (within 10 10 (omega arith)) (OwnEvacuates m x y old new (taken_of x (old, known.1.3)))
   start_evacuating m (Dropping x) known pages =
       starts (Evacuating m (Dropping x)) (per + 9) true true (within 9 10 (omega arith)) (OwnVacates m x (taken_of x known.1.2))
+  start_evacuating m _ known pages = absurd pages.1
 
   start_at : (p : Progress) (on_index : OnIndex) → 6 ≤ range_steps per (IsAt p on_index) → KnowsPhase w s range (IsAt p on_index)
       → KnowsPagesOfPhase w s range (IsAt p on_index) → Starts (IsAt p on_index)
   start_at ExtentUnread Empty six known pages = starts (IsAt ExtentUnread Empty) (per + 6) false false (within 6 10 (omega arith)) OwnExtent
   start_at (Passing extent next result) Empty six known pages =
-      starts (IsAt (Passing extent next result) Empty) ((extent - next) + 5) false false (five (extent - next)) (OwnPass extent next result)
-    where
-      five : (a : ℕ) → a + 5 ≤ a + 6
-      five a = omega arith
+      starts (IsAt (Passing extent next result) Empty) ((extent - next) + 5) false false (omega arith) (OwnPass extent next result)
   start_at p (Held x) six known pages = starts (IsAt p (Held x)) 6 false false six (OwnHeldGone p x)
   start_at p (Copied x old new) six known pages = starts (IsAt p (Copied x old new)) 6 false false six (OwnCopiedGone p x old new)
   start_at p (Moving x y old new) six known pages =
-      starts (IsAt p (Moving x y old new)) 2 true false (two (range_steps per (IsAt p (Moving x y old new))) six)
+      starts (IsAt p (Moving x y old new)) 2 true false (omega arith)
       (OwnMoving p x y old new (taken_of x (old, known.0.3)))
-    where
-      two : (a : ℕ) → 6 ≤ a → 2 ≤ a
-      two a six = omega arith
   start_at ExtentUnread (Dropping x) six known pages = absurd pages.3
   start_at (Passing extent next result) (Dropping x) six known pages = absurd pages.3
 
   six_of : (p : Progress) (on_index : OnIndex) → 6 ≤ range_steps per (IsAt p on_index)
   six_of ExtentUnread on_index = omega arith
-  six_of (Passing extent next result) on_index = more (extent - next)
-    where
-      more : (a : ℕ) → 6 ≤ a + 6
-      more a = omega arith
+  six_of (Passing extent next result) on_index = omega arith
 
   start : (phase : Phase) → KnowsPhase w s range phase → KnowsPagesOfPhase w s range phase → Starts phase
   start (NotBuilding on_index) known pages = start_not_building on_index known
   start Vacant known pages = starts Vacant (per + 8) false true (within 8 10 (omega arith)) OwnVacant
-  start Growing known pages = Grows' g tuples (base_of false true) (enough ((g - 1) * (3 * most + 3)) (g * (3 * most + 3)) (fewer_pages g (3 * most + 3)))
+  start Growing known pages = Grows' g tuples (base_of false true) (omega (arith, fewer_pages g (3 * most + 3)))
     where
       fewer_pages : (g c : ℕ) → (g - 1) * c ≤ g * c
       fewer_pages g c = ⊎_elim
-          (λ (some : 0 < g). below ((g - 1) * c) (g * c) c (one_page g c some))
-          (λ (none : g ≤ 0). subst (λ k. k * c ≤ g * c) (zeroth g none) (self (g * c)))
+          (λ (some : 0 < g). omega (arith, one_page g c some))
+          (λ (none : g ≤ 0). subst (λ k. k * c ≤ g * c) (omega arith) (le_refl (g * c)))
           (lt_or_ge 0 g)
-        where
-          below : (a b c : ℕ) → b ≡ a + c → a ≤ b
-          below a b c is = omega arith
-
-          zeroth : (g : ℕ) → g ≤ 0 → g ≡ g - 1
-          zeroth g none = omega arith
-
-          self : (n : ℕ) → n ≤ n
-          self n = omega arith
-
-      enough : (a b : ℕ) → a ≤ b → (per + 9) + a + tail ≤ (per + 10) + b + tail
-      enough a b le = omega arith
   start (Evacuating m on_index) known pages = start_evacuating m on_index known pages
   start (Placing x) known pages = starts (Placing x) (per + 7) false false (within 7 10 (omega arith)) (OwnPlacing x)
   start (IsAt p on_index) known pages = start_at p on_index (six_of p on_index) known pages
@@ -149,10 +118,8 @@ summarise_builds (Desummarising only) is = absurd is
 -- its step is a summariser's
 abbrev pub job_summarises : (job : Job) → IsBuilder job → (s range : ℕ) (w v : IndexView) (old : Phase) (e : Statement) → JobStep job s range w v old e
     → SummariseStep s range w v old e
-job_summarises (EachRange extent) is s range w v old e step = step
-job_summarises (OneRange extent only) is s range w v old e step = step
-job_summarises (WholeRanges extent) is s range w v old e step = step
 job_summarises (Desummarising only) is s range w v old e step = absurd is
+job_summarises _ is s range w v old e step = step
 
 -- where it comes by its step
 module _ (u : TableState) (job : Job) (at range : ℕ) where
@@ -175,10 +142,8 @@ IsOnly (OneRange extent only) range = range ≡ only
 IsOnly job range = Unit
 
 only_of : (w : TableState) (job : Job) (at range : ℕ) → HasRange w job at range → IsOnly job range
-only_of w (EachRange extent) at range has = tt
 only_of w (OneRange extent only) at range has = has.0
-only_of w (WholeRanges extent) at range has = tt
-only_of w (Desummarising only) at range has = tt
+only_of w _ at range has = tt
 
 -- of so many ranges, behind the next one come one fewer
 counts_later : (n later range : ℕ) → later ≡ n - suc range → suc range < n → later ≡ suc (n - suc (suc range))
@@ -192,10 +157,7 @@ one_later w (EachRange extent) at range later is ranged only has same = (
   counts_later (ranges_below w extent at) later range same (one_of_ranges (w.index at).pages_per_range extent (suc range) ranged has),
   refl,
 )
-one_later w (OneRange extent only) at range later is ranged here has same = absurd (apart range only here has.0)
-  where
-    apart : (a b : ℕ) → a ≡ b → suc a ≡ b → ⊥
-    apart a b one two = omega arith
+one_later w (OneRange extent only) at range later is ranged here has same = absurd (omega (arith, here, has.0))
 one_later w (WholeRanges extent) at range later is ranged only has same = (
   whole_ranges w extent at - suc (suc range),
   counts_later (whole_ranges w extent at) later range same (one_of_whole_ranges (w.index at).pages_per_range extent (suc range) ranged has),
@@ -228,14 +190,8 @@ pub in_stays : (at : ℕ) (w u v : TableState) → StepsIn at u v → FromStays 
 in_stays at w u v stepped stays = record {
   indexes = stepped.rows.layout.indexes ∙ stays.indexes;
   blocks = stepped.rows.blocks ∙ stays.blocks;
-  index = λ i le. ⊎_elim
-      (λ (here : i ≡ at). absurd (apart at i le here))
-      (λ (same : v.index i ≡ u.index i). same ∙ stays.index i le)
-      (stepped.others i);
+  index = λ i le. elim (stepped.others i) [ inl here ↦ absurd (omega arith) | inr same ↦ same ∙ stays.index i le ];
 }
-  where
-    apart : (a b : ℕ) → suc a ≤ b → b ≡ a → ⊥
-    apart a b le is = omega arith
 
 -- of what is left, so many steps are for the indexes behind this one, which are as they were in the table w0
 module _ (w0 : TableState) (s : ℕ) (job : Job) (is : IsBuilder job) (at per most rest : ℕ) where
@@ -259,9 +215,6 @@ module _ (w0 : TableState) (s : ℕ) (job : Job) (is : IsBuilder job) (at per mo
     through : (n m : ℕ) → n ≡ suc m → k ≤ m → suc k ≤ n
     through n m same le = omega arith
 
-    last : (n m : ℕ) → n ≡ suc m → k ≡ 0 → suc k ≤ n
-    last n m same none = omega arith
-
     same_per : OnlyTurns u v → (v.index at).pages_per_range ≡ (u.index at).pages_per_range
     same_per only = ap (λ (x : Index). x.pages_per_range) (only.indexes.index at)
 
@@ -278,16 +231,9 @@ module _ (w0 : TableState) (s : ℕ) (job : Job) (is : IsBuilder job) (at per mo
       per_is = same_per only ∙ left.base.per_is;
       tuples_are = fewer (IsTaken (index_view_at at u)) (IsTaken (index_view_at at v)) left.tuples
           (λ x taken none. taken (ap (λ (i : Index). i.tuple x) (only.indexes.index at) ∙ none)) left.base.tuples_are;
-      room = fits left.tuples same left.base.room;
+      room = omega (arith, same, left.base.room);
       pages = ap (λ (i : Index). i.pages.limit - i.pages.map_pages) (only.indexes.index at) ∙ left.base.pages;
-    }) (enough (left.g * (3 * most + 3)) (later * (per + 9)) (fewer_later * (per + 9))
-        (ap (λ j. j * (per + 9)) same ∙ suc-mul fewer_later (per + 9)) left.enough)
-      where
-        fits : (tuples : ℕ) → later ≡ suc fewer_later → tuples + later ≤ most → suc tuples + fewer_later ≤ most
-        fits tuples same le = omega arith
-
-        enough : (a b c : ℕ) → b ≡ c + (per + 9) → a + (b + rest) ≤ n → (per + 9) + a + (c + rest) ≤ n
-        enough a b c is le = omega arith
+    }) (omega (arith, ap (λ j. j * (per + 9)) same ∙ suc-mul fewer_later (per + 9), left.enough))
 
     per_u : (u.index at).pages_per_range ≡ (w.index at).pages_per_range
     per_u = does_ranges s w u step.does at
@@ -309,11 +255,8 @@ module _ (w0 : TableState) (s : ℕ) (job : Job) (is : IsBuilder job) (at per mo
         (fewer_later.2 ∙ sym (later_on u v job at (suc range) (same_per on.1)))
         (only_stays (suc at) w0 u v on.1 stays, next_range m range later fewer_later.0 on.1 fewer_later.1 left)))
         (λ (next : (IsSummarise job → ⊥) × (v.task s ≡ Restarts (suc at))).
-        through n m one (leaves m (next.0, next.1, only_stays (suc at) w0 u v on.1 stays, at_least (left.g * (3 * most + 3)) (later * (per + 9)) left.enough)))
+        through n m one (leaves m (next.0, next.1, only_stays (suc at) w0 u v on.1 stays, omega (arith, left.enough))))
         (considers_onward u job at (suc range) (v.task s) on.0)
-      where
-        at_least : (a b : ℕ) → a + (b + rest) ≤ m → rest ≤ m
-        at_least a b le = omega arith
 
     next : (n range later : ℕ) (phase : Phase) (new : Task) → Did s w u (Maintains job at range phase) new → u.task s ≡ new
         → later ≡ later_ranges w job at range → IsInTable w (Maintains job at range phase)
@@ -337,19 +280,16 @@ module _ (w0 : TableState) (s : ℕ) (job : Job) (is : IsBuilder job) (at per mo
         ⊎_elim
         (λ (on : Onward u (Considers job at (suc range)) (v.task s) × OnlyTurns u v).
         after_range n one.0 range later one.1 inside.2 inside.0 same (in_stays at w0 w u stepped left.0) one.2 on)
-        (λ (done : IsMaintained u (Considers job at (suc range)) × (v.task s ≡ Resting)). last n one.0 one.1 (ends done.1))
+        (λ (done : IsMaintained u (Considers job at (suc range)) × (v.task s ≡ Resting)). omega (arith, one.1, ends done.1))
         (step_settles s u v step.settles (Considers job at (suc range)) now)
 
   pub alone_left : ((k n : ℕ) (w : TableState) → StepsAlone s k w → IsTableKept w → NextOf w n → k ≤ n)
       → (k : ℕ) (w : TableState) → StepsAlone s k w → IsTableKept w → (n range later : ℕ) (phase : Phase) → w.task s ≡ Maintains job at range phase
       → later ≡ later_ranges w job at range → LeftOf w n range later phase → k ≤ n
   alone_left behind _ _ (LastAlone w v step p point) kept n range later phase was same left =
-      next 0 w v step kept (λ _. refl) (λ m _ _ _ _ _ _. least m) (λ m _. least m) n range later phase (step.between.task s)
+      next 0 w v step kept (λ _. refl) (λ m _ _ _ _ _ _. omega arith) (λ m _. omega arith) n range later phase (step.between.task s)
       (subst (λ t. Did s w step.between t (step.between.task s)) was (step_did s w step.between p step.does point)) refl same
       (subst (IsInTable w) was (kept.inside s)) left
-    where
-      least : (m : ℕ) → 0 ≤ m
-      least m = omega arith
   alone_left behind _ _ (OneMoreAlone k w v step p point going more) kept n range later phase was same left =
       next k w v step kept (λ rests. absurd (going rests))
       (λ m range' later' phase' now same' left'. alone_left behind k v more (table_step_kept s w v kept step) m range' later' phase' now same' left')
@@ -368,18 +308,11 @@ summarise_within s n at range tuples w job phase kept was is has alone =
     let known = maintain_knows s job at range w phase kept inside.0 was in
     let later = later_ranges w job at range in
     let tail = later * ((w.index at).pages_per_range + 9) in
-    subst (λ m. n ≤ m) (no_more (range_steps (w.index at).pages_per_range phase
-    + ((w.index at).pages.limit - (w.index at).pages.map_pages) * (3 * (tuples + suc later) + 3)) tail)
+    subst (λ m. n ≤ m) (omega arith)
     (alone_left w s job (summarise_builds job is) at (w.index at).pages_per_range (tuples + suc later) 0
     (λ k m v more kept' next. absurd (next.0 is)) n w alone kept
     (range_steps (w.index at).pages_per_range phase
     + ((w.index at).pages.limit - (w.index at).pages.map_pages) * (3 * (tuples + suc later) + 3) + (tail + 0)) range later phase was refl (
       nothing_moved (suc at) w,
-      start (index_view_at at w) s range (tuples + suc later) later (tail + 0) tuples has (room tuples later) phase known.0.1 known.1,
+      start (index_view_at at w) s range (tuples + suc later) later (tail + 0) tuples has (omega arith) phase known.0.1 known.1,
     ))
-  where
-    room : (tuples later : ℕ) → suc tuples + later ≤ tuples + suc later
-    room tuples later = omega arith
-
-    no_more : (a b : ℕ) → a + (b + 0) ≡ a + b
-    no_more a b = omega arith

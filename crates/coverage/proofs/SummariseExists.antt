@@ -1,24 +1,24 @@
 -- A summariser has a step, or waits, or lacks a page: the steps are there to be made.
-use Rattle.std.proofs.Common.{◌≡◌, ◌≢◌, ◌⊎◌, inl, inr, ⊎_elim, ℕ, ◌+◌, ◌*◌, ◌≤◌, ◌<◌, min, Option, Some, None, Bool, true, false, sym, ◌∙◌, ap, subst, arith, rules}
+use Rattle.std.proofs.Common.{◌≡◌, ◌≢◌, ◌⊎◌, inl, inr, ⊎_elim, ℕ, ◌+◌, ◌*◌, ◌≤◌, ◌<◌, min, Option, Some, None, Bool, true, false, sym, ◌∙◌, ap, subst, rules}
 use Rattle.std.specs.Prelude.{refl, List, [], ◌∷◌, length}
 use Rattle.std.proofs.lemmas.Option.{same_Some, none-some}
 use Rattle.std.proofs.lemmas.Bool.{cases_eq}
+use Rattle.std.proofs.Math.Nat.{not-le_of_lt}
 use Rattle.block_model.specs.declared.place.Spot.{Spot}
-use Rattle.coverage.specs.IndexView.{IndexTuple, Progress, ExtentUnread, Passing, PageKind, Unstarted, Mapping, Regular, Emptying, IndexView, placeholder_length, IsRangeOf}
-use Rattle.coverage.specs.IndexView.{map_page_of, next_map_page, IsPastMap, NamesPlaceholder}
+use Rattle.coverage.specs.IndexView.{IndexTuple, Progress, ExtentUnread, Passing, PageKind, Unstarted, Mapping, Regular, Emptying, IndexView}
+use Rattle.coverage.specs.IndexView.{placeholder_length, IsRangeOf, map_page_of, next_map_page, IsPastMap, NamesPlaceholder}
 use Rattle.coverage.specs.Changes.{IsFree}
 use Rattle.coverage.specs.Verdicts.{IsLocked, IsFirstLocked, HasFreeSlots, Verdict, Waits, Differs, Fits, Puts, Full, PutVerdict, PutGoes, SwapVerdict}
 use Rattle.coverage.specs.Verdicts.{SwapFits, SwapMoves}
-use Rattle.coverage.specs.Statements.{OnIndex, Empty, Held, Copied, Moving, Dropping, Phase, NotBuilding, Vacant, Growing, Evacuating, Placing, IsAt, Maintaining}
-use Rattle.coverage.specs.Statements.{Holding, rows_added}
+use Rattle.coverage.specs.Statements.{OnIndex, Empty, Held, Copied, Moving, Dropping, Phase, NotBuilding, Vacant, Growing, Evacuating, Placing, IsAt}
+use Rattle.coverage.specs.Statements.{Maintaining, Holding, rows_added}
 use Rattle.coverage.specs.Knowing.{LocksNone, IsOneOf, LocksThese, Knows}
 use Rattle.coverage.specs.PageOrder.{KnowsPages}
-use Rattle.coverage.specs.Steps.{PutsTuple, Maps, Gone, Again, MovePut, TurnsKind, CountsPage, SweepsTuples, Grow}
-use Rattle.coverage.specs.Steps.{CountLeftOver, Count, Flag, EvacuatePut, EvacuateSet, EvacuateDrop, EvacuateSweep, Turn, LookMap, LookGone, IsFinal, Found}
-use Rattle.coverage.specs.Steps.{ReadNoEntry, GrowMap, Put, Set, Extent, Pass, Unite, UniteCopies, SwapFinal, SetFinal, DropOld}
-use Rattle.coverage.specs.Waiting.{FinalWaits, PlaceWaits, GrowWaits, CountWaits, FlagWaits, EvacuateWaits, EvacuatePutWaits, TurnWaits}
-use Rattle.coverage.specs.Waiting.{FinalFull, PlaceFull, MapFull, EvacuateFull}
-use Rattle.coverage.specs.Waiting.{IsNextTuple, Grows}
+use Rattle.coverage.specs.Steps.{PutsTuple, Maps, Gone, Again, MovePut, TurnsKind, CountsPage, SweepsTuples, Grow, CountLeftOver, Count, Flag, EvacuatePut}
+use Rattle.coverage.specs.Steps.{EvacuateSet, EvacuateDrop, EvacuateSweep, Turn, LookMap, LookGone, IsFinal, Found, ReadNoEntry, GrowMap, Put, Set, Extent}
+use Rattle.coverage.specs.Steps.{Pass, Unite, UniteCopies, SwapFinal, SetFinal, DropOld}
+use Rattle.coverage.specs.Waiting.{FinalWaits, PlaceWaits, GrowWaits, CountWaits, FlagWaits, EvacuateWaits, EvacuatePutWaits, TurnWaits, FinalFull, PlaceFull}
+use Rattle.coverage.specs.Waiting.{MapFull, EvacuateFull, IsNextTuple, Grows}
 use Rattle.coverage.specs.Stuck.{IsSummariseStuck, IsPhaseFree, HasBlocksOfRows}
 use Rattle.coverage.proofs.Numbers.{lt_or_ge}
 use Rattle.coverage.proofs.Verdicts.{locked_or_free, two_pages, some_put, some_swap}
@@ -32,10 +32,7 @@ free_two w s p q one two n among = ⊎_elim
     among
 
 free_three : (w : IndexView) (s p q m : ℕ) → IsFree w.lock s p → IsFree w.lock s q → IsFree w.lock s m → (n : ℕ) → IsOneOf (p ∷ q ∷ m ∷ []) n → IsFree w.lock s n
-free_three w s p q m one two three n among = ⊎_elim
-    (λ (is : n ≡ p). subst (IsFree w.lock s) (sym is) one)
-    (λ (more : IsOneOf (q ∷ m ∷ []) n). free_two w s q m two three n more)
-    among
+free_three w s p q m one two three n among = elim among [ inl is ↦ subst (IsFree w.lock s) (sym is) one | inr more ↦ free_two w s q m two three n more ]
 
 -- the view after a put, with these locks
 module _ (s : ℕ) (w : IndexView) (y : Spot) (t : IndexTuple) (these : List ℕ) (free : (p : ℕ) → IsOneOf these p → IsFree w.lock s p) where
@@ -189,10 +186,7 @@ module _ (s range : ℕ) (w : IndexView) (slots : HasFreeSlots w.tuple) (blocks 
             places = λ y. ⊎_elim
                 (λ (is : y ≡ x). inr (ap (λ (z : Spot). z.block) is ∙ next.on, is))
                 (λ (other : y ≢ x). inl (
-                  ⊎_elim
-                      (λ (is : y ≡ x). absurd (other is))
-                      (λ (e : tuple_with w.tuple x None y ≡ w.tuple y). e)
-                      (tuple_there w.tuple x None y),
+                  elim (tuple_there w.tuple x None y) [ inl is ↦ absurd (other is) | inr e ↦ e ],
                   kept y other,
                 ))
                 (place_is y x);
@@ -206,10 +200,7 @@ module _ (s range : ℕ) (w : IndexView) (slots : HasFreeSlots w.tuple) (blocks 
         where
           by : (o : Option Spot) → w.entry t.range ≡ o → (w.entry t.range ≡ Some x) ⊎ (w.entry t.range ≢ Some x)
           by None is = inr (λ named. none-some _ (sym is ∙ named))
-          by (Some y) is = ⊎_elim
-              (λ (same : y ≡ x). inl (is ∙ ap Some same))
-              (λ (other : y ≢ x). inr (λ named. other (same_Some _ _ (sym is ∙ named))))
-              (place_is y x)
+          by (Some y) is = elim (place_is y x) [ inl same ↦ inl (is ∙ ap Some same) | inr other ↦ inr (λ named. other (same_Some _ _ (sym is ∙ named))) ]
 
       none_next : (x : Spot) (t : IndexTuple) → IsNextTuple w.tuple (next_map_page w.pages) x t → ⊥
       none_next x t next = ⊎_elim
@@ -249,11 +240,8 @@ module _ (s range : ℕ) (w : IndexView) (slots : HasFreeSlots w.tuple) (blocks 
       grows_by (w.pages.kind (next_map_page w.pages)) (record { short = past; below = low; is = refl }) stuck free)
       (λ (full : w.pages.limit ≤ next_map_page w.pages). free.1 w.pages.limit (MapFull past full))
       (lt_or_ge (next_map_page w.pages) w.pages.limit))
-      (λ (long : map_page_of range ≤ w.pages.map_pages). places (λ past. cross w.pages.map_pages (map_page_of range) past long) stuck free)
+      (λ (long : map_page_of range ≤ w.pages.map_pages). places (λ past. not-le_of_lt past long) stuck free)
       (lt_or_ge w.pages.map_pages (map_page_of range))
-    where
-      cross : (a b : ℕ) → a < b → b ≤ a → ⊥
-      cross a b less le = omega arith
 
   -- the range's entry becomes a place, and the locks stay
   abbrev set_view : ℕ → Spot → IndexView
@@ -362,26 +350,20 @@ module _ (s range : ℕ) (w : IndexView) (slots : HasFreeSlots w.tuple) (blocks 
   not_building (Dropping x) known pages stuck free = stuck Holding (drops_view s w x) (DropOld x (drops_here s w x))
 
   evacuating : (m : ℕ) (on_index : OnIndex) → HasNoStep (Evacuating m on_index)
-  evacuating m Empty known pages stuck free = pages.1
-  evacuating m (Held x) known pages stuck free = pages.1
-  evacuating m (Copied x old new) known pages stuck free = pages.1
   evacuating m (Moving x y old new) known pages stuck free = evacuates_set m x y old new stuck
   evacuating m (Dropping x) known pages stuck free =
       stuck (Maintaining range Vacant) (drops_view s w x) (GrowMap (Evacuating m (Dropping x)) Vacant (EvacuateDrop m x (drops_here s w x)))
+  evacuating m _ known pages stuck free = pages.1
 
   building : (p : Progress) (on_index : OnIndex) → HasNoStep (IsAt p on_index)
   building ExtentUnread Empty known pages stuck free =
       stuck (Maintaining range (IsAt (Passing (min w.blocks ((range + 1) * w.pages_per_range)) (range * w.pages_per_range) (w.contents.empty range)) Empty)) w
       (Extent (min w.blocks ((range + 1) * w.pages_per_range)) (w.contents.empty range) refl refl (reads_here s w known.1.0))
-  building ExtentUnread (Held x) known pages stuck free = pages.3
-  building ExtentUnread (Copied x old new) known pages stuck free = pages.3
-  building ExtentUnread (Moving x y old new) known pages stuck free = pages.3
-  building ExtentUnread (Dropping x) known pages stuck free = pages.3
   building (Passing extent next result) Empty known pages stuck free = passes extent next result known.1.0 pages.1 stuck
   building (Passing extent next result) (Held x) known pages stuck free = unites extent next result x known.1.0.0 pages.3 stuck
   building (Passing extent next result) (Copied x old new) known pages stuck free = finals extent next result x old new known.1.0.0 pages.3 stuck free
   building (Passing extent next result) (Moving x y old new) known pages stuck free = sets_final (Passing extent next result) x y old new stuck
-  building (Passing extent next result) (Dropping x) known pages stuck free = pages.3
+  building _ _ known pages stuck free = pages.3
 
   pub summarise_has_step : (phase : Phase) → HasNoStep phase
   summarise_has_step (NotBuilding on_index) known pages stuck free = not_building on_index known pages stuck free

@@ -1,15 +1,15 @@
 -- Each step of a summariser, and of the growth of the map for it, leaves it fewer steps to go on its range.
-use Rattle.std.proofs.Common.{◌≡◌, ◌≢◌, ◌⊎◌, inl, inr, ⊎_elim, ℕ, ◌+◌, ◌-◌, ◌*◌, ◌≤◌, ◌<◌, min, List, [], ◌∷◌, length, Bool, true, false, Some, None, sym, ◌∙◌, ap, subst, arith, suc, suc-mul, add-one}
+use Rattle.std.proofs.Common.{◌≡◌, ◌≢◌, ◌⊎◌, inl, inr, ⊎_elim, ℕ, ◌+◌, ◌-◌, ◌*◌, ◌≤◌, ◌<◌, List, [], ◌∷◌, length, Bool, true, false, Some, None, sym, ◌∙◌, ap, subst, arith, suc, suc-mul, add-one}
 use Rattle.std.specs.Prelude.{refl}
 use Rattle.std.proofs.lemmas.Option.{none-some}
+use Rattle.std.proofs.Math.Nat.{le_of_lt}
 use Rattle.block_model.specs.declared.place.Spot.{Spot}
 use Rattle.coverage.specs.IndexView.{IndexTuple, Progress, ExtentUnread, Passing, PageKind, Unstarted, Mapping, Regular, Emptying, Pages, IndexView, map_page_of, next_map_page, IsPastMap}
-use Rattle.coverage.specs.Changes.{IsUntouched}
 use Rattle.coverage.specs.Waiting.{Grows}
 use Rattle.coverage.specs.Statements.{OnIndex, Empty, Held, Copied, Moving, Dropping, Phase, NotBuilding, Vacant, Growing, Evacuating, Placing, IsAt, Statement, Maintaining}
 use Rattle.coverage.specs.Steps.{ReadsIndex, PutsTuple, ReplacesTuple, DropsTuple, TurnsKind, CountsPage, IsGone, OnIndexStep, Maps, Gone, Again, MovePut}
-use Rattle.coverage.specs.Steps.{SummariseStep, LookMap, LookGone, IsFinal, Found, ReadNoEntry, GrowMap, Put, Set, Extent, Pass, Unite, UniteCopies}
-use Rattle.coverage.specs.Steps.{SwapFinal, SetFinal, DropOld, GrowthStep, Grow, CountLeftOver, Count, Flag, EvacuatePut, EvacuateSet, EvacuateDrop, EvacuateSweep, Turn}
+use Rattle.coverage.specs.Steps.{SummariseStep, LookMap, LookGone, IsFinal, Found, ReadNoEntry, GrowMap, Put, Set, Extent, Pass, Unite, UniteCopies, SwapFinal}
+use Rattle.coverage.specs.Steps.{SetFinal, DropOld, GrowthStep, Grow, CountLeftOver, Count, Flag, EvacuatePut, EvacuateSet, EvacuateDrop, EvacuateSweep, Turn}
 use Rattle.coverage.specs.Rooms.{bytes_of, page_room}
 use Rattle.coverage.specs.Stuck.{AreNamed}
 use Rattle.coverage.proofs.OnIndexSteps.{move_compares}
@@ -86,39 +86,21 @@ LeftAfter w range per most later tail n statement = DoneLeft w per most later ta
 -- numbers: one step is made, and what is left is enough for the rest
 module _ (tail n : ℕ) where
   lower : (own own' a : ℕ) → own' < own → own + a + tail ≤ n → (m : ℕ) × (n ≡ suc m) × (own' + a + tail ≤ m)
-  lower own own' a less enough = (n - 1, some own n less enough, rest less enough)
-    where
-      some : (own n : ℕ) → own' < own → own + a + tail ≤ n → n ≡ suc (n - 1)
-      some own n less enough = omega arith
-
-      rest : own' < own → own + a + tail ≤ n → own' + a + tail ≤ n - 1
-      rest less enough = omega arith
+  lower own own' a less enough = (n - 1, omega arith, omega arith)
 
   -- a page is taken: what it costs is enough for it
   lower_page : (own own' a b c : ℕ) → a ≡ b + c → own' < own + c → own + a + tail ≤ n → (m : ℕ) × (n ≡ suc m) × (own' + b + tail ≤ m)
-  lower_page own own' a b c is less enough = (n - 1, some is less enough, rest is less enough)
-    where
-      some : a ≡ b + c → own' < own + c → own + a + tail ≤ n → n ≡ suc (n - 1)
-      some is less enough = omega arith
-
-      rest : a ≡ b + c → own' < own + c → own + a + tail ≤ n → own' + b + tail ≤ n - 1
-      rest is less enough = omega arith
+  lower_page own own' a b c is less enough = (n - 1, omega arith, omega arith)
 
   to_page : (own own' a b c : ℕ) → a ≡ b + c → own' ≤ own + c → own + a + tail ≤ n → own' + b + tail ≤ n
   to_page own own' a b c is le enough = omega arith
 
 -- the cost of one page of so many
 pub one_page : (g c : ℕ) → 1 ≤ g → g * c ≡ (g - 1) * c + c
-one_page g c some = ap (λ k. k * c) (is g some) ∙ suc-mul (g - 1) c
-  where
-    is : (g : ℕ) → 1 ≤ g → g ≡ suc (g - 1)
-    is g some = omega arith
+one_page g c some = ap (λ k. k * c) (omega arith) ∙ suc-mul (g - 1) c
 
 pages_some : (limit map g : ℕ) → map + 1 < limit → limit - map ≡ g → 1 ≤ g
 pages_some limit map g below is = omega arith
-
-pages_less : (limit map g : ℕ) → limit - map ≡ g → limit - (map + 1) ≡ g - 1
-pages_less limit map g is = omega arith
 
 abbrev IsStep : (range per most later tail n : ℕ) → IndexView → Phase → Type 0
 IsStep range per most later tail n v phase = (m : ℕ) × (n ≡ suc m) × Left v range per most later tail m phase
@@ -156,10 +138,7 @@ module _ (s range per most later tail : ℕ) (w v : IndexView) where
     where
       less : (unput : Bool) → with_one unput tuples + later ≤ most → tuples + later ≤ most
       less false le = le
-      less true le = weaker le
-        where
-          weaker : suc tuples + later ≤ most → tuples + later ≤ most
-          weaker le = omega arith
+      less true le = omega arith
 
   works : (n own own' g tuples : ℕ) (moving unput : Bool) (phase : Phase) → own' < own → own + g * cost + tail ≤ n → Own v range per phase own' moving unput
       → Base v per most later g tuples moving unput → IsStep range per most later tail n v phase
@@ -170,17 +149,11 @@ module _ (s range per most later tail : ℕ) (w v : IndexView) where
       → (m : ℕ) × (n ≡ suc m) × DoneLeft v per most later tail m
   done n own g tuples some enough base =
       let left = lower tail n own 0 (g * cost) some enough in
-      (left.0, left.1, record { g = g; tuples = tuples; base = base; enough = plain (g * cost) tail left.0 left.2 })
-    where
-      plain : (a b m : ℕ) → 0 + a + b ≤ m → a + b ≤ m
-      plain a b m le = omega arith
+      (left.0, left.1, record { g = g; tuples = tuples; base = base; enough = omega (arith, left.2) })
 
   -- after a put one tuple more stands
   put_taken : (y : Spot) (t : IndexTuple) → PutsTuple s w v y t → (z : Spot) → IsTaken v z → (z ≡ y) ⊎ IsTaken w z
-  put_taken y t puts z taken = ⊎_elim
-      (λ (here : z ≡ y). inl here)
-      (λ (same : v.tuple z ≡ w.tuple z). inr (λ none. taken (same ∙ none)))
-      (puts.tuple.others z)
+  put_taken y t puts z taken = elim (puts.tuple.others z) [ inl here ↦ inl here | inr same ↦ inr (λ none. taken (same ∙ none)) ]
 
   puts_on : (g tuples : ℕ) (unput : Bool) (y : Spot) (t : IndexTuple) → PutsTuple s w v y t → Base w per most later g tuples false unput
       → Base v per most later g tuples true unput
@@ -210,13 +183,10 @@ module _ (s range per most later tail : ℕ) (w v : IndexView) where
       let less = one_less (IsTaken w) (IsTaken v) x (suc tuples) taken (drop_taken x drops) base.tuples_are in
       record {
         per_is = drops.frame.heap.pages_per_range ∙ base.per_is;
-        tuples_are = subst (AreAtMost (IsTaken v)) (sym (same tuples less.0 less.1)) less.2;
+        tuples_are = subst (AreAtMost (IsTaken v)) (sym (omega (arith, less.1))) less.2;
         room = base.room;
         pages = (λ j. drops.page.limit j - drops.page.map_pages j) ∙ base.pages;
       }
-    where
-      same : (a b : ℕ) → suc a ≡ suc b → a ≡ b
-      same a b is = omega arith
 
 abbrev IsOfEmptying : PageKind → Type 0
 IsOfEmptying Emptying = Unit
@@ -257,9 +227,6 @@ module _ (s range per most later tail n : ℕ) (w v : IndexView) where
       few : suc tuples + later ≤ most → tuples ≤ most
       few le = omega arith
 
-  room_for : (tuples : ℕ) → suc tuples + later ≤ most → (per + 8) + (3 * tuples + 2) < (per + 8) + c
-  room_for tuples le = omega arith
-
   empties : Left w range per most later tail n Vacant → Grows w.pages range Emptying → EmptyLeft w range per most later tail n
   empties (Works _ _ g tuples _ _ OwnVacant base enough) grows = record {
     g = g;
@@ -269,11 +236,8 @@ module _ (s range per most later tail n : ℕ) (w v : IndexView) where
     base = base;
     emptying = begun g tuples base grows;
     enough = to_page tail n (per + 8) ((per + 8) + (3 * tuples + 2)) (g * c) ((g - 1) * c) c
-        (one_page g c (pages_some w.pages.limit w.pages.map_pages g grows.below base.pages)) (weaker ((per + 8) + (3 * tuples + 2)) ((per + 8) + c) (room_for tuples base.room)) enough;
+        (one_page g c (pages_some w.pages.limit w.pages.map_pages g grows.below base.pages)) (le_of_lt (omega (arith, base.room))) enough;
   }
-    where
-      weaker : (a b : ℕ) → a < b → a ≤ b
-      weaker a b less = omega arith
   empties (Empties g tuples on page base emptying enough) grows = record {
     g = g;
     tuples = tuples;
@@ -301,7 +265,7 @@ module _ (s range per most later tail n : ℕ) (w v : IndexView) where
     per_is = counts.frame.heap.pages_per_range ∙ base.per_is;
     tuples_are = fewer (IsTaken w) (IsTaken v) tuples (same_taken s range per most later tail w v counts.frame.tuples.tuple) base.tuples_are;
     room = base.room;
-    pages = (λ j. (counts.pages j).limit - (counts.pages j).map_pages) ∙ pages_less w.pages.limit w.pages.map_pages g base.pages;
+    pages = (λ j. (counts.pages j).limit - (counts.pages j).map_pages) ∙ (omega (arith, base.pages));
   }
 
   -- the page of a growth is emptied on: it is the next one still, and of its kind, and fewer tuples count there
@@ -320,19 +284,13 @@ module _ (s range per most later tail n : ℕ) (w v : IndexView) where
   growth_left _ _ (Grow grows free meta turns) left =
       let known = works_vacant Unstarted (λ is. is) grows left in
       let all = one_page known.0 c (pages_some w.pages.limit w.pages.map_pages known.0 grows.below known.2.pages) in
-      let step = lower_page tail n (per + 8) (per + 9) (known.0 * c) ((known.0 - 1) * c) c all (few per most) known.3 in
+      let step = lower_page tail n (per + 8) (per + 9) (known.0 * c) ((known.0 - 1) * c) c all (omega arith) known.3 in
       (step.0, step.1, Grows' known.0 known.1 (turns_base known.0 known.1 Mapping (next_map_page w.pages ∷ 0 ∷ []) turns known.2) step.2)
-    where
-      few : (per most : ℕ) → per + 9 < (per + 8) + (3 * most + 3)
-      few per most = omega arith
   growth_left _ _ (CountLeftOver grows meta counts) left =
       let known = works_vacant Mapping (λ is. is) grows left in
       let all = one_page known.0 c (pages_some w.pages.limit w.pages.map_pages known.0 grows.below known.2.pages) in
-      let step = lower_page tail n (per + 8) (per + 8) (known.0 * c) ((known.0 - 1) * c) c all (few per most) known.3 in
+      let step = lower_page tail n (per + 8) (per + 8) (known.0 * c) ((known.0 - 1) * c) c all (omega arith) known.3 in
       (step.0, step.1, Works Vacant (per + 8) (known.0 - 1) known.1 false true OwnVacant (counts_base known.0 known.1 counts known.2) step.2)
-    where
-      few : (per most : ℕ) → per + 8 < (per + 8) + (3 * most + 3)
-      few per most = omega arith
   growth_left _ _ (Count counts) (Grows' g tuples base enough) =
       let step = lower tail n (per + 9) (per + 8) ((g - 1) * c) (next per) enough in
       (step.0, step.1, Works Vacant (per + 8) (g - 1) tuples false true OwnVacant (counts_base g tuples counts base) step.2)
@@ -343,7 +301,7 @@ module _ (s range per most later tail n : ℕ) (w v : IndexView) where
   growth_left _ _ (Flag grows free turns) left =
       let known = works_vacant Regular (λ is. is) grows left in
       let all = one_page known.0 c (pages_some w.pages.limit w.pages.map_pages known.0 grows.below known.2.pages) in
-      let step = lower_page tail n (per + 8) ((per + 8) + (3 * known.1 + 2)) (known.0 * c) ((known.0 - 1) * c) c all (room_for known.1 known.2.room) known.3 in (
+      let step = lower_page tail n (per + 8) ((per + 8) + (3 * known.1 + 2)) (known.0 * c) ((known.0 - 1) * c) c all (omega (arith, known.2.room)) known.3 in (
         step.0,
         step.1,
         Empties known.0 known.1 known.1 (next_map_page w.pages) (turns_base known.0 known.1 Emptying [] turns known.2) (record {
@@ -364,7 +322,7 @@ module _ (s range per most later tail n : ℕ) (w v : IndexView) where
       let apart = emptying_target known.page known.on known.emptying in
       let on = one_less (λ z. (z.block ≡ known.page) × IsTaken w z × Unit) (λ z. (z.block ≡ known.page) × IsTaken v z × (z ≢ x)) x known.on
       (next.on ∙ known.emptying.is, taken, tt) (λ z is. ((is.0, was_taken known.page apart z is.0 is.1, tt), is.2)) known.emptying.tuples_are in
-      let step = lower tail n ((per + 8) + (3 * known.on + 2)) ((per + 8) + (3 * on.0 + 4)) ((known.g - 1) * c) (one_put on.0 known.on on.1) known.enough in (
+      let step = lower tail n ((per + 8) + (3 * known.on + 2)) ((per + 8) + (3 * on.0 + 4)) ((known.g - 1) * c) (omega (arith, on.1)) known.enough in (
         step.0,
         step.1,
         Moves t.range known.g known.tuples on.0 known.page x y t t
@@ -376,9 +334,6 @@ module _ (s range per most later tail n : ℕ) (w v : IndexView) where
             step.2,
       )
     where
-      one_put : (a b : ℕ) → b ≡ suc a → (per + 8) + (3 * a + 4) < (per + 8) + (3 * b + 2)
-      one_put a b is = omega arith
-
       still : (a b : ℕ) → b ≡ suc a → b ≤ most → a ≤ most
       still a b is le = omega arith
 
@@ -396,7 +351,7 @@ module _ (s range per most later tail n : ℕ) (w v : IndexView) where
           (λ (was : IsTaken w z). was)
           (put_taken s range per most later tail w v y t puts z taken)
   growth_left _ _ (EvacuateSet m x y t u sets same) (Moves _ g tuples on page _ _ _ _ base taken emptying enough) =
-      let step = lower tail n ((per + 8) + (3 * on + 4)) ((per + 8) + (3 * on + 3)) ((g - 1) * c) (next on) enough in
+      let step = lower tail n ((per + 8) + (3 * on + 4)) ((per + 8) + (3 * on + 3)) ((g - 1) * c) (omega arith) enough in
       let sub = same_taken s range per most later tail w v sets.frame.tuples.tuple in (
         step.0,
         step.1,
@@ -410,19 +365,13 @@ module _ (s range per most later tail n : ℕ) (w v : IndexView) where
             emptying.tuples_are) emptying.few)
             step.2,
       )
-    where
-      next : (on : ℕ) → (per + 8) + (3 * on + 3) < (per + 8) + (3 * on + 4)
-      next on = omega arith
   growth_left _ _ (EvacuateSet m x y t u sets same) (Works _ _ g tuples _ _ (OwnEvacuates _ _ _ _ _ taken) base enough) =
-      works s range per most later tail w v n (per + 10) (per + 9) g tuples true true (Evacuating m (Dropping x)) (next per) enough
+      works s range per most later tail w v n (per + 10) (per + 9) g tuples true true (Evacuating m (Dropping x)) (omega arith) enough
       (OwnVacates m x (λ none. taken (sym (sets.frame.tuples.tuple x) ∙ none)))
       (base_on s range per most later tail w v g tuples true true sets.frame.heap.pages_per_range (ap (λ (p : Pages). p.map_pages) sets.pages)
       (ap (λ (p : Pages). p.limit) sets.pages) (same_taken s range per most later tail w v sets.frame.tuples.tuple) base)
-    where
-      next : (per : ℕ) → per + 9 < per + 10
-      next per = omega arith
   growth_left _ _ (EvacuateDrop m x drops) (Drops _ g tuples on page _ base taken emptying enough) =
-      let step = lower tail n ((per + 8) + (3 * on + 3)) ((per + 8) + (3 * on + 2)) ((g - 1) * c) (next on) enough in (
+      let step = lower tail n ((per + 8) + (3 * on + 3)) ((per + 8) + (3 * on + 2)) ((g - 1) * c) (omega arith) enough in (
         step.0,
         step.1,
         Empties g tuples on page (drops_on s range per most later tail w v g tuples true x drops taken base)
@@ -432,47 +381,32 @@ module _ (s range per most later tail n : ℕ) (w v : IndexView) where
             step.2,
       )
     where
-      next : (on : ℕ) → (per + 8) + (3 * on + 2) < (per + 8) + (3 * on + 3)
-      next on = omega arith
-
       kind_on : (page : ℕ) → w.pages.kind page ≡ Emptying → v.pages.kind page ≡ Emptying
       kind_on page is = ⊎_elim
           (λ (here : page ≡ x.block). ap v.pages.kind here ∙ drops.page.now ∙ ap w.pages.kind (sym here) ∙ is)
           (λ (same : v.pages.kind page ≡ w.pages.kind page). same ∙ is)
           (drops.page.kinds page)
   growth_left _ _ (EvacuateDrop m x drops) (Works _ _ g tuples _ _ (OwnVacates _ _ taken) base enough) =
-      works s range per most later tail w v n (per + 9) (per + 8) g tuples false true Vacant (next per) enough OwnVacant
+      works s range per most later tail w v n (per + 9) (per + 8) g tuples false true Vacant (omega arith) enough OwnVacant
       (drops_on s range per most later tail w v g tuples true x drops taken base)
-    where
-      next : (per : ℕ) → per + 8 < per + 9
-      next per = omega arith
   growth_left _ _ (EvacuateSweep x t grows next unnamed sweeps) left =
       let known = empties left grows in
       let taken : IsTaken w x = (λ none. none-some _ (sym none ∙ next.stands)) in
       let on = one_less (λ z. (z.block ≡ known.page) × IsTaken w z × Unit) (λ z. (z.block ≡ known.page) × IsTaken v z × Unit) x known.on
       (next.on ∙ known.emptying.is, taken, tt)
       (λ z is. ((is.0, sub z is.1, tt), λ here. is.1 (ap v.tuple here ∙ (sweeps.gone x refl).0))) known.emptying.tuples_are in
-      let step = lower tail n ((per + 8) + (3 * known.on + 2)) ((per + 8) + (3 * on.0 + 2)) ((known.g - 1) * c) (one_gone on.0 known.on on.1) known.enough in (
+      let step = lower tail n ((per + 8) + (3 * known.on + 2)) ((per + 8) + (3 * on.0 + 2)) ((known.g - 1) * c) (omega (arith, on.1)) known.enough in (
         step.0,
         step.1,
         Empties known.g known.tuples on.0 known.page
             (base_on s range per most later tail w v known.g known.tuples false true sweeps.frame.heap.pages_per_range sweeps.page.map_pages sweeps.page.limit sub known.base)
             (page_on known.page known.on on.0 (λ z. Unit) (λ z. Unit) known.emptying sweeps.page.map_pages (kind_on known.page known.emptying.kind)
-            on.2 (still on.0 known.on on.1 known.emptying.few))
+            on.2 (omega (arith, on.1, known.emptying.few)))
             step.2,
       )
     where
-      one_gone : (a b : ℕ) → b ≡ suc a → (per + 8) + (3 * a + 2) < (per + 8) + (3 * b + 2)
-      one_gone a b is = omega arith
-
-      still : (a b : ℕ) → b ≡ suc a → b ≤ most → a ≤ most
-      still a b is le = omega arith
-
       sub : (z : Spot) → IsTaken v z → IsTaken w z
-      sub z taken none = ⊎_elim
-          (λ (same : IsUntouched w v z). taken (same.0 ∙ none))
-          (λ (swept : (z.block ≡ next_map_page w.pages) × (z ≡ x)). taken (ap v.tuple swept.1 ∙ (sweeps.gone x refl).0))
-          (sweeps.places z)
+      sub z taken none = elim (sweeps.places z) [ inl same ↦ taken (same.0 ∙ none) | inr swept ↦ taken (ap v.tuple swept.1 ∙ (sweeps.gone x refl).0) ]
 
       kind_on : (page : ℕ) → w.pages.kind page ≡ Emptying → v.pages.kind page ≡ Emptying
       kind_on page is = ⊎_elim
@@ -481,11 +415,8 @@ module _ (s range per most later tail n : ℕ) (w v : IndexView) where
           (sweeps.page.kinds page)
   growth_left _ _ (Turn grows none free meta turns) left =
       let known = empties left grows in
-      let step = lower tail n ((per + 8) + (3 * known.on + 2)) (per + 9) ((known.g - 1) * c) (turned known.on) known.enough in
+      let step = lower tail n ((per + 8) + (3 * known.on + 2)) (per + 9) ((known.g - 1) * c) (omega arith) known.enough in
       (step.0, step.1, Grows' known.g known.tuples (turns_base known.g known.tuples Mapping (next_map_page w.pages ∷ 0 ∷ []) turns known.base) step.2)
-    where
-      turned : (on : ℕ) → per + 9 < (per + 8) + (3 * on + 2)
-      turned on = omega arith
 
 -- one step of a summariser on its range
 module _ (s range per most later tail n : ℕ) (w v : IndexView) (named : AreNamed w) where
@@ -511,11 +442,8 @@ module _ (s range per most later tail n : ℕ) (w v : IndexView) (named : AreNam
       → Left w range per most later tail n (IsAt (Passing extent next result) old) → IsStepTo (Maintaining range (IsAt (Passing extent next result) new))
   unite_left extent next result _ _ over (Maps x names reads) (Works _ _ g tuples _ _ (OwnPass _ _ _) base enough) =
       let t = named range x names in
-      go ((extent - next) + 5) 4 g tuples false false (IsAt (Passing extent next result) (Held x)) (few (extent - next)) enough
+      go ((extent - next) + 5) 4 g tuples false false (IsAt (Passing extent next result) (Held x)) (omega arith) enough
       (OwnHeld (Passing extent next result) x t.0 (reads.frame.tuples.tuple x ∙ t.1) t.2) (on_base g tuples false false reads base)
-    where
-      few : (a : ℕ) → 4 < a + 5
-      few a = omega arith
   unite_left extent next result _ _ over (Gone x gone reads) (Works _ _ g tuples _ _ (OwnHeld _ _ t here of) base enough) = absurd (gone_not x t gone here of)
   unite_left extent next result _ _ over (Gone x gone reads) (Works _ _ g tuples _ _ (OwnHeldGone _ _) base enough) =
       go 6 ((extent - next) + 5) g tuples false false (IsAt (Passing extent next result) Empty) (few extent next over) enough
@@ -526,11 +454,8 @@ module _ (s range per most later tail n : ℕ) (w v : IndexView) (named : AreNam
   unite_left extent next result _ _ over (Again x old new verdict reads) (Works _ _ g tuples _ _ (OwnCopied _ _ _ _ here) base enough) =
       absurd (swap_differs w s range x old new verdict here)
   unite_left extent next result _ _ over (Again x old new verdict reads) (Works _ _ g tuples _ _ (OwnCopiedGone _ _ _ _) base enough) =
-      go 6 ((extent - next) + 5) g tuples false false (IsAt (Passing extent next result) Empty) (few extent next over) enough
+      go 6 ((extent - next) + 5) g tuples false false (IsAt (Passing extent next result) Empty) (omega arith) enough
       (OwnPass extent next result) (on_base g tuples false false reads base)
-    where
-      few : (extent next : ℕ) → extent ≤ next → (extent - next) + 5 < 6
-      few extent next le = omega arith
   unite_left extent next result _ _ over (MovePut x y old new verdict puts these) (Works _ _ g tuples _ _ (OwnCopied _ _ _ _ here) base enough) =
       go 3 2 g tuples true false (IsAt (Passing extent next result) (Moving x y old new)) (omega arith) enough
       (OwnMoving (Passing extent next result) x y old new (stays_taken s range per most later tail w v y x new puts (λ none. none-some _ (sym none ∙ here))))
@@ -590,18 +515,11 @@ module _ (s range per most later tail n : ℕ) (w v : IndexView) (named : AreNam
       (ap (λ (p : Pages). p.limit) sets.pages) (same_taken s range per most later tail w v sets.frame.tuples.tuple) base)
   step_left _ _ (Extent extent result start read reads) (Works _ _ g tuples _ _ OwnExtent base enough) =
       go (per + 6) ((extent - range * w.pages_per_range) + 5) g tuples false false (IsAt (Passing extent (range * w.pages_per_range) result) Empty)
-      (few (range * w.pages_per_range) w.pages_per_range w.blocks ((range + 1) * w.pages_per_range) extent
-      (ap (λ m. m * w.pages_per_range) (add-one range) ∙ suc-mul range w.pages_per_range) read base.per_is) enough
+      (omega (arith, ap (λ m. m * w.pages_per_range) (add-one range) ∙ suc-mul range w.pages_per_range, read, base.per_is)) enough
       (OwnPass extent (range * w.pages_per_range) result) (on_base g tuples false false reads base)
-    where
-      few : (first own blocks past extent : ℕ) → past ≡ first + own → extent ≡ min blocks past → own ≡ per → (extent - first) + 5 < per + 6
-      few first own blocks past extent end is same = omega arith
   step_left _ _ (Pass extent next slots result wider below none made reads) (Works _ _ g tuples _ _ (OwnPass _ _ _) base enough) =
-      go ((extent - next) + 5) ((extent - (next + 1)) + 5) g tuples false false (IsAt (Passing extent (next + 1) wider) Empty) (few extent next below) enough
+      go ((extent - next) + 5) ((extent - (next + 1)) + 5) g tuples false false (IsAt (Passing extent (next + 1) wider) Empty) (omega arith) enough
       (OwnPass extent (next + 1) wider) (on_base g tuples false false reads base)
-    where
-      few : (extent next : ℕ) → next < extent → (extent - (next + 1)) + 5 < (extent - next) + 5
-      few extent next less = omega arith
   step_left _ _ (Unite extent next result old new all step) left = unite_left extent next result old new all step left
   step_left _ _ (UniteCopies extent next result x old new all stands united reads) (Works _ _ g tuples _ _ (OwnHeld _ _ t here of) base enough) =
       go 4 3 g tuples false false (IsAt (Passing extent next result) (Copied x old new)) (omega arith) enough

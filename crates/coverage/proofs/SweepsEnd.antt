@@ -9,7 +9,7 @@ use Rattle.coverage.specs.TablePoints.{does_point}
 use Rattle.coverage.specs.StepsLeft.{sum_below, IsCleaning, page_limit, cleaning_steps}
 use Rattle.coverage.specs.TableCovered.{IsTableKept}
 use Rattle.coverage.proofs.Sums.{sum_same, sum_grows}
-use Rattle.coverage.proofs.StepDid.{Did, DidBegin, DidAsk, DidInsert, DidComplete, DidMaintain, DidRange, DidPrune, DidSweep, DidRestart, DidJudge, DidRead, DidMark, step_did, step_settles}
+use Rattle.coverage.proofs.StepDid.{Did, DidPrune, DidSweep, step_did, step_settles}
 use Rattle.coverage.proofs.TableSeen.{table_between_kept}
 
 abbrev IsForNoTuples : PageKind → Type 0
@@ -27,15 +27,12 @@ for_tuples u m p kind none has is = ⊎_elim
 page_within : (u : TableState) (m p : ℕ) → IsTableKept u → HasTuples u m p → (0 < p) × (p < page_limit u m)
 page_within u m p kept has =
     let ordered = (kept.indexes m has.0).ordered in (
-      past p (λ zeroth. for_tuples u m p Mapping tt has (ordered.map p (first p (u.index m).pages.map_pages zeroth))),
+      past p (λ zeroth. for_tuples u m p Mapping tt has (ordered.map p (omega arith))),
       ordered.below p (λ is. for_tuples u m p Unstarted tt has is),
     )
   where
     past : (p : ℕ) → (p ≡ 0 → ⊥) → 0 < p
     past p not = omega arith
-
-    first : (p n : ℕ) → p ≡ 0 → p ≤ n
-    first p n is = omega arith
 
 module _ (u : TableState) (kept : IsTableKept u) where
   abbrev all : ℕ
@@ -43,37 +40,21 @@ module _ (u : TableState) (kept : IsTableKept u) where
 
   -- a sweep has no more before it than the pages of all indexes
   at_most_all : (m p : ℕ) → m < u.indexes → (all - sum_below (suc m) (page_limit u)) + (page_limit u m - p) ≤ all
-  at_most_all m p below = counts all (sum_below m (page_limit u)) (page_limit u m) p (sum_grows (page_limit u) (suc m) u.indexes (next m u.indexes below))
-    where
-      next : (a b : ℕ) → a < b → suc a ≤ b
-      next a b less = omega arith
-
-      counts : (a b c p : ℕ) → b + c ≤ a → (a - (b + c)) + (c - p) ≤ a
-      counts a b c p le = omega arith
+  at_most_all m p below = omega (arith, sum_grows (page_limit u) (suc m) u.indexes below)
 
   -- the page that comes next has fewer before it
   next_fewer : (at page m p : ℕ) → HasTuples u m p → IsFrom at (suc page) m p
       → cleaning_steps u (Sweeps m p) < cleaning_steps u (Sweeps at page)
   next_fewer at page m p has from = ⊎_elim
       (λ (later : at < m).
-      other (sum_below (suc at) (page_limit u)) (sum_below m (page_limit u)) (page_limit u m) all p (page_limit u at - page)
-      (sum_grows (page_limit u) (suc at) m (step at m later)) (sum_grows (page_limit u) (suc m) u.indexes (step m u.indexes has.0)) inside.0 inside.1)
+      omega (arith, sum_grows (page_limit u) (suc at) m later, sum_grows (page_limit u) (suc m) u.indexes has.0, inside.0, inside.1))
       (λ (same : (at ≡ m) × (suc page ≤ p)).
       subst (λ n. cleaning_steps u (Sweeps m p) < cleaning_steps u (Sweeps n page)) (sym same.0)
-      (fewer (all - sum_below (suc m) (page_limit u)) (page_limit u m) page p same.1 inside.1))
+      (omega (arith, same.1, inside.1)))
       from
     where
       inside : (0 < p) × (p < page_limit u m)
       inside = page_within u m p kept has
-
-      step : (a b : ℕ) → a < b → suc a ≤ b
-      step a b less = omega arith
-
-      fewer : (a c page p : ℕ) → suc page ≤ p → p < c → a + (c - p) < a + (c - page)
-      fewer a c page p after below = omega arith
-
-      other : (b d c a p rest : ℕ) → b ≤ d → d + c ≤ a → 0 < p → p < c → (a - (d + c)) + (c - p) < (a - b) + rest
-      other b d c a p rest le le' some below = omega arith
 
 -- where the limits are the same, so is what is left
 module _ (w v : TableState) (indexes : v.indexes ≡ w.indexes) (limits : (i : ℕ) → page_limit v i ≡ page_limit w i) where
@@ -104,15 +85,9 @@ module _ (s : ℕ) (w v : TableState) (step : TableStep s w v) (kept : IsTableKe
 
   block_on : (extent next : ℕ) (t : Task) → next < extent → Onward u (Prunes extent (suc next)) t → IsCleaning t
       → cleaning_steps u t < cleaning_steps u (Prunes extent next)
-  block_on extent next _ below (Stays _ has) cleaning = fewer (sum_below u.indexes (page_limit u))
-    where
-      fewer : (n : ℕ) → (extent - suc next) + n < (extent - next) + n
-      fewer n = omega arith
+  block_on extent next _ below (Stays _ has) cleaning = omega arith
   block_on extent next t below (Pruned _ _ _ all more) cleaning =
-      through (cleaning_steps u t) (sum_below u.indexes (page_limit u)) (first_page_on t more cleaning)
-    where
-      through : (m n : ℕ) → m ≤ n → m < (extent - next) + n
-      through m n le = omega arith
+      omega (arith, first_page_on t more cleaning)
 
   -- from what is left of the table that the step made
   left_of : (task new : Task) → u.task s ≡ new → u.indexes ≡ w.indexes → ((i : ℕ) → page_limit u i ≡ page_limit w i)
@@ -141,16 +116,7 @@ module _ (s : ℕ) (w v : TableState) (step : TableStep s w v) (kept : IsTableKe
   step_fewer _ _ (DidSweep at page stepped sweeps) now was cleaning =
       left_of (Sweeps at page) (SweepsFrom at (suc page)) now stepped.rows.layout.indexes (swept_limits at stepped sweeps.page.limit)
       (λ on. page_on at page (v.task s) on cleaning) cleaning
-  step_fewer _ _ (DidBegin new) now was cleaning = absurd was
-  step_fewer _ _ (DidAsk b k r at) now was cleaning = absurd was
-  step_fewer _ _ (DidInsert b k r at old new done) now was cleaning = absurd was
-  step_fewer _ _ (DidComplete b k r at old done) now was cleaning = absurd was
-  step_fewer _ _ (DidMaintain job at range old new stepped done) now was cleaning = absurd was
-  step_fewer _ _ (DidRange job at range old stepped done) now was cleaning = absurd was
-  step_fewer _ _ (DidRestart at only) now was cleaning = absurd was
-  step_fewer _ _ (DidJudge old new inside low judge only) now was cleaning = absurd was
-  step_fewer _ _ (DidRead scan next found reads only) now was cleaning = absurd was
-  step_fewer _ _ (DidMark scan id rest only) now was cleaning = absurd was
+  step_fewer _ _ _ now was cleaning = absurd was
 
   pub cleaning_fewer : (p : Point) → does_point s w u step.does ≡ Some p → IsCleaning (w.task s) → IsCleaning (v.task s)
       → cleaning_steps v (v.task s) < cleaning_steps w (w.task s)

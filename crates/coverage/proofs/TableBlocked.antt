@@ -8,13 +8,13 @@ use Rattle.coverage.specs.IndexView.{IndexView}
 use Rattle.coverage.specs.Statements.{OnIndex, Held, Phase, NotBuilding, Statement}
 use Rattle.coverage.specs.Verdicts.{Waits}
 use Rattle.coverage.specs.Steps.{SweepsTuples, InsertStep, DesummariseStep, IsUnnamed}
-use Rattle.coverage.specs.Table.{Job, EachRange, OneRange, WholeRanges, Desummarising, TableScan, Task, Resting, Asks, Inserts, Maintains, Prunes, Sweeps}
-use Rattle.coverage.specs.Table.{Restarts, Scans, Marks, TableState, index_view_at}
-use Rattle.coverage.specs.TableSteps.{range_in, OnlyTurns, JobStep, IsBlocked, SummariseLockHeld, InsertWaits, SummariseWaits, DesummariseWaits, SweepWaits, Does, PutsRow}
-use Rattle.coverage.specs.TableSteps.{AsksSummary, InsertGoes, InsertCompletes, RefusesInsert, TakesLock, MaintainGoes, MaintainCompletes}
+use Rattle.coverage.specs.Table.{Job, Desummarising, TableScan, Task, Resting, Asks, Inserts, Maintains, Prunes, Sweeps, Restarts, Scans, Marks, TableState}
+use Rattle.coverage.specs.Table.{index_view_at}
+use Rattle.coverage.specs.TableSteps.{range_in, OnlyTurns, JobStep, IsBlocked, SummariseLockHeld, InsertWaits, SummariseWaits, DesummariseWaits, SweepWaits}
+use Rattle.coverage.specs.TableSteps.{Does, PutsRow, AsksSummary, InsertGoes, InsertCompletes, RefusesInsert, TakesLock, MaintainGoes, MaintainCompletes}
 use Rattle.coverage.specs.TableSteps.{RefusesMaintain, RefusesVacuum, PrunesBlock, SweepsPage, RestartsIndex, BeginsScan, Judges, ReadsBlock, RefusesScan}
 use Rattle.coverage.specs.TableSteps.{RefusesRow, MarksRow, Conflicts, Blocked, Transacts}
-use Rattle.coverage.specs.Waiting.{IsPhaseWaiting, FinalWaits, PlaceWaits, GrowWaits, CountWaits, FlagWaits, EvacuateWaits, EvacuatePutWaits, TurnWaits}
+use Rattle.coverage.specs.Waiting.{IsPhaseWaiting, FinalWaits}
 use Rattle.coverage.proofs.Verdicts.{free_not_locked, swap_once, clear_once, swap_waits, clear_waits}
 use Rattle.coverage.proofs.WaitsOnce.{waits_same, phase_wait_once, phase_wait_locked}
 use Rattle.coverage.specs.TablePoints.{does_point, PageLock, waits_for, IsHeldBy}
@@ -29,24 +29,14 @@ module _ (s : ℕ) (w : TableState) where
   clear_apart : (range : ℕ) (u v : IndexView) (q : ℕ) (phase : Phase) (e : Statement) → IsPhaseWaiting u s range phase q → DesummariseStep s range u v phase e
       → ⊥
   clear_apart range u v q _ e (FinalWaits _ p x old new verdict) step = elim step [ ]
-  clear_apart range u v q _ e (PlaceWaits _ long verdict) step = elim step [ ]
-  clear_apart range u v q _ e (GrowWaits _ grows locked) step = elim step [ ]
-  clear_apart range u v _ _ e (CountWaits grows locked) step = elim step [ ]
-  clear_apart range u v _ _ e (FlagWaits grows locked) step = elim step [ ]
-  clear_apart range u v _ _ e (EvacuateWaits x t grows next locked) step = elim step [ ]
-  clear_apart range u v q _ e (EvacuatePutWaits _ x t grows next named free verdict) step = elim step [ ]
-  clear_apart range u v q _ e (TurnWaits _ grows none locked) step = elim step [ ]
+  clear_apart range u v _ _ e _ step = elim step [ ]
 
   maintain_case : (job : Job) (at range : ℕ) (old : Phase) (v : IndexView) (e : Statement) → IsBlocked w s (Maintains job at range old)
       → JobStep job s range (index_view_at at w) v old e → ⊥
-  maintain_case (EachRange extent) at range old v e (SummariseWaits q _ _ _ _ waits) step = summarise_blocked s range (index_view_at at w) v q old e waits step
-  maintain_case (OneRange extent only) at range old v e (SummariseWaits q _ _ _ _ waits) step =
-      summarise_blocked s range (index_view_at at w) v q old e waits step
-  maintain_case (WholeRanges extent) at range old v e (SummariseWaits q _ _ _ _ waits) step =
-      summarise_blocked s range (index_view_at at w) v q old e waits step
   maintain_case (Desummarising only) at range old v e (SummariseWaits q _ _ _ _ waits) step = clear_apart range (index_view_at at w) v q old e waits step
   maintain_case (Desummarising only) at range _ v e (DesummariseWaits q _ _ _ x verdict) step =
       desummarise_blocked s range q (index_view_at at w) v x e verdict step
+  maintain_case _ at range old v e (SummariseWaits q _ _ _ _ waits) step = summarise_blocked s range (index_view_at at w) v q old e waits step
 
   sweep_case : (at page : ℕ) (v : IndexView) (Sweeping : Spot → Type 0) → IsBlocked w s (Sweeps at page)
       → SweepsTuples s (index_view_at at w) v page Sweeping → ⊥
@@ -116,14 +106,11 @@ module _ (s : ℕ) (w : TableState) where
       by_case (InsertGoes b k r m old new turns stepped step) = absurd (insert_case b k r m old (index_view_at m v) _ (at (Inserts b k r m old) turns.was) step)
       by_case (InsertCompletes b k r m old turns stepped step) =
           absurd (insert_case b k r m old (index_view_at m v) _ (at (Inserts b k r m old) turns.was) step)
-      by_case (RefusesInsert b k r old refused turns fails) = refl
       by_case (TakesLock first begins turns free held rows indexes) = absurd (busy turns.was)
       by_case (MaintainGoes job m range old new turns stepped step) =
           absurd (maintain_case job m range old (index_view_at m v) _ (at (Maintains job m range old) turns.was) step)
       by_case (MaintainCompletes job m range old turns stepped step) =
           absurd (maintain_case job m range old (index_view_at m v) _ (at (Maintains job m range old) turns.was) step)
-      by_case (RefusesMaintain job m range phase refused turns stepped passes) = refl
-      by_case (RefusesVacuum old vacuuming turns given rows indexes) = refl
       by_case (PrunesBlock extent next dropped inside spared turns drops) = absurd (never_prunes extent next (at (Prunes extent next) turns.was))
       by_case (SweepsPage m page turns stepped sweeps) =
           absurd (sweep_case m page (index_view_at m v) (λ x. (x.block ≡ page) × IsUnnamed (index_view_at m w) x) (at (Sweeps m page) turns.was) sweeps)
@@ -131,11 +118,9 @@ module _ (s : ℕ) (w : TableState) where
       by_case (BeginsScan scan begins turns only) = absurd (busy turns.was)
       by_case (Judges old new inside low step turns only) = absurd (never_scans old (at (Scans old) turns.was))
       by_case (ReadsBlock scan next found reads turns only) = absurd (never_scans scan (at (Scans scan) turns.was))
-      by_case (RefusesScan scan t turns how) = refl
       by_case (MarksRow scan id rest turns only) = absurd (never_marks scan (id ∷ rest) (at (Marks scan (id ∷ rest)) turns.was))
-      by_case (Conflicts scan id rest t turns fails) = refl
-      by_case (Blocked task is turns only) = refl
       by_case (Transacts counts resting few same) = absurd (busy resting)
+      by_case _ = refl
 
   -- another session holds what a blocked statement waits for
   pub blocked_by : (task : Task) (blocked : IsBlocked w s task) → (n : ℕ) × IsHeldBy w (waits_for w s task blocked) n × (n ≢ s)

@@ -9,9 +9,9 @@ use Rattle.coverage.specs.Steps.{InsertStep}
 use Rattle.coverage.proofs.PagesGoOn.{Quiet}
 use Rattle.coverage.proofs.PagesKept.{insert_after}
 use Rattle.coverage.specs.Table.{Index, Task, Inserts, TableState, index_view_at}
-use Rattle.coverage.specs.TableSteps.{OnlyTurns, Fails, Does, PutsRow, RefusesRow, AsksSummary, InsertGoes, InsertCompletes, RefusesInsert}
-use Rattle.coverage.specs.TableSteps.{TakesLock, MaintainGoes, MaintainCompletes, RefusesMaintain, RefusesVacuum, PrunesBlock, SweepsPage, RestartsIndex}
-use Rattle.coverage.specs.TableSteps.{BeginsScan, Judges, ReadsBlock, RefusesScan, MarksRow, Conflicts, Blocked, Transacts, Settles, GoesOn, GivesLock, TableStep}
+use Rattle.coverage.specs.TableSteps.{OnlyTurns, Fails, Does, PutsRow, RefusesRow, AsksSummary, InsertGoes, InsertCompletes, RefusesInsert, TakesLock}
+use Rattle.coverage.specs.TableSteps.{MaintainGoes, MaintainCompletes, RefusesMaintain, RefusesVacuum, PrunesBlock, SweepsPage, RestartsIndex, BeginsScan}
+use Rattle.coverage.specs.TableSteps.{Judges, ReadsBlock, RefusesScan, MarksRow, Conflicts, Blocked, Transacts, Settles, GoesOn, GivesLock, TableStep}
 use Rattle.coverage.specs.TableCovered.{IsMaintenance, IsTableKept}
 use Rattle.coverage.proofs.MachinesIn.{insert_knows}
 

@@ -1,19 +1,18 @@
 -- What scans have judged, and how, is what their candidates say.
 use Rattle.std.proofs.Common.{◌≡◌, ◌≢◌, ◌⊎◌, inl, inr, ⊎_elim, ℕ, ◌*◌, ◌/◌, ◌≤◌, ◌<◌, Option, Some, None, Bool, true, false, sym, ◌∙◌, ap, subst, arith, zero, suc}
 use Rattle.std.specs.Prelude.{refl, IsTrue, ◌↔◌}
-use Rattle.std.proofs.Math.Nat.{lt_of_mul-lt-mul_right, div-mul-le_self}
+use Rattle.std.proofs.Math.Nat.{lt_of_mul-lt-mul_right, div-mul-le_self, lt-suc_self, lt_irrefl, lt_of_le_of_lt, lt_of_lt_of_le, not-suc-le-zero}
 use Rattle.std.proofs.lemmas.Option.{same_Some, none-some}
 use Rattle.std.proofs.lemmas.Bool.{cases_eq, false≢true}
 use Rattle.coverage.specs.IndexView.{range_of_block}
 use Rattle.coverage.specs.Statements.{Idle, Inserting, Maintaining, Holding}
 use Rattle.coverage.proofs.Runs.{insert_keeps}
-use Rattle.coverage.proofs.Numbers.{last_or_below}
+use Rattle.coverage.proofs.Numbers.{last_or_below, below_next}
 use Rattle.coverage.specs.Table.{Index, TableScan, Resting, Scans, TableState, pick, judged_with, index_view_at}
-use Rattle.coverage.specs.TableSteps.{SameIndexes, OnlyTurns, StepsIn, range_in, first_block, JudgeStep, JudgeMap, JudgeNoEntry, JudgeGone}
-use Rattle.coverage.specs.TableSteps.{JudgeKeeps, JudgeDrops, Fails, ScanBegins, Does, PutsRow, AsksSummary, InsertGoes, InsertCompletes, RefusesInsert}
-use Rattle.coverage.specs.TableSteps.{TakesLock, MaintainGoes, MaintainCompletes, RefusesMaintain, RefusesVacuum, PrunesBlock, SweepsPage, RestartsIndex}
-use Rattle.coverage.specs.TableSteps.{RefusesRow, MarksRow, Conflicts, BeginsScan, Judges, ReadsBlock, RefusesScan, Blocked, Transacts, Onward}
-use Rattle.coverage.specs.TableSteps.{JudgesNext, Scanned, Settles}
+use Rattle.coverage.specs.TableSteps.{SameIndexes, StepsIn, range_in, first_block, JudgeStep, JudgeMap, JudgeGone, JudgeDrops, ScanBegins, Does, PutsRow}
+use Rattle.coverage.specs.TableSteps.{AsksSummary, InsertGoes, InsertCompletes, RefusesInsert, TakesLock, MaintainGoes, MaintainCompletes, RefusesMaintain}
+use Rattle.coverage.specs.TableSteps.{RefusesVacuum, PrunesBlock, SweepsPage, RestartsIndex, RefusesRow, MarksRow, Conflicts, BeginsScan, Judges, ReadsBlock}
+use Rattle.coverage.specs.TableSteps.{RefusesScan, Blocked, Transacts, Onward, JudgesNext, Scanned, Settles}
 use Rattle.coverage.specs.TableCovered.{IsBehind, JudgesExactly, IsGiven, IsUnjudged}
 use Rattle.coverage.proofs.Views.{pick_same, pick_other, pick_both}
 use Rattle.coverage.proofs.Leaves.{does_leaves}
@@ -57,10 +56,7 @@ does_ranges s w v (BeginsScan scan begins turns only) = indexes_ranges w v only.
 does_ranges s w v (Judges old new inside low step turns only) = indexes_ranges w v only.indexes
 does_ranges s w v (ReadsBlock scan next found reads turns only) = indexes_ranges w v only.indexes
 does_ranges s w v (RefusesScan scan t turns how) =
-    ⊎_elim
-    (λ (fails : (scan.explains ≡ false) × Fails w v t). indexes_ranges w v fails.1.indexes)
-    (λ (only : (scan.explains ≡ true) × OnlyTurns w v). indexes_ranges w v only.1.indexes)
-    how
+    elim how [ inl fails ↦ indexes_ranges w v fails.1.indexes | inr only ↦ indexes_ranges w v only.1.indexes ]
 does_ranges s w v (MarksRow scan id rest turns only) = indexes_ranges w v only.indexes
 does_ranges s w v (Conflicts scan id rest t turns fails) = indexes_ranges w v fails.indexes
 does_ranges s w v (Blocked task blocked turns only) = indexes_ranges w v only.indexes
@@ -96,10 +92,7 @@ module _ (old : TableScan) (keeps : Bool) where
 
   here_or_not : (i range : ℕ) → IsHere i range ⊎ IsElsewhere i range
   here_or_not i range = ⊎_elim
-      (λ (at : i ≡ old.at). ⊎_elim
-      (λ (is : range ≡ old.range). inl (at, is))
-      (λ (other : range ≢ old.range). inr (inr other))
-      (cases_eq range old.range))
+      (λ (at : i ≡ old.at). elim (cases_eq range old.range) [ inl is ↦ inl (at, is) | inr other ↦ inr (inr other) ])
       (λ (other : i ≢ old.at). inr (inl other))
       (cases_eq i old.at)
 
@@ -114,16 +107,10 @@ module _ (old : TableScan) (keeps : Bool) where
       ∙ pick_both i old.at (old.judged i range))
       other
 
-less_self : (n : ℕ) → n < n → ⊥
-less_self n less = omega arith
-
 module _ (w : TableState) (old : TableScan) (exact : JudgesExactly w old) where
   -- the range at hand isn't judged before
   fresh : old.judged old.at old.range ≢ None → ⊥
-  fresh some = ⊎_elim
-      (λ (before : old.at < old.at). less_self old.at before)
-      (λ (at : (old.at ≡ old.at) × (old.range < old.range)). less_self old.range at.1)
-      (exact.behind old.at old.range some)
+  fresh some = elim (exact.behind old.at old.range some) [ inl before ↦ lt_irrefl old.at before | inr at ↦ lt_irrefl old.range at.1 ]
 
   not_false : (i range : ℕ) → IsHere old true i range → old.judged i range ≡ Some false → ⊥
   not_false i range is e =
@@ -151,18 +138,12 @@ module _ (w : TableState) (old : TableScan) (exact : JudgesExactly w old) where
 
   next_behind : (keeps : Bool) (i range : ℕ) → judged_with old keeps i range ≢ None → Next i range
   next_behind keeps i range some = ⊎_elim
-      (λ (is : IsHere old keeps i range). inr (is.0, less_suc range old.range is.1))
+      (λ (is : IsHere old keeps i range). inr (is.0, omega (arith, is.1)))
       (λ (other : IsElsewhere old keeps i range). ⊎_elim
       (λ (before : i < old.at). inl before)
-      (λ (at : (i ≡ old.at) × (range < old.range)). inr (at.0, wider range old.range at.1))
+      (λ (at : (i ≡ old.at) × (range < old.range)). inr (at.0, below_next at.1))
       (exact.behind i range (λ none. some (judged_elsewhere old keeps i range other ∙ none))))
       (here_or_not old keeps i range)
-    where
-      less_suc : (a b : ℕ) → a ≡ b → a < suc b
-      less_suc a b is = omega arith
-
-      wider : (a b : ℕ) → a < b → a < suc b
-      wider a b less = omega arith
 
   abbrev LeftIn : (ℕ → ℕ → Option Bool) → ℕ → Type 0
   LeftIn judged b = (b < old.extent) × ((i : ℕ) → i < w.indexes → judged i (range_in w i b) ≢ Some false)
@@ -218,16 +199,14 @@ module _ (w : TableState) (old : TableScan) (exact : JudgesExactly w old) where
 
 judge_exact : (w : TableState) (old new : TableScan) → JudgesExactly w old → old.at < w.indexes → JudgeStep (index_view_at old.at w) old new → JudgesExactly w new
 judge_exact w old _ exact inside (JudgeMap x empty named) = record { candidate = exact.candidate; judged = exact.judged; behind = exact.behind }
-judge_exact w old _ exact inside (JudgeNoEntry empty none) =
-    record { candidate = kept_candidate w old exact; judged = next_judged w old exact true; behind = next_behind w old exact true }
 judge_exact w old _ exact inside (JudgeGone x held gone) = record { candidate = exact.candidate; judged = exact.judged; behind = exact.behind }
-judge_exact w old _ exact inside (JudgeKeeps x t held stands keeps) =
-    record { candidate = kept_candidate w old exact; judged = next_judged w old exact true; behind = next_behind w old exact true }
 judge_exact w old _ exact inside (JudgeDrops x t candidate held stands drops excludes others) = record {
   candidate = dropped_candidate w old exact inside candidate others;
   judged = next_judged w old exact false;
   behind = next_behind w old exact false;
 }
+judge_exact w old _ exact inside _ =
+    record { candidate = kept_candidate w old exact; judged = next_judged w old exact true; behind = next_behind w old exact true }
 
 -- where no range of an index is left below the extent, the scan goes to the next index
 next_exact : (w : TableState) (scan : TableScan) → JudgesExactly w scan → scan.extent ≤ first_block w scan.at scan.range
@@ -239,30 +218,15 @@ next_exact w scan exact all = record {
       (λ (is : i ≡ scan.at). exact.judged i m below (inr (is, lower i m is low)) low)
       (λ (before : i < scan.at). exact.judged i m below (inl before) low)
       (last_or_below i scan.at less))
-      (λ (at : (i ≡ suc scan.at) × (m < 0)). absurd (none m at.1))
+      (λ (at : (i ≡ suc scan.at) × (m < 0)). absurd (not-suc-le-zero at.1))
       behind;
-  behind = λ i m some. ⊎_elim
-      (λ (before : i < scan.at). inl (wider i scan.at before))
-      (λ (at : (i ≡ scan.at) × (m < scan.range)). inl (less_suc i scan.at at.0))
-      (exact.behind i m some);
+  behind = λ i m some. elim (exact.behind i m some) [ inl before ↦ inl (below_next before) | inr at ↦ inl (omega (arith, at.0)) ];
 }
   where
-    none : (m : ℕ) → m < 0 → ⊥
-    none m less = omega arith
-
-    wider : (a b : ℕ) → a < b → a < suc b
-    wider a b less = omega arith
-
-    less_suc : (a b : ℕ) → a ≡ b → a < suc b
-    less_suc a b is = omega arith
-
-    through : (a b c : ℕ) → a < b → b ≤ c → a < c
-    through a b c less le = omega arith
-
     lower : (i m : ℕ) → i ≡ scan.at → first_block w i m < scan.extent → m < scan.range
     lower i m is low =
         lt_of_mul-lt-mul_right (w.index scan.at).pages_per_range
-        (through (m * (w.index scan.at).pages_per_range) scan.extent (scan.range * (w.index scan.at).pages_per_range)
+        (lt_of_lt_of_le
         (subst (λ j. first_block w j m < scan.extent) is low) all)
 
 begin_exact : (w : TableState) (scan : TableScan) → ScanBegins w scan → JudgesExactly w scan
@@ -272,14 +236,11 @@ begin_exact w scan begins = record {
     λ h. (begins.candidate b).1 (subst (λ n. b < n) begins.extent h.0),
   );
   judged = λ i m below behind low. absurd (⊎_elim
-      (λ (before : i < scan.at). none i (subst (λ n. i < n) begins.at before))
-      (λ (at : (i ≡ scan.at) × (m < scan.range)). none m (subst (λ n. m < n) begins.range at.1))
+      (λ (before : i < scan.at). not-suc-le-zero (subst (λ n. i < n) begins.at before))
+      (λ (at : (i ≡ scan.at) × (m < scan.range)). not-suc-le-zero (subst (λ n. m < n) begins.range at.1))
       behind);
   behind = λ i m some. absurd (some (begins.judged i m));
 }
-  where
-    none : (m : ℕ) → m < 0 → ⊥
-    none m less = omega arith
 
 module _ (s : ℕ) (w v : TableState) (kept : OfScans JudgesExactly w) where
   own_exact : (scan : TableScan) → ScanComes s w v scan → JudgesExactly w scan
@@ -309,34 +270,19 @@ kept_or_not (Some false) not = absurd (not refl)
 
 all_kept : (n : ℕ) (judged : ℕ → Option Bool) → ((i : ℕ) → i < n → judged i ≢ Some false)
     → ((i : ℕ) → i < n → judged i ≡ Some true) ⊎ ((i : ℕ) × (i < n) × (judged i ≡ None))
-all_kept zero judged not = inl (λ i below. absurd (none i below))
-  where
-    none : (i : ℕ) → i < zero → ⊥
-    none i below = omega arith
+all_kept zero judged not = inl (λ i below. absurd (not-suc-le-zero below))
 all_kept (suc n) judged not = ⊎_elim
     (λ (all : (i : ℕ) → i < n → judged i ≡ Some true). ⊎_elim
-    (λ (kept : judged n ≡ Some true). inl (λ i below. ⊎_elim
-    (λ (is : i ≡ n). ap judged is ∙ kept)
-    (λ (less : i < n). all i less)
-    (last_or_below i n below)))
-    (λ (none : judged n ≡ None). inr (n, self n, none))
-    (kept_or_not (judged n) (not n (self n))))
-    (λ (one : (i : ℕ) × (i < n) × (judged i ≡ None)). inr (one.0, wider one.0 n one.1, one.2))
-    (all_kept n judged (λ i below. not i (wider i n below)))
-  where
-    self : (m : ℕ) → m < suc m
-    self m = omega arith
-
-    wider : (a b : ℕ) → a < b → a < suc b
-    wider a b less = omega arith
+    (λ (kept : judged n ≡ Some true). inl (λ i below. elim (last_or_below i n below) [ inl is ↦ ap judged is ∙ kept | inr less ↦ all i less ]))
+    (λ (none : judged n ≡ None). inr (n, lt-suc_self n, none))
+    (kept_or_not (judged n) (not n (lt-suc_self n))))
+    (λ (one : (i : ℕ) × (i < n) × (judged i ≡ None)). inr (one.0, below_next one.1, one.2))
+    (all_kept n judged (λ i below. not i (below_next below)))
 
 pub given_or_unjudged : (w : TableState) (scan : TableScan) (b : ℕ) → JudgesExactly w scan → IsTrue (scan.candidate b) → IsGiven w scan b ⊎ IsUnjudged w scan b
 given_or_unjudged w scan b exact is =
     let h = (exact.candidate b).0 is in
-    ⊎_elim
-    (λ (all : (i : ℕ) → i < w.indexes → scan.judged i (range_in w i b) ≡ Some true). inl (h.0, all))
-    (λ (one : (i : ℕ) × (i < w.indexes) × (scan.judged i (range_in w i b) ≡ None)). inr one)
-    (all_kept w.indexes (λ i. scan.judged i (range_in w i b)) h.1)
+    elim (all_kept w.indexes (λ i. scan.judged i (range_in w i b)) h.1) [ inl all ↦ inl (h.0, all) | inr one ↦ inr one ]
 
 -- when a scan replies, each block below the extent is judged in every index
 pub replied_given : (w : TableState) (scan : TableScan) → JudgesExactly w scan → Onward w (Scans scan) Resting → (b : ℕ)
@@ -351,10 +297,7 @@ replied_given w scan exact onward b = (
 )
   where
     starts : (i : ℕ) (q : TableScan) → b < q.extent → first_block w i (range_in w i b) < q.extent
-    starts i q low = through (first_block w i (range_in w i b)) b q.extent (div-mul-le_self b (w.index i).pages_per_range) low
-      where
-        through : (a c d : ℕ) → a ≤ c → c < d → a < d
-        through a c d le less = omega arith
+    starts i q low = lt_of_le_of_lt (div-mul-le_self b (w.index i).pages_per_range) low
 
     all_judged : (q : TableScan) → JudgesExactly w q → Onward w (Scans q) Resting → (i : ℕ) → i < w.indexes → b < q.extent → q.judged i (range_in w i b) ≢ None
     all_judged _ exact (JudgesNext q _ inside all empty more) i below low =

@@ -1,39 +1,30 @@
 -- The summarise lock is held for maintenance, and for nothing else.
-use Rattle.std.proofs.Common.{◌≡◌, ◌⊎◌, inr, ⊎_elim, ℕ, Some, None, true, false, sym, ◌∙◌, ap, subst, suc}
+use Rattle.std.proofs.Common.{◌≡◌, ◌⊎◌, inr, inl, ⊎_elim, ℕ, Some, None, sym, ◌∙◌, ap, subst, suc}
 use Rattle.std.proofs.lemmas.Option.{same_Some, none-some}
 use Rattle.block_model.specs.declared.row.Row.{Row}
 use Rattle.coverage.specs.Statements.{Idle, Inserting, Maintaining, Holding}
 use Rattle.coverage.proofs.Runs.{insert_keeps}
-use Rattle.coverage.specs.Table.{Task, Resting, Reaches, Asks, Inserts, Considers, Maintains, Prunes, SweepsFrom, Sweeps, Restarts, Scans, Marks}
-use Rattle.coverage.specs.Table.{TableState, index_view_at}
-use Rattle.coverage.specs.TableSteps.{OnlyTurns, BeginsWith, Summarize, SummarizeOne, Work, Desummarize, Vacuum, IsInsertRefused}
-use Rattle.coverage.specs.TableSteps.{IndexFull, IsVacuuming, Fails, Does, PutsRow, RefusesRow, AsksSummary, InsertGoes, InsertCompletes, RefusesInsert, TakesLock}
-use Rattle.coverage.specs.TableSteps.{MaintainGoes, MaintainCompletes, RefusesMaintain, RefusesVacuum, PrunesBlock, SweepsPage, RestartsIndex, BeginsScan}
-use Rattle.coverage.specs.TableSteps.{Judges, ReadsBlock, RefusesScan, MarksRow, Conflicts, Blocked, Transacts, Onward, Stays, ToAsk, ToIndex, Inserted, ToRange, NextIndex}
-use Rattle.coverage.specs.TableSteps.{Pruned, ToPage, Swept, JudgesNext, Scanned, ToMarks, Marked, IsMaintained, RangesDone, NothingToSweep, Settles, GoesOn, GivesLock}
+use Rattle.coverage.specs.Table.{Task, Resting, Considers, Maintains, Prunes, SweepsFrom, Sweeps, Restarts, Scans, TableState, index_view_at}
+use Rattle.coverage.specs.TableSteps.{BeginsWith, Summarize, IsInsertRefused, IndexFull, IsVacuuming, Does, PutsRow, RefusesRow, AsksSummary, InsertGoes}
+use Rattle.coverage.specs.TableSteps.{InsertCompletes, RefusesInsert, TakesLock, MaintainGoes, MaintainCompletes, RefusesMaintain, RefusesVacuum, PrunesBlock}
+use Rattle.coverage.specs.TableSteps.{SweepsPage, RestartsIndex, BeginsScan, Judges, ReadsBlock, RefusesScan, MarksRow, Conflicts, Blocked, Transacts, Onward}
+use Rattle.coverage.specs.TableSteps.{ToRange, NextIndex, Pruned, ToPage, Swept, JudgesNext, IsMaintained, RangesDone, NothingToSweep, Settles, GoesOn}
+use Rattle.coverage.specs.TableSteps.{GivesLock}
 use Rattle.coverage.specs.TableCovered.{IsMaintenance, IsHeldForMaintenance}
 use Rattle.coverage.proofs.TableSettled.{job_lock_kept}
 
 begins_maintenance : (w : TableState) (first : Task) → BeginsWith w first → IsMaintenance first
 begins_maintenance w _ (Summarize at below) = tt
-begins_maintenance w _ (SummarizeOne at only below) = tt
-begins_maintenance w _ (Work at only below) = tt
-begins_maintenance w _ (Desummarize at only below) = tt
-begins_maintenance w _ Vacuum = tt
+begins_maintenance w _ _ = tt
 
 pub vacuuming_maintenance : (task : Task) → IsVacuuming task → IsMaintenance task
-vacuuming_maintenance Resting is = absurd is
-vacuuming_maintenance (Reaches b k r at) is = absurd is
-vacuuming_maintenance (Asks b k r at) is = absurd is
-vacuuming_maintenance (Inserts b k r at on_index) is = absurd is
 vacuuming_maintenance (Considers job at range) is = tt
 vacuuming_maintenance (Maintains job at range phase) is = tt
 vacuuming_maintenance (Prunes extent next) is = tt
 vacuuming_maintenance (SweepsFrom at from) is = tt
 vacuuming_maintenance (Sweeps at page) is = tt
 vacuuming_maintenance (Restarts at) is = tt
-vacuuming_maintenance (Scans scan) is = absurd is
-vacuuming_maintenance (Marks scan ids) is = absurd is
+vacuuming_maintenance _ is = absurd is
 
 refused_no_maintenance : (w : TableState) (s b k : ℕ) (r : Row) (old : Task) → IsInsertRefused w s b k r old → IsMaintenance old → ⊥
 refused_no_maintenance w s b k r _ (IndexFull number at x old new verdict) maintains = maintains
@@ -47,10 +38,6 @@ abbrev SameSort : Task → Task → Type 0
 SameSort old new = (IsMaintenance old → IsMaintenance new) × (IsMaintenance new → IsMaintenance old)
 
 onward_maintenance : (w : TableState) (old new : Task) → Onward w old new → SameSort old new
-onward_maintenance w _ _ (Stays task has) = ((λ m. m), λ m. m)
-onward_maintenance w _ _ (ToAsk b k r at inside asks) = ((λ m. m), λ m. m)
-onward_maintenance w _ _ (ToIndex b k r at inside not) = ((λ m. m), λ m. m)
-onward_maintenance w _ _ (Inserted b k r at all) = ((λ m. m), λ m. m)
 onward_maintenance w _ _ (ToRange job at range has) = ((λ m. tt), λ m. tt)
 onward_maintenance w _ _ (NextIndex extent at range done inside) = ((λ m. tt), λ m. tt)
 onward_maintenance w _ _ (Pruned extent next new all more) = let same = onward_maintenance w (SweepsFrom 0 0) new more in ((λ m. same.0 tt), λ m. tt)
@@ -58,9 +45,7 @@ onward_maintenance w _ _ (ToPage at from m p next) = ((λ m. tt), λ m. tt)
 onward_maintenance w _ _ (Swept at from none some) = ((λ m. tt), λ m. tt)
 onward_maintenance w _ _ (JudgesNext scan new inside all empty more) =
     let same = onward_maintenance w (Scans (record scan { at = suc scan.at; range = 0 })) new more in ((λ m. absurd m), λ m. same.1 m)
-onward_maintenance w _ _ (Scanned scan read nothing) = ((λ m. m), λ m. m)
-onward_maintenance w _ _ (ToMarks scan id rest read reads deletes lists) = ((λ m. m), λ m. m)
-onward_maintenance w _ _ (Marked scan) = ((λ m. m), λ m. m)
+onward_maintenance w _ _ _ = ((λ m. m), λ m. m)
 
 module _ (s : ℕ) (w v : TableState) (others : (n : ℕ) → (n ≡ s) ⊎ (v.task n ≡ w.task n)) (kept : IsHeldForMaintenance w) where
   -- the lock stays, and the session's statement is maintenance as before, or none as before
@@ -85,10 +70,7 @@ module _ (s : ℕ) (w v : TableState) (others : (n : ℕ) → (n ≡ s) ⊎ (v.t
   taken : (new : Task) → v.task s ≡ new → IsMaintenance new → w.summarise_lock ≡ None → v.summarise_lock ≡ Some s → IsHeldForMaintenance v
   taken new now is free held n = (
     λ by. subst (λ m. IsMaintenance (v.task m)) (same_Some _ _ (sym held ∙ by)) (subst IsMaintenance (sym now) is),
-    λ maintains. ⊎_elim
-        (λ (at : n ≡ s). held ∙ ap Some (sym at))
-        (λ (e : v.task n ≡ w.task n). absurd (none-some _ (sym free ∙ (kept n).1 (subst IsMaintenance e maintains))))
-        (others n),
+    λ maintains. elim (others n) [ inl at ↦ held ∙ ap Some (sym at) | inr e ↦ absurd (none-some _ (sym free ∙ (kept n).1 (subst IsMaintenance e maintains))) ],
   )
 
   given : (old : Task) → w.task s ≡ old → IsMaintenance old → v.task s ≡ Resting → v.summarise_lock ≡ None → IsHeldForMaintenance v
@@ -140,10 +122,7 @@ does_lock s w v kept (ReadsBlock scan next found reads turns only) =
     stays s w v turns.others kept _ _ turns.was turns.now ((λ m. m), λ m. m) only.summarise_lock
 does_lock s w v kept (RefusesScan scan t turns how) =
     stays s w v turns.others kept _ _ turns.was turns.now ((λ m. m), λ m. m)
-    (⊎_elim
-    (λ (fails : (scan.explains ≡ false) × Fails w v t). fails.1.summarise_lock)
-    (λ (only : (scan.explains ≡ true) × OnlyTurns w v). only.1.summarise_lock)
-    how)
+    (elim how [ inl fails ↦ fails.1.summarise_lock | inr only ↦ only.1.summarise_lock ])
 does_lock s w v kept (MarksRow scan id rest turns only) =
     stays s w v turns.others kept _ _ turns.was turns.now ((λ m. m), λ m. m) only.summarise_lock
 does_lock s w v kept (Conflicts scan id rest t turns fails) =

@@ -1,7 +1,8 @@
 -- Of the steps that a running statement of a table could take at a moment there is one point alone.
-use Rattle.std.proofs.Common.{◌≡◌, ℕ, ◌+◌, ◌<◌, Option, Some, None, Bool, List, ◌∷◌, sym, ◌∙◌, ap, subst, arith, suc}
+use Rattle.std.proofs.Common.{◌≡◌, ℕ, ◌+◌, ◌<◌, Option, Some, None, Bool, List, ◌∷◌, sym, ◌∙◌, ap, subst, suc}
 use Rattle.std.specs.Prelude.{refl}
 use Rattle.std.proofs.lemmas.Option.{same_Some, none-some}
+use Rattle.std.proofs.Math.Nat.{ne_of_lt}
 use Rattle.block_model.specs.declared.reply.Point.{Point}
 use Rattle.block_model.specs.declared.reply.Point.TheVariants as points
 use Rattle.block_model.specs.declared.row.Row.{Row}
@@ -14,11 +15,11 @@ use Rattle.coverage.specs.Points.{insert_point}
 use Rattle.coverage.proofs.NextSteps.{insert_one_point, summarise_one_point, desummarise_one_point}
 use Rattle.coverage.proofs.OneOutcome.{insert_one_outcome, summarise_one_outcome, desummarise_one_outcome}
 use Rattle.coverage.proofs.TableScans.{judge_once, reads_once}
-use Rattle.coverage.specs.Table.{Job, EachRange, OneRange, WholeRanges, Desummarising, TableScan, Task, Resting, Reaches, Asks, Inserts, Considers, Maintains, Prunes}
-use Rattle.coverage.specs.Table.{SweepsFrom, Sweeps, Restarts, Scans, Marks, TableState, index_view_at}
-use Rattle.coverage.specs.TableSteps.{TaskTurns, ReadsPage, JobStep, JudgeStep, JudgeMap, JudgeNoEntry, JudgeGone, JudgeKeeps, JudgeDrops, Does, PutsRow, RefusesRow, AsksSummary, InsertGoes}
-use Rattle.coverage.specs.TableSteps.{InsertCompletes, RefusesInsert, TakesLock, MaintainGoes, MaintainCompletes, RefusesMaintain, RefusesVacuum}
-use Rattle.coverage.specs.TableSteps.{PrunesBlock, SweepsPage, RestartsIndex, BeginsScan, Judges, ReadsBlock, RefusesScan, MarksRow, Conflicts, Blocked, Transacts}
+use Rattle.coverage.specs.Table.{Job, WholeRanges, Desummarising, TableScan, Task, Resting, Reaches, Asks, Inserts, Considers, Maintains, Prunes, SweepsFrom}
+use Rattle.coverage.specs.Table.{Sweeps, Restarts, Scans, Marks, TableState, index_view_at}
+use Rattle.coverage.specs.TableSteps.{TaskTurns, ReadsPage, JobStep, JudgeStep, JudgeMap, JudgeNoEntry, JudgeGone, JudgeKeeps, JudgeDrops, Does, PutsRow}
+use Rattle.coverage.specs.TableSteps.{RefusesRow, AsksSummary, InsertGoes, InsertCompletes, TakesLock, MaintainGoes, MaintainCompletes, PrunesBlock, SweepsPage}
+use Rattle.coverage.specs.TableSteps.{RestartsIndex, BeginsScan, Judges, ReadsBlock, MarksRow}
 use Rattle.coverage.specs.TablePoints.{job_point, judge_point, does_point}
 
 -- what an insert and a maintenance statement are at after a step in an index
@@ -48,17 +49,13 @@ data NextTask (w : TableState) (s : ℕ) : Task → Point → Task → Type 0 wh
 
 job_one_outcome : (job : Job) (s range : ℕ) (w v u : IndexView) (phase : Phase) (e f : Statement) → JobStep job s range w v phase e
     → JobStep job s range w u phase f → e ≡ f
-job_one_outcome (EachRange extent) s range w v u phase e f one two = summarise_one_outcome s range w v u phase e f one two
-job_one_outcome (OneRange extent only) s range w v u phase e f one two = summarise_one_outcome s range w v u phase e f one two
-job_one_outcome (WholeRanges extent) s range w v u phase e f one two = summarise_one_outcome s range w v u phase e f one two
 job_one_outcome (Desummarising only) s range w v u phase e f one two = desummarise_one_outcome s range w v u phase e f one two
+job_one_outcome _ s range w v u phase e f one two = summarise_one_outcome s range w v u phase e f one two
 
 job_one_point : (job : Job) (s range : ℕ) (w v u : IndexView) (phase : Phase) (e f : Statement) (one : JobStep job s range w v phase e)
     (two : JobStep job s range w u phase f) → job_point job s range w v phase e one ≡ job_point job s range w u phase f two
-job_one_point (EachRange extent) s range w v u phase e f one two = summarise_one_point s range w v u phase e f one two
-job_one_point (OneRange extent only) s range w v u phase e f one two = summarise_one_point s range w v u phase e f one two
-job_one_point (WholeRanges extent) s range w v u phase e f one two = summarise_one_point s range w v u phase e f one two
 job_one_point (Desummarising only) s range w v u phase e f one two = desummarise_one_point s range w v u phase e f one two
+job_one_point _ s range w v u phase e f one two = summarise_one_point s range w v u phase e f one two
 
 -- a scan reads the map where it holds no place, else the tuple there
 abbrev point_of_held : Option Spot → Point
@@ -71,9 +68,6 @@ judge_held w old _ (JudgeNoEntry empty none) = ap point_of_held (sym empty)
 judge_held w old _ (JudgeGone x held gone) = ap point_of_held (sym held)
 judge_held w old _ (JudgeKeeps x t held stands keeps) = ap point_of_held (sym held)
 judge_held w old _ (JudgeDrops x t candidate held stands drops excludes others) = ap point_of_held (sym held)
-
-less_not_equal : (n m : ℕ) → n < m → n ≡ m → ⊥
-less_not_equal n m less is = omega arith
 
 -- one point, and one task afterwards
 abbrev SameNext : (p q : Point) (t u : Task) → Type 0
@@ -96,8 +90,8 @@ task_once w s _ _ _ _ _ (ToJudge old new inside one) (ToJudge _ new' inside' two
   judge_held (index_view_at old.at w) old new one ∙ sym (judge_held (index_view_at old.at w) old new' two),
   ap Scans (judge_once (index_view_at old.at w) old new new' one two),
 )
-task_once w s _ _ _ _ _ (ToJudge old new inside one) (ToRead _ next found reads) = absurd (less_not_equal old.at w.indexes inside reads.judged)
-task_once w s _ _ _ _ _ (ToRead scan next found reads) (ToJudge _ new inside two) = absurd (less_not_equal scan.at w.indexes inside reads.judged)
+task_once w s _ _ _ _ _ (ToJudge old new inside one) (ToRead _ next found reads) = absurd (ne_of_lt inside reads.judged)
+task_once w s _ _ _ _ _ (ToRead scan next found reads) (ToJudge _ new inside two) = absurd (ne_of_lt inside reads.judged)
 task_once w s _ _ _ _ _ (ToRead scan next found reads) (ToRead _ next' found' reads') =
     let same = reads_once w scan next next' found found' reads reads' in
     (refl, λ i. Scans (record scan { read = same.0 i + 1; found = λ b k. same.1 b k i }))
@@ -125,39 +119,23 @@ module _ (w v : TableState) (s : ℕ) (p : Point) (busy : IsBusy (w.task s)) whe
   does_task (InsertGoes b k r at old new turns stepped step) is =
       at_task _ _ _ turns (ToInsert b k r at old (index_view_at at v) (Inserting b k r new) step) is
   does_task (InsertCompletes b k r at old turns stepped step) is = at_task _ _ _ turns (ToInsert b k r at old (index_view_at at v) Idle step) is
-  does_task (RefusesInsert b k r old refused turns fails) is = absurd (none-some _ is)
   does_task (TakesLock first begins turns free held rows indexes) is = rests turns.was
   does_task (MaintainGoes job at range old new turns stepped step) is =
       at_task _ _ _ turns (ToMaintain job at range old (index_view_at at v) (Maintaining range new) step) is
   does_task (MaintainCompletes job at range old turns stepped step) is =
       at_task _ _ _ turns (ToMaintain job at range old (index_view_at at v) Holding step) is
-  does_task (RefusesMaintain job at range phase refused turns stepped passes) is = absurd (none-some _ is)
-  does_task (RefusesVacuum old vacuuming turns given rows indexes) is = absurd (none-some _ is)
   does_task (PrunesBlock extent next dropped inside spared turns drops) is = at_task _ _ _ turns (ToPrune extent next) is
   does_task (SweepsPage at page turns stepped sweeps) is = at_task _ _ _ turns (ToSweep at page) is
   does_task (RestartsIndex at turns only) is = at_task _ _ _ turns (ToRestart at) is
   does_task (BeginsScan scan begins turns only) is = rests turns.was
   does_task (Judges old new inside low step turns only) is = at_task _ _ _ turns (ToJudge old new inside step) is
   does_task (ReadsBlock scan next found reads turns only) is = at_task _ _ _ turns (ToRead scan next found reads) is
-  does_task (RefusesScan scan t turns how) is = absurd (none-some _ is)
   does_task (MarksRow scan id rest turns only) is = at_task _ _ _ turns (ToMark scan id rest) is
-  does_task (Conflicts scan id rest t turns fails) is = absurd (none-some _ is)
-  does_task (Blocked task blocked turns only) is = absurd (none-some _ is)
-  does_task (Transacts counts resting few same) is = absurd (none-some _ is)
+  does_task _ is = absurd (none-some _ is)
 
 busy_task : (task : Task) → (task ≡ Resting → ⊥) → IsBusy task
 busy_task Resting not = not refl
-busy_task (Reaches b k r at) not = tt
-busy_task (Asks b k r at) not = tt
-busy_task (Inserts b k r at on_index) not = tt
-busy_task (Considers job at range) not = tt
-busy_task (Maintains job at range phase) not = tt
-busy_task (Prunes extent next) not = tt
-busy_task (SweepsFrom at from) not = tt
-busy_task (Sweeps at page) not = tt
-busy_task (Restarts at) not = tt
-busy_task (Scans scan) not = tt
-busy_task (Marks scan ids) not = tt
+busy_task _ not = tt
 
 pub table_one_next : (s : ℕ) (w v u : TableState) (p q : Point) → (w.task s ≡ Resting → ⊥) → (one : Does s w v) → (two : Does s w u)
     → does_point s w v one ≡ Some p → does_point s w u two ≡ Some q → (p ≡ q) × (v.task s ≡ u.task s)

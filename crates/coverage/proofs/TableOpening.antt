@@ -1,7 +1,8 @@
 -- What a table's indexes rest on: at an opening, after a stop, and in a new table.
-use Rattle.std.proofs.Common.{◌≡◌, ℕ, ◌≤◌, ◌<◌, None, sym, ◌∙◌, ap, subst, arith, rules}
+use Rattle.std.proofs.Common.{◌≡◌, ℕ, ◌<◌, None, sym, ◌∙◌, ap, subst, rules}
 use Rattle.std.proofs.lemmas.Option.{same_Some, none-some}
 use Rattle.std.proofs.lemmas.Bool.{false≢true}
+use Rattle.std.proofs.Math.Nat.{lt_of_lt_of_le}
 use Rattle.coverage.specs.IndexView.{Progress, IsBuilding}
 use Rattle.coverage.specs.Statements.{building_of}
 use Rattle.coverage.specs.IsCovered.{IsAtRest, IsIndexKept}
@@ -50,16 +51,13 @@ table_stopped w v kept stops = record {
       λ i below.
       let inside = subst (λ n. i < n) stops.indexes below in stopped_kept (index_state i w) (index_state i v) (kept.indexes i inside) (stops.stops i inside);
   summarise_lock = free_lock v stops.free stops.resting;
-  rows_below = λ b k r there. within b w.blocks v.blocks (kept.rows_below b k r (sym (stops.row b k) ∙ there)) stops.blocks;
+  rows_below = λ b k r there. lt_of_lt_of_le (kept.rows_below b k r (sym (stops.row b k) ∙ there)) stops.blocks;
   scans = λ s scan is. absurd (resting_scan scan (sym (stops.resting s) ∙ is));
   exact = λ s scan is. absurd (resting_scan scan (sym (stops.resting s) ∙ is));
   finds = λ s scan is. absurd (resting_scan scan (sym (stops.resting s) ∙ is));
   marks = λ s scan ids is. absurd (marks_differ scan ids (sym (stops.resting s) ∙ is));
   inside = λ s. subst (IsInTable v) (sym (stops.resting s)) tt;
 }
-  where
-    within : (b n m : ℕ) → b < n → n ≤ m → b < m
-    within b n m low more = omega arith
 
 module _ (w : TableState) (new : IsNewTable w) (i : ℕ) (below : i < w.indexes) where
   new_rest : IsAtRest (index_state i w)

@@ -14,14 +14,11 @@ use Rattle.coverage.specs.Steps.{IsUnnamed, SweepsTuples, Excludes, InsertStep, 
 use Rattle.coverage.specs.Steps.{ScanDrops, ScanElsewhere, ScanPage, SummariseLockPasses, Step, PutRow, Insert, Refused, TakeSummariseLock, Maintain, Prune}
 use Rattle.coverage.specs.Steps.{Sweep, GiveSummariseLock, Abandon, BeginScan, Scans as StepScans, EndScan, Elsewhere, Counts}
 use Rattle.coverage.specs.Waiting.{IsPhaseFull, IsInsertEnded, EndsBefore, EndsFull}
-use Rattle.coverage.specs.Table.{Index, Job, EachRange, OneRange, WholeRanges, Desummarising, TableScan, Task, Resting, Reaches, Asks, Inserts, Considers}
-use Rattle.coverage.specs.Table.{Maintains, Prunes, SweepsFrom, Sweeps, Restarts, Scans, Marks, TableState, pick, judged_with, on_index_by, inserting_of, held_at, scan_at}
-use Rattle.coverage.specs.Table.{seen_by, index_state, index_view_at}
-use Rattle.coverage.specs.TableSteps.{TaskTurns, SameRows, SameIndexes, OnlyTurns, StepsIn, IsFirstPlace, TableTakesRow, IsInsertRefused}
-use Rattle.coverage.specs.TableSteps.{IndexFull, BeginsWith, Summarize, SummarizeOne, Work, Desummarize, Vacuum, JobStep}
-use Rattle.coverage.specs.TableSteps.{HasPut, SeesPlace, IsVacuuming, DropsRows, ScanBegins}
-use Rattle.coverage.specs.TableSteps.{JudgeStep, JudgeMap, JudgeNoEntry, JudgeGone, JudgeKeeps, JudgeDrops, ReadsPage, Fails, IsMaintained, RangesDone}
-use Rattle.coverage.specs.TableSteps.{NothingToSweep}
+use Rattle.coverage.specs.Table.{Index, Job, Desummarising, TableScan, Task, Resting, Reaches, Inserts, Maintains, Prunes, SweepsFrom, Sweeps, Restarts, Scans}
+use Rattle.coverage.specs.Table.{TableState, pick, judged_with, on_index_by, inserting_of, held_at, scan_at, seen_by, index_state, index_view_at}
+use Rattle.coverage.specs.TableSteps.{TaskTurns, SameRows, SameIndexes, OnlyTurns, StepsIn, IsFirstPlace, TableTakesRow, IsInsertRefused, IndexFull, BeginsWith}
+use Rattle.coverage.specs.TableSteps.{Summarize, JobStep, HasPut, SeesPlace, IsVacuuming, DropsRows, ScanBegins, JudgeStep, JudgeMap, JudgeNoEntry, JudgeGone}
+use Rattle.coverage.specs.TableSteps.{JudgeKeeps, JudgeDrops, ReadsPage, Fails, IsMaintained, RangesDone, NothingToSweep}
 use Rattle.coverage.specs.TableCovered.{AreIndexesKept}
 use Rattle.coverage.proofs.Opening.{scan_excludes}
 use Rattle.coverage.proofs.Runs.{step_kept}
@@ -31,31 +28,18 @@ use Rattle.coverage.proofs.Views.{on_index_apart, seen_put, seen_spares, none_at
 
 -- the step of a maintenance statement in its index
 job_step : (job : Job) (s range : ℕ) (w v : IndexView) (old : Phase) (new : Statement) → JobStep job s range w v old new → MaintainStep s range w v old new
-job_step (EachRange extent) s range w v old new step = Summarises step
-job_step (OneRange extent only) s range w v old new step = Summarises step
-job_step (WholeRanges extent) s range w v old new step = Summarises step
 job_step (Desummarising only) s range w v old new step = Desummarises step
+job_step _ s range w v old new step = Summarises step
 
 begins_holding : (i : ℕ) (w : TableState) (first : Task) → BeginsWith w first → seen_by i first ≡ Holding
 begins_holding i w _ (Summarize at below) = refl
-begins_holding i w _ (SummarizeOne at only below) = refl
-begins_holding i w _ (Work at only below) = refl
-begins_holding i w _ (Desummarize at only below) = refl
-begins_holding i w _ Vacuum = refl
+begins_holding i w _ _ = refl
 
 pub vacuuming_holds : (i : ℕ) (task : Task) → IsVacuuming task → seen_by i task ≡ Holding
-vacuuming_holds i Resting is = absurd is
-vacuuming_holds i (Reaches b k r at) is = absurd is
-vacuuming_holds i (Asks b k r at) is = absurd is
-vacuuming_holds i (Inserts b k r at on_index) is = absurd is
-vacuuming_holds i (Considers job at range) is = absurd is
-vacuuming_holds i (Maintains job at range phase) is = absurd is
 vacuuming_holds i (Prunes extent next) is = refl
-vacuuming_holds i (SweepsFrom at from) is = absurd is
 vacuuming_holds i (Sweeps at page) is = refl
 vacuuming_holds i (Restarts at) is = refl
-vacuuming_holds i (Scans scan) is = absurd is
-vacuuming_holds i (Marks scan ids) is = absurd is
+vacuuming_holds i _ is = absurd is
 
 pub maintained_holds : (i : ℕ) (w : TableState) (task : Task) → IsMaintained w task → seen_by i task ≡ Holding
 maintained_holds i w _ (RangesDone job at range done last) = refl
@@ -112,7 +96,7 @@ module _ (s : ℕ) (w v : TableState) (kept : AreIndexesKept w) (i : ℕ) (below
           others = takes.others;
           pages_per_range = ap (λ (x : Index). x.pages_per_range) index;
           grown = subst (λ n. w.blocks ≤ n) (sym takes.blocks) (grown w.blocks b);
-          below = subst (λ n. b < n) (sym takes.blocks) (inside w.blocks b);
+          below = subst (λ n. b < n) (sym takes.blocks) (omega arith);
         };
         frame = rows_frame i s w v index takes.summarise_lock;
         pages = ap (λ (x : Index). x.pages) index;
@@ -122,9 +106,6 @@ module _ (s : ℕ) (w v : TableState) (kept : AreIndexesKept w) (i : ℕ) (below
     where
       grown : (n b : ℕ) → n ≤ max n (b + 1)
       grown n b = omega arith
-
-      inside : (n b : ℕ) → b < max n (b + 1)
-      inside n b = omega arith
 
   pub insert_goes : (b k : ℕ) (r : Row) (at : ℕ) (old new : OnIndex) → TaskTurns s w v (Inserts b k r at old) (Inserts b k r at new) → StepsIn at w v
       → InsertStep s b k r (index_view_at at w) (index_view_at at v) old (Inserting b k r new) → v.summarise_lock ≡ w.summarise_lock

@@ -1,8 +1,9 @@
 -- What a scan of a table still has before it.
-use Rattle.std.proofs.Common.{◌≡◌, ◌≢◌, ◌⊎◌, inl, inr, ⊎_elim, ℕ, ◌≤◌, ◌<◌, Option, Some, None, Bool, true, false, List, sym, ◌∙◌, ap, subst, arith, suc}
+use Rattle.std.proofs.Common.{◌≡◌, ◌≢◌, ◌⊎◌, inl, inr, ⊎_elim, ℕ, ◌≤◌, ◌<◌, Option, Some, None, Bool, true, false, List, sym, ◌∙◌, ap, subst, suc}
 use Rattle.std.specs.Prelude.{refl, IsTrue}
 use Rattle.std.proofs.lemmas.Option.{same_Some, none-some}
 use Rattle.std.proofs.lemmas.Bool.{false≢true}
+use Rattle.std.proofs.Math.Nat.{le_antisymm, not-le_of_lt}
 use Rattle.block_model.specs.declared.row.Row.{Row}
 use Rattle.block_model.specs.declared.row.RowId.{RowId}
 use Rattle.block_model.specs.declared.place.Spot.{Spot}
@@ -10,8 +11,8 @@ use Rattle.coverage.specs.RowOrder.{IsAmong}
 use Rattle.coverage.specs.Table.{TableScan, Resting, Scans, Marks, TableState, judged_with}
 use Rattle.coverage.specs.IndexView.{IndexTuple, IndexView, range_of_block}
 use Rattle.coverage.specs.Steps.{IsGone}
-use Rattle.coverage.specs.TableSteps.{JudgeStep, JudgeMap, JudgeNoEntry, JudgeGone, JudgeKeeps, JudgeDrops, ReadsPage, Onward, JudgesNext}
-use Rattle.coverage.specs.TableSteps.{Scanned, IsScanRead, ListsFound}
+use Rattle.coverage.specs.TableSteps.{JudgeStep, JudgeMap, JudgeNoEntry, JudgeGone, JudgeKeeps, JudgeDrops, ReadsPage, Onward, JudgesNext, Scanned, IsScanRead}
+use Rattle.coverage.specs.TableSteps.{ListsFound}
 use Rattle.coverage.specs.TableCovered.{IsTableKept, IsGiven, IsUnjudged}
 use Rattle.coverage.proofs.Views.{scan_of}
 use Rattle.coverage.proofs.ScanComes.{marks_of, onward_marks}
@@ -55,14 +56,8 @@ same_candidates : (w : IndexView) (old : TableScan) (f g : ℕ → Bool)
     → ((b : ℕ) → ((range_of_block w b ≡ old.range) × (f b ≡ false)) ⊎ ((range_of_block w b ≢ old.range) × (f b ≡ old.candidate b)))
     → ((b : ℕ) → ((range_of_block w b ≡ old.range) × (g b ≡ false)) ⊎ ((range_of_block w b ≢ old.range) × (g b ≡ old.candidate b))) → (b : ℕ) → f b ≡ g b
 same_candidates w old f g one two b = ⊎_elim
-    (λ (out : (range_of_block w b ≡ old.range) × (f b ≡ false)). ⊎_elim
-    (λ (out' : (range_of_block w b ≡ old.range) × (g b ≡ false)). out.1 ∙ sym out'.1)
-    (λ (in' : (range_of_block w b ≢ old.range) × (g b ≡ old.candidate b)). absurd (in'.0 out.0))
-    (two b))
-    (λ (in1 : (range_of_block w b ≢ old.range) × (f b ≡ old.candidate b)). ⊎_elim
-    (λ (out' : (range_of_block w b ≡ old.range) × (g b ≡ false)). absurd (in1.0 out'.0))
-    (λ (in' : (range_of_block w b ≢ old.range) × (g b ≡ old.candidate b)). in1.1 ∙ sym in'.1)
-    (two b))
+    (λ (out : (range_of_block w b ≡ old.range) × (f b ≡ false)). elim (two b) [ inl out' ↦ out.1 ∙ sym out'.1 | inr in' ↦ absurd (in'.0 out.0) ])
+    (λ (in1 : (range_of_block w b ≢ old.range) × (f b ≡ old.candidate b)). elim (two b) [ inl out' ↦ absurd (in1.0 out'.0) | inr in' ↦ in1.1 ∙ sym in'.1 ])
     (one b)
 
 module _ (w : IndexView) (old : TableScan) where
@@ -85,19 +80,16 @@ module _ (w : IndexView) (old : TableScan) where
   judge_once _ _ (JudgeMap x empty named) (JudgeKeeps y t held stands keeps) = empty_held y empty held
   judge_once _ _ (JudgeMap x empty named) (JudgeDrops y t candidate held stands drops excludes others) = empty_held y empty held
   judge_once _ _ (JudgeNoEntry empty none) (JudgeMap y empty' named) = absurd (none-some _ (sym none ∙ named))
-  judge_once _ _ (JudgeNoEntry empty none) (JudgeNoEntry empty' none') = refl
   judge_once _ _ (JudgeNoEntry empty none) (JudgeGone y held gone) = empty_held y empty held
   judge_once _ _ (JudgeNoEntry empty none) (JudgeKeeps y t held stands keeps) = empty_held y empty held
   judge_once _ _ (JudgeNoEntry empty none) (JudgeDrops y t candidate held stands drops excludes others) = empty_held y empty held
   judge_once _ _ (JudgeGone x held gone) (JudgeMap y empty named) = empty_held x empty held
   judge_once _ _ (JudgeGone x held gone) (JudgeNoEntry empty none) = empty_held x empty held
-  judge_once _ _ (JudgeGone x held gone) (JudgeGone y held' gone') = refl
   judge_once _ _ (JudgeGone x held gone) (JudgeKeeps y t held' stands keeps) = gone_or_there x y t held held' gone stands.0 stands.1
   judge_once _ _ (JudgeGone x held gone) (JudgeDrops y t candidate held' stands drops excludes others) = gone_or_there x y t held held' gone stands.0 stands.1
   judge_once _ _ (JudgeKeeps x t held stands keeps) (JudgeMap y empty named) = empty_held x empty held
   judge_once _ _ (JudgeKeeps x t held stands keeps) (JudgeNoEntry empty none) = empty_held x empty held
   judge_once _ _ (JudgeKeeps x t held stands keeps) (JudgeGone y held' gone) = gone_or_there y x t held' held gone stands.0 stands.1
-  judge_once _ _ (JudgeKeeps x t held stands keeps) (JudgeKeeps y u held' stands' keeps') = refl
   judge_once _ _ (JudgeKeeps x t held stands keeps) (JudgeDrops y u candidate held' stands' drops excludes others) =
       keeps_or_not x y t u held held' stands.0 stands'.0 keeps drops
   judge_once _ _ (JudgeDrops x t candidate held stands drops excludes others) (JudgeMap y empty named) = empty_held x empty held
@@ -107,17 +99,15 @@ module _ (w : IndexView) (old : TableScan) where
       keeps_or_not y x u t held' held stands'.0 stands.0 keeps drops
   judge_once _ _ (JudgeDrops x t candidate held stands drops excludes others) (JudgeDrops y u candidate' held' stands' drops' excludes' others') =
       λ i. record old { range = suc old.range; held = None; judged = judged_with old false; candidate = λ b. same_candidates w old candidate candidate' others others' b i }
+  judge_once _ _ _ _ = refl
 
 pub reads_once : (w : TableState) (scan : TableScan) (m n : ℕ) (f g : ℕ → ℕ → Bool) → ReadsPage w scan m f → ReadsPage w scan n g
     → (m ≡ n) × ((b k : ℕ) → f b k ≡ g b k)
 reads_once w scan m n f g one two =
     (same, λ b k. same_test (f b k) (g b k) (λ has. finds f g m n one two same b k has) (λ has. finds g f n m two one (sym same) b k has))
   where
-    both : (a b : ℕ) → a ≤ b → b ≤ a → a ≡ b
-    both a b le ge = omega arith
-
     same : m ≡ n
-    same = both m n (one.first n two.given two.unread) (two.first m one.given one.unread)
+    same = le_antisymm (one.first n two.given two.unread) (two.first m one.given one.unread)
 
     finds : (f g : ℕ → ℕ → Bool) (m n : ℕ) → ReadsPage w scan m f → ReadsPage w scan n g → m ≡ n → (b k : ℕ) → IsTrue (f b k) → IsTrue (g b k)
     finds f g m n one two same b k has = ⊎_elim
@@ -145,14 +135,8 @@ replied_finds w s b k scan kept is onward reads sees =
     let row = kept.scans s scan is b k sees in (
       row.0,
       row.1,
-      λ matches. ⊎_elim
-          (λ (found : IsTrue (scan.found b k)). found)
-          (λ (left : IsTrue (scan.candidate b) × (scan.read ≤ b)). absurd (apart scan.read b left.1 (replied_reads w scan onward reads b left.0)))
-          (row.2 matches),
+      λ matches. elim (row.2 matches) [ inl found ↦ found | inr left ↦ absurd (not-le_of_lt (replied_reads w scan onward reads b left.0) left.1) ],
     )
-  where
-    apart : (n m : ℕ) → n ≤ m → m < n → ⊥
-    apart n m le less = omega arith
 
 -- a delete that comes to its marks has found each matching row that it sees, and lists it
 module _ (v : TableState) (b k : ℕ) (scan : TableScan) where
@@ -171,14 +155,11 @@ module _ (v : TableState) (b k : ℕ) (scan : TableScan) where
         (λ (found : IsTrue (q.found b k)). found)
         (λ (left : IsTrue (q.candidate b) × (q.read ≤ b)). absurd (⊎_elim
         (λ (explains : q.explains ≡ true). false≢true (sym reads ∙ explains))
-        (λ (all : (c : ℕ) → IsTrue (q.candidate c) → c < q.read). apart q.read b left.1 (all b left.0))
+        (λ (all : (c : ℕ) → IsTrue (q.candidate c) → c < q.read). not-le_of_lt (all b left.0) left.1)
         read.1))
         (way.2 matches))
         way.1,
   )
-    where
-      apart : (n m : ℕ) → n ≤ m → m < n → ⊥
-      apart n m le less = omega arith
 
   pub marked_finds : (s : ℕ) (marking : TableScan) (ids : List RowId) → IsTableKept v → v.task s ≡ Scans scan → Onward v (Scans scan) (Marks marking ids)
       → IsTrue (scan.sees b k) → IsListed marking ids

@@ -2,10 +2,10 @@
 use Rattle.std.proofs.Common.{◌≡◌, ◌≢◌, inl, inr, ⊎_elim, ℕ, ◌+◌, ◌≤◌, ◌<◌, Some, Bool, sym, ◌∙◌, ap, subst, arith}
 use Rattle.std.specs.Prelude.{IsTrue, List}
 use Rattle.std.proofs.lemmas.Bool.{cases_eq}
+use Rattle.std.proofs.Math.Nat.{le_refl, lt_of_lt_of_le}
 use Rattle.block_model.specs.declared.row.Row.{Row}
 use Rattle.coverage.specs.Table.{TableScan, Scans, TableState, index_view_at}
-use Rattle.coverage.specs.TableSteps.{SeesPlace, JudgeStep, JudgeMap, JudgeNoEntry, JudgeGone, JudgeKeeps, JudgeDrops, ReadsPage, Does, Settles}
-use Rattle.coverage.specs.TableSteps.{TableStep, TableRun, TableDone, TableNext}
+use Rattle.coverage.specs.TableSteps.{SeesPlace, JudgeStep, JudgeDrops, ReadsPage, Does, Settles, TableStep, TableRun, TableDone, TableNext}
 use Rattle.coverage.specs.TableCovered.{SeesRows, IsTableKept}
 use Rattle.coverage.proofs.Leaves.{Leaves, does_leaves, settles_leaves}
 use Rattle.coverage.proofs.ScanComes.{ScanComes, ScanBegan, ScanJudged, ScanRead, ScanStayed, scan_comes, OfScans, scans_after, scans_settled}
@@ -23,10 +23,6 @@ rows_same w v rows scan seen b k sees = let row = seen b k sees in (row.0, rows 
 module _ (s : ℕ) (w v : TableState) (kept : IsTableKept w) where
   -- a judgement leaves out only what doesn't match
   judged_seen : (old new : TableScan) → w.task s ≡ Scans old → old.at < w.indexes → JudgeStep (index_view_at old.at w) old new → SeesRows w new
-  judged_seen old _ was inside (JudgeMap x empty named) = kept.scans s old was
-  judged_seen old _ was inside (JudgeNoEntry empty none) = kept.scans s old was
-  judged_seen old _ was inside (JudgeGone x held gone) = kept.scans s old was
-  judged_seen old _ was inside (JudgeKeeps x t held stands keeps) = kept.scans s old was
   judged_seen old _ was inside (JudgeDrops x t candidate held stands drops excludes others) = λ b k sees.
       let row = kept.scans s old was b k sees in (
         row.0,
@@ -41,6 +37,7 @@ module _ (s : ℕ) (w v : TableState) (kept : IsTableKept w) where
             ))
             (row.2 matches),
       )
+  judged_seen old _ was inside _ = kept.scans s old was
 
   read_seen : (scan : TableScan) (next : ℕ) (found : ℕ → ℕ → Bool) → w.task s ≡ Scans scan → ReadsPage w scan next found
       → SeesRows w (record scan { read = next + 1; found = found })
@@ -54,13 +51,10 @@ module _ (s : ℕ) (w v : TableState) (kept : IsTableKept w) where
             (λ (is : next ≡ b).
             inl (subst (λ n. IsTrue (found n k)) is
             (reads.page k row.0 (ap (λ n. w.row n k) is ∙ row.1) (subst (λ n. IsTrue (scan.sees n k)) (sym is) sees) matches)))
-            (λ (other : next ≢ b). inr (left.0, after next b (reads.first b left.0 left.1) other))
+            (λ (other : next ≢ b). inr (left.0, omega (arith, reads.first b left.0 left.1, other)))
             (cases_eq next b))
             (row.2 matches),
       )
-    where
-      after : (m n : ℕ) → m ≤ n → m ≢ n → m + 1 ≤ n
-      after m n le other = omega arith
 
   -- the scan of the session that steps, and those of others
   own_seen : (scan : TableScan) → ScanComes s w v scan → SeesRows v scan
@@ -69,11 +63,8 @@ module _ (s : ℕ) (w v : TableState) (kept : IsTableKept w) where
         row.0,
         only.rows.row b k ∙ row.1,
         λ matches. inr
-            ((begins.candidate b).1 (kept.rows_below b k row.0 row.1), subst (λ m. m ≤ b) (sym begins.read) (least b)),
+            ((begins.candidate b).1 (kept.rows_below b k row.0 row.1), subst (λ m. m ≤ b) (sym begins.read) (omega arith)),
       )
-    where
-      least : (n : ℕ) → 0 ≤ n
-      least n = omega arith
   own_seen _ (ScanJudged old new was inside step only) = rows_same w v only.rows.row new (judged_seen old new was inside step)
   own_seen _ (ScanRead scan next found was reads only) =
       rows_same w v only.rows.row (record scan { read = next + 1; found = found }) (read_seen scan next found was reads)
@@ -88,13 +79,7 @@ module _ (s : ℕ) (w v : TableState) (kept : IsTableKept w) where
       (λ scan is. own_seen scan (scan_comes s w v does scan is))
 
   below_after : Leaves s w v → (b k : ℕ) (r : Row) → v.row b k ≡ Some r → b < v.blocks
-  below_after leaves b k r there = ⊎_elim
-      (λ (was : w.row b k ≡ Some r). within b w.blocks v.blocks (kept.rows_below b k r was) leaves.blocks)
-      (λ (inside : b < v.blocks). inside)
-      (leaves.from b k r there)
-    where
-      within : (b n m : ℕ) → b < n → n ≤ m → b < m
-      within b n m low more = omega arith
+  below_after leaves b k r there = elim (leaves.from b k r there) [ inl was ↦ lt_of_lt_of_le (kept.rows_below b k r was) leaves.blocks | inr inside ↦ inside ]
 
 settles_seen : (s : ℕ) (w v : TableState) → OfScans SeesRows w → Settles s w v → OfScans SeesRows v
 settles_seen s w v kept settles = scans_settled SeesRows s w v kept (λ scan rows indexes. rows_same w v rows.row scan) (λ scan inside all seen. seen) settles
@@ -136,13 +121,6 @@ table_run_kept _ _ _ kept (TableNext s rest w u v step more) = table_run_kept re
 
 -- the table's blocks only grow
 pub table_run_blocks : (steps : List ℕ) (w v : TableState) → TableRun steps w v → w.blocks ≤ v.blocks
-table_run_blocks _ _ _ (TableDone w) = self w.blocks
-  where
-    self : (n : ℕ) → n ≤ n
-    self n = omega arith
+table_run_blocks _ _ _ (TableDone w) = le_refl w.blocks
 table_run_blocks _ _ _ (TableNext s rest w u v step more) =
-    through w.blocks step.between.blocks u.blocks v.blocks (does_leaves s w step.between step.does).blocks
-    (settles_leaves s step.between u step.settles).blocks (table_run_blocks rest u v more)
-  where
-    through : (a b c d : ℕ) → a ≤ b → b ≤ c → c ≤ d → a ≤ d
-    through a b c d one two three = omega arith
+    omega (arith, (does_leaves s w step.between step.does).blocks, (settles_leaves s step.between u step.settles).blocks, table_run_blocks rest u v more)

@@ -1,5 +1,5 @@
 -- Where a table's statement comes by its step, and whole runs of them.
-use Rattle.std.proofs.Common.{◌≡◌, ◌≢◌, ◌⊎◌, inl, inr, ⊎_elim, ℕ, ◌<◌, true, false, ◌∷◌, sym, ◌∙◌, ap, subst, suc}
+use Rattle.std.proofs.Common.{◌≡◌, ◌≢◌, ◌⊎◌, inl, inr, ⊎_elim, ℕ, ◌<◌, true, false, ◌∷◌, sym, ◌∙◌, ap, subst, suc, arith}
 use Rattle.std.specs.Prelude.{refl}
 use Rattle.std.proofs.lemmas.Bool.{cases_eq}
 use Rattle.coverage.specs.IndexView.{IndexView}
@@ -7,31 +7,27 @@ use Rattle.coverage.specs.Changes.{SameHeap}
 use Rattle.coverage.specs.Statements.{Empty, Phase, NotBuilding, Statement, Idle, Inserting, Maintaining, Holding, Scanning}
 use Rattle.coverage.specs.IsCovered.{IsIndexKept}
 use Rattle.coverage.specs.Steps.{BeginRange, EndScan, Counts}
-use Rattle.coverage.specs.Table.{Job, EachRange, OneRange, WholeRanges, Desummarising, TableScan, Task, Resting, Asks, Inserts, Considers, Maintains}
-use Rattle.coverage.specs.Table.{SweepsFrom, Restarts, Scans, Marks, TableState, pick, inserting_of, scan_at, seen_by, index_state, index_view_at}
+use Rattle.coverage.specs.Table.{Job, WholeRanges, Desummarising, TableScan, Task, Resting, Asks, Inserts, Considers, Maintains, SweepsFrom, Restarts, Scans}
+use Rattle.coverage.specs.Table.{Marks, TableState, pick, inserting_of, scan_at, seen_by, index_state, index_view_at}
 use Rattle.coverage.specs.TableSteps.{TaskTurns, OnlyTurns, JobStep, Fails, Does, PutsRow, RefusesRow, AsksSummary, InsertGoes, InsertCompletes, RefusesInsert}
 use Rattle.coverage.specs.TableSteps.{TakesLock, MaintainGoes, MaintainCompletes, RefusesMaintain, RefusesVacuum, PrunesBlock, SweepsPage, RestartsIndex}
-use Rattle.coverage.specs.TableSteps.{BeginsScan, Judges, ReadsBlock, RefusesScan, MarksRow, Conflicts, Blocked, Transacts, Onward, Stays, ToAsk, ToIndex, Inserted, ToRange}
-use Rattle.coverage.specs.TableSteps.{NoPage, NextIndex, Pruned, ToPage, Swept, JudgesNext, Scanned, ToMarks, Marked, Settles, GoesOn, GivesLock, TableStep}
+use Rattle.coverage.specs.TableSteps.{BeginsScan, Judges, ReadsBlock, RefusesScan, MarksRow, Conflicts, Blocked, Transacts, Onward, Inserted, ToRange, NoPage}
+use Rattle.coverage.specs.TableSteps.{Pruned, JudgesNext, Scanned, ToMarks, Settles, GoesOn, GivesLock, TableStep}
 use Rattle.coverage.specs.TableCovered.{AreIndexesKept}
 use Rattle.coverage.proofs.Runs.{step_kept, insert_keeps, summarise_keeps, desummarise_keeps}
 use Rattle.coverage.proofs.Views.{pick_same, pick_other, held_none, on_index_below, turned_at, reads_at}
-use Rattle.coverage.proofs.TableRuns.{vacuuming_holds, maintained_holds, known, steps, only_rests, puts_row, insert_goes, insert_completes}
-use Rattle.coverage.proofs.TableRuns.{refuses_insert, fails_unseen, takes_lock, maintains, refuses_maintain, gives_lock, prunes, sweeps_page, begins_scan, ends_scan}
-use Rattle.coverage.proofs.TableRuns.{judges, reads_block}
+use Rattle.coverage.proofs.TableRuns.{vacuuming_holds, maintained_holds, known, steps, only_rests, puts_row, insert_goes, insert_completes, refuses_insert}
+use Rattle.coverage.proofs.TableRuns.{fails_unseen, takes_lock, maintains, refuses_maintain, gives_lock, prunes, sweeps_page, begins_scan, ends_scan, judges}
+use Rattle.coverage.proofs.TableRuns.{reads_block}
 
 pub job_lock_kept : (job : Job) (s range : ℕ) (w v : IndexView) (old : Phase) (new : Statement) → JobStep job s range w v old new
     → v.summarise_lock ≡ w.summarise_lock
-job_lock_kept (EachRange extent) s range w v old new step = (summarise_keeps s range w v old new step).1
-job_lock_kept (OneRange extent only) s range w v old new step = (summarise_keeps s range w v old new step).1
-job_lock_kept (WholeRanges extent) s range w v old new step = (summarise_keeps s range w v old new step).1
 job_lock_kept (Desummarising only) s range w v old new step = (desummarise_keeps s range w v old new step).1
+job_lock_kept _ s range w v old new step = (summarise_keeps s range w v old new step).1
 
 pub job_heap_kept : (job : Job) (s range : ℕ) (w v : IndexView) (old : Phase) (new : Statement) → JobStep job s range w v old new → SameHeap w v
-job_heap_kept (EachRange extent) s range w v old new step = (summarise_keeps s range w v old new step).0
-job_heap_kept (OneRange extent only) s range w v old new step = (summarise_keeps s range w v old new step).0
-job_heap_kept (WholeRanges extent) s range w v old new step = (summarise_keeps s range w v old new step).0
 job_heap_kept (Desummarising only) s range w v old new step = (desummarise_keeps s range w v old new step).0
+job_heap_kept _ s range w v old new step = (summarise_keeps s range w v old new step).0
 
 module _ (s : ℕ) (w v : TableState) (kept : AreIndexesKept w) (i : ℕ) (below : i < w.indexes) where
   -- want of memory ends a scan, and then its transaction fails
@@ -93,32 +89,7 @@ module _ (s : ℕ) (w v : TableState) (kept : AreIndexesKept w) (i : ℕ) (below
 
 -- the table keeps its indexes
 pub does_layout : (s : ℕ) (w v : TableState) → Does s w v → v.indexes ≡ w.indexes
-does_layout s w v (PutsRow b k r place turns takes) = takes.layout.indexes
-does_layout s w v (RefusesRow t refused turns fails) = fails.layout.indexes
-does_layout s w v (AsksSummary b k r at turns only) = only.rows.layout.indexes
-does_layout s w v (InsertGoes b k r at old new turns stepped step) = stepped.rows.layout.indexes
-does_layout s w v (InsertCompletes b k r at old turns stepped step) = stepped.rows.layout.indexes
-does_layout s w v (RefusesInsert b k r old refused turns fails) = fails.layout.indexes
-does_layout s w v (TakesLock first begins turns free held rows indexes) = rows.layout.indexes
-does_layout s w v (MaintainGoes job at range old new turns stepped step) = stepped.rows.layout.indexes
-does_layout s w v (MaintainCompletes job at range old turns stepped step) = stepped.rows.layout.indexes
-does_layout s w v (RefusesMaintain job at range phase refused turns stepped passes) = stepped.rows.layout.indexes
-does_layout s w v (RefusesVacuum old vacuuming turns given rows indexes) = rows.layout.indexes
-does_layout s w v (PrunesBlock extent next dropped inside spared turns drops) = drops.layout.indexes
-does_layout s w v (SweepsPage at page turns stepped sweeps) = stepped.rows.layout.indexes
-does_layout s w v (RestartsIndex at turns only) = only.rows.layout.indexes
-does_layout s w v (BeginsScan scan begins turns only) = only.rows.layout.indexes
-does_layout s w v (Judges old new inside low step turns only) = only.rows.layout.indexes
-does_layout s w v (ReadsBlock scan next found reads turns only) = only.rows.layout.indexes
-does_layout s w v (RefusesScan scan t turns how) =
-    ⊎_elim
-    (λ (fails : (scan.explains ≡ false) × Fails w v t). fails.1.layout.indexes)
-    (λ (only : (scan.explains ≡ true) × OnlyTurns w v). only.1.rows.layout.indexes)
-    how
-does_layout s w v (MarksRow scan id rest turns only) = only.rows.layout.indexes
-does_layout s w v (Conflicts scan id rest t turns fails) = fails.layout.indexes
-does_layout s w v (Blocked task blocked turns only) = only.rows.layout.indexes
-does_layout s w v (Transacts counts resting few same) = ap (λ (u : TableState). u.indexes) same
+does_layout s w v does = grind arith
 
 -- What an index sees of going on: nothing, or that a range of it begins, or that a scan ends.
 abbrev SeesOnward : ℕ → Task → Task → Type 0
@@ -128,9 +99,6 @@ SeesOnward i old new = (seen_by i new ≡ seen_by i old)
 
 module _ (i : ℕ) (w : TableState) (below : i < w.indexes) where
   onward_view : (old new : Task) → Onward w old new → SeesOnward i old new
-  onward_view _ _ (Stays task has) = inl refl
-  onward_view _ _ (ToAsk b k r at inside asks) = inl refl
-  onward_view _ _ (ToIndex b k r at inside asks) = inl refl
   onward_view _ _ (Inserted b k r at all) = inl (sym (ap (inserting_of b k r) (on_index_below i at Empty (subst (λ n. i < n) (sym all) below))))
   onward_view _ _ (ToRange job at range has) = ⊎_elim
       (λ (is : i ≡ at).
@@ -142,10 +110,7 @@ module _ (i : ℕ) (w : TableState) (below : i < w.indexes) where
       )))
       (λ (apart : i ≢ at). inl (pick_other i at (Maintaining range (NotBuilding Empty)) Holding apart))
       (cases_eq i at)
-  onward_view _ _ (NextIndex extent at range done inside) = inl refl
   onward_view _ _ (Pruned extent next new all more) = onward_view (SweepsFrom 0 0) new more
-  onward_view _ _ (ToPage at from m p next) = inl refl
-  onward_view _ _ (Swept at from none some) = inl refl
   onward_view _ _ (JudgesNext scan new inside all empty more) = moved (onward_view (Scans (record scan { at = suc scan.at; range = 0 })) new more)
     where
       view : seen_by i (Scans (record scan { at = suc scan.at; range = 0 })) ≡ seen_by i (Scans scan)
@@ -168,7 +133,7 @@ module _ (i : ℕ) (w : TableState) (below : i < w.indexes) where
           sees
   onward_view _ _ (Scanned scan read nothing) = inr (inr (scan, refl, refl))
   onward_view _ _ (ToMarks scan id rest read reads deletes lists) = inr (inr (scan, refl, refl))
-  onward_view _ _ (Marked scan) = inl refl
+  onward_view _ _ _ = inl refl
 
 module _ (s : ℕ) (w v : TableState) (kept : AreIndexesKept w) (i : ℕ) (below : i < w.indexes) where
   goes_on : (old new : Task) → Onward w old new → TaskTurns s w v old new → OnlyTurns w v → IsIndexKept (index_state i v)

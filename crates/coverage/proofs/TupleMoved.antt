@@ -1,5 +1,5 @@
 -- A run in which an insert moves a tuple: its page is being emptied for the map, which a stop cut off; so the tuple with the row leaves it.
-use Rattle.std.proofs.Common.{◌≡◌, ◌⊎◌, inl, inr, ⊎_elim, ◌∙◌, ℕ, ◌≤◌, Option, Some, None, [], ◌∷◌, sym, ap, arith, zero, suc}
+use Rattle.std.proofs.Common.{◌≡◌, ◌⊎◌, inl, inr, ⊎_elim, ◌∙◌, ℕ, Some, None, [], ◌∷◌, sym, ap, arith, zero, suc}
 use Rattle.std.specs.Prelude.{refl, length}
 use Rattle.std.proofs.lemmas.Bool.{false≢true}
 use Rattle.std.proofs.lemmas.Option.{none-some, same_Some}
@@ -9,14 +9,13 @@ use Rattle.coverage.specs.IndexView.{IndexTuple}
 use Rattle.coverage.specs.Statements.{OnIndex, Empty, Held, Copied, Moving, Dropping, Statement, Idle, Inserting}
 use Rattle.coverage.specs.Verdicts.{OnNew, PutGoes, SwapMoves}
 use Rattle.coverage.specs.IsCovered.{IndexState, IsIndexKept}
-use Rattle.coverage.specs.Steps.{Step, PutRow, InsertOnIndex, InsertCopies, InsertSet, InsertDrop, Maps, MovePut, Run, Done, Next}
+use Rattle.coverage.specs.Steps.{Step, PutRow, InsertOnIndex, InsertCopies, InsertSet, InsertDrop, Maps, MovePut, Run, Done, Next, Stops}
 use Rattle.coverage.proofs.Runs.{step_kept}
 use Rattle.coverage.proofs.ExampleTuples.{final_tuple, wide_tuple}
-use Rattle.coverage.proofs.SmallIndex.{at_number, place, no_tuples, placed_others, differ, Small, index_of, at_statement, put_at, set_at, drop_at, turned, inserts}
-use Rattle.coverage.proofs.SmallIndex.{free, locks_these, nobody, reads, puts, sets, drops}
-use Rattle.coverage.specs.Steps.{Stops}
+use Rattle.coverage.proofs.SmallIndex.{no_rows, one_row, place, no_tuples, placed_others, differ, Small, index_of, at_statement, put_at, set_at, drop_at}
+use Rattle.coverage.proofs.SmallIndex.{turned, inserts, free, locks_these, nobody, reads, puts, sets, drops}
 use Rattle.coverage.proofs.Opening.{stopped_kept}
-use Rattle.coverage.proofs.RangeSummarised.{no_rows, idle}
+use Rattle.coverage.proofs.RangeSummarised.{idle}
 use Rattle.coverage.proofs.MapGrown.{moved_place, page_flagged, flagged_kept, none_regular, lowest}
 
 -- the state after the stop: nobody is at work, and the page is still flagged
@@ -46,9 +45,6 @@ cuts_off = record {
 
 cut_kept : IsIndexKept (index_of no_rows cut_off)
 cut_kept = stopped_kept (index_of no_rows page_flagged) (index_of no_rows cut_off) flagged_kept cuts_off
-
-abbrev one_row : Row → ℕ → ℕ → Option Row
-one_row r b k = at_number b 0 (at_number k 0 (Some r) None) None
 
 -- the insert of this row, in this state on the index
 abbrev insert : Row → OnIndex → Statement

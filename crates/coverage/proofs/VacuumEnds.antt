@@ -1,6 +1,7 @@
 -- A vacuum whose session steps alone from one of its indexes on ends, or waits, or lacks a page, within the sum over these indexes.
 use Rattle.std.proofs.Common.{◌≡◌, ⊎_elim, ℕ, ◌+◌, ◌-◌, ◌*◌, ◌/◌, ◌≤◌, ◌<◌, Some, false, true, sym, ◌∙◌, ap, subst, arith, zero, suc}
 use Rattle.std.specs.Prelude.{refl}
+use Rattle.std.proofs.Math.Nat.{le_refl}
 use Rattle.block_model.specs.declared.reply.Point.{Point}
 use Rattle.coverage.specs.Statements.{Empty, NotBuilding}
 use Rattle.coverage.specs.Table.{WholeRanges, Index, Task, Resting, Considers, Maintains, Restarts, TableState, index_view_at}
@@ -21,12 +22,6 @@ use Rattle.coverage.proofs.TableSeen.{table_step_kept}
 data Behind (s : ℕ) (v : TableState) : ℕ → Type 0 where
   NoneBehind : Behind s v 0
   SomeBehind : (k : ℕ) → (v.task s ≡ Resting → ⊥) → StepsAlone s k v → Behind s v k
-
-inside : (d a b : ℕ) → a + suc d ≡ b → a < b
-inside d a b is = omega arith
-
-nearer : (d a b : ℕ) → a + suc d ≡ b → suc a + d ≡ b
-nearer d a b is = omega arith
 
 module _ (w0 : TableState) (s : ℕ) (tuples : ℕ → ℕ) (has : (i : ℕ) → i < w0.indexes → HasAtMostTuples w0 i (tuples i)) where
   abbrev f : ℕ → ℕ
@@ -52,19 +47,7 @@ module _ (w0 : TableState) (s : ℕ) (tuples : ℕ → ℕ) (has : (i : ℕ) →
   module _ (at : ℕ) (below : at < w0.indexes) where
     -- what is left is enough for this index and those behind it
     split : (n : ℕ) → all ≤ n + sum_below at f → f at + rest_of at ≤ n
-    split n le = counts (sum_below at f) (f at) all n (sum_grows f (suc at) w0.indexes (next at w0.indexes below)) le
-      where
-        next : (a b : ℕ) → a < b → suc a ≤ b
-        next a b less = omega arith
-
-        counts : (b c a n : ℕ) → b + c ≤ a → a ≤ n + b → c + (a - (b + c)) ≤ n
-        counts b c a n le enough = omega arith
-
-    behind_enough : (n : ℕ) → rest_of at ≤ n → all ≤ n + sum_below (suc at) f
-    behind_enough n le = counts (sum_below (suc at) f) all n le
-      where
-        counts : (b a n : ℕ) → a - b ≤ n → a ≤ n + b
-        counts b a n le = omega arith
+    split n le = omega (arith, sum_grows f (suc at) w0.indexes below, le)
 
     -- with its first range before it, so much is left in the index
     begins_left : (w u v : TableState) (n : ℕ) → IsTableKept w → FromStays at w0 w → FromStays at w0 u → FromStays at w0 v
@@ -74,16 +57,12 @@ module _ (w0 : TableState) (s : ℕ) (tuples : ℕ → ℕ) (has : (i : ℕ) →
       per_is = ap (λ (x : Index). x.pages_per_range) (here v stays);
       tuples_are = fewer (IsTaken (index_view_at at w0)) (IsTaken (index_view_at at v)) (tuples at)
           (λ x taken none. taken (ap (λ (i : Index). i.tuple x) (here v stays) ∙ none)) (has at below);
-      room = fits (tuples at) (whole at) some;
+      room = omega (arith, some);
       pages = ap (λ (x : Index). x.pages.limit - x.pages.map_pages) (here v stays);
-    }) (within (per_of at + 9) (whole at * (per_of at + 9)) ((whole at - 1) * (per_of at + 9))
-        (pages_of at * (3 * (tuples at + whole at) + 3)) (rest_of at) n one_range enough)
+    }) (omega (arith, one_range, enough))
       where
-        self : (n : ℕ) → n ≤ n
-        self n = omega arith
-
         here : (x : TableState) → FromStays at w0 x → x.index at ≡ w0.index at
-        here x same = same.index at (self at)
+        here x same = same.index at (le_refl at)
 
         ranged : 0 < per_of at
         ranged = subst (λ (x : Index). 0 < x.pages_per_range) (here w was) (kept.indexes at (subst (λ m. at < m) (sym was.indexes) below)).sound.ranged
@@ -92,14 +71,8 @@ module _ (w0 : TableState) (s : ℕ) (tuples : ℕ → ℕ) (has : (i : ℕ) →
         some = subst (λ m. 0 < m / per_of at) was.blocks (one_of_whole_ranges (per_of at) w.blocks 0 ranged
             (subst (λ (x : Index). (0 + 1) * x.pages_per_range ≤ w.blocks) (here u between) has_one))
 
-        fits : (a b : ℕ) → 0 < b → suc a + (b - 1) ≤ a + b
-        fits a b some = omega arith
-
         one_range : whole at * (per_of at + 9) ≡ (whole at - 1) * (per_of at + 9) + (per_of at + 9)
         one_range = one_page (whole at) (per_of at + 9) some
-
-        within : (c a b g rest n : ℕ) → a ≡ b + c → 1 + a + g + rest ≤ suc n → c + g + (b + rest) ≤ n
-        within c a b g rest n is le = omega arith
 
     restarted : (w u : TableState) (new : Task) → Did s w u (Restarts at) new → (new ≡ Considers (WholeRanges w.blocks) at 0) × OnlyTurns w u
     restarted w u _ (DidRestart _ only) = (refl, only)
@@ -107,41 +80,26 @@ module _ (w0 : TableState) (s : ℕ) (tuples : ℕ → ℕ) (has : (i : ℕ) →
     -- the ranges behind the first one
     later_same : (w v : TableState) → FromStays at w0 w → FromStays at w0 v → whole at - 1 ≡ later_ranges v (WholeRanges w.blocks) at 0
     later_same w v was stays = ap (λ n. n / per_of at - 1) (sym was.blocks)
-        ∙ ap (λ (x : Index). w.blocks / x.pages_per_range - 1) (sym (stays.index at (self at)))
-      where
-        self : (n : ℕ) → n ≤ n
-        self n = omega arith
+        ∙ ap (λ (x : Index). w.blocks / x.pages_per_range - 1) (sym (stays.index at (le_refl at)))
 
     later_stays : (v : TableState) → FromStays at w0 v → FromStays (suc at) w0 v
     later_stays v stays = record {
       indexes = stays.indexes;
       blocks = stays.blocks;
-      index = λ i le. stays.index i (weaker at i le);
+      index = λ i le. stays.index i (omega arith);
     }
-      where
-        weaker : (a b : ℕ) → suc a ≤ b → a ≤ b
-        weaker a b le = omega arith
 
     -- how many come behind the first step
     one_step : (n : ℕ) → f at + rest_of at ≤ n → (m : ℕ) × (n ≡ suc m) × (f at + rest_of at ≤ suc m) × (rest_of at ≤ m)
     one_step n le = made (whole at * (per_of at + 9)) (pages_of at * (3 * (tuples at + whole at) + 3)) (rest_of at) le
       where
-        some : (a g rest : ℕ) → 1 + a + g + rest ≤ n → n ≡ suc (n - 1)
-        some a g rest le = omega arith
-
-        all_of : (a g rest : ℕ) → 1 + a + g + rest ≤ n → 1 + a + g + rest ≤ suc (n - 1)
-        all_of a g rest le = omega arith
-
-        later : (a g rest : ℕ) → 1 + a + g + rest ≤ n → rest ≤ n - 1
-        later a g rest le = omega arith
-
         made : (a g rest : ℕ) → 1 + a + g + rest ≤ n → (m : ℕ) × (n ≡ suc m) × (1 + a + g + rest ≤ suc m) × (rest ≤ m)
-        made a g rest le = (n - 1, some a g rest le, all_of a g rest le, later a g rest le)
+        made a g rest le = (n - 1, omega arith, omega arith, omega arith)
 
     module _ (behind : (k n : ℕ) (w : TableState) → StepsAlone s k w → IsTableKept w → w.task s ≡ Restarts (suc at) → FromStays (suc at) w0 w
         → all ≤ n + sum_below (suc at) f → k ≤ n) where
       next_within : (k m : ℕ) (w : TableState) → StepsAlone s k w → IsTableKept w → w.task s ≡ Restarts (suc at) → FromStays (suc at) w0 w → rest_of at ≤ m → k ≤ m
-      next_within k m w alone kept was stays le = behind k m w alone kept was stays (behind_enough m le)
+      next_within k m w alone kept was stays le = behind k m w alone kept was stays (omega arith)
 
       after_first : (k m : ℕ) (w u v : TableState) → IsTableKept w → FromStays at w0 w → FromStays at w0 u → FromStays at w0 v → IsTableKept v
           → StepsAlone s k v → f at + rest_of at ≤ suc m → rest_of at ≤ m → Onward u (Considers (WholeRanges w.blocks) at 0) (v.task s) → k ≤ m
@@ -157,10 +115,7 @@ module _ (w0 : TableState) (s : ℕ) (tuples : ℕ → ℕ) (has : (i : ℕ) →
 
       first_step : (k n : ℕ) (w v : TableState) (step : TableStep s w v) (p : Point) → does_point s w step.between step.does ≡ Some p → IsTableKept w
           → w.task s ≡ Restarts at → FromStays at w0 w → all ≤ n + sum_below at f → Behind s v k → suc k ≤ n
-      first_step _ n w v step p point kept was stays enough NoneBehind = some n (one_step n (split n enough)).0 (one_step n (split n enough)).1
-        where
-          some : (n m : ℕ) → n ≡ suc m → suc 0 ≤ n
-          some n m is = omega arith
+      first_step _ n w v step p point kept was stays enough NoneBehind = omega (arith, (one_step n (split n enough)).1)
       first_step k n w v step p point kept was stays enough (SomeBehind _ going more) =
           let u = step.between in
           let one = one_step n (split n enough) in
@@ -168,36 +123,24 @@ module _ (w0 : TableState) (s : ℕ) (tuples : ℕ → ℕ) (has : (i : ℕ) →
           let between = only_stays at w0 w u did.1 stays in
           ⊎_elim
           (λ (on : Onward u (Considers (WholeRanges w.blocks) at 0) (v.task s) × OnlyTurns u v).
-          through n one.0 one.1 (after_first k one.0 w u v kept stays between (only_stays at w0 u v on.1 between) (table_step_kept s w v kept step) more
-          one.2 one.3 on.0))
+          let rest = after_first k one.0 w u v kept stays between (only_stays at w0 u v on.1 between) (table_step_kept s w v kept step) more one.2 one.3 on.0 in
+          omega (arith, one.1))
           (λ (done : IsMaintained u (Considers (WholeRanges w.blocks) at 0) × (v.task s ≡ Resting)). absurd (going done.1))
           (step_settles s u v step.settles (Considers (WholeRanges w.blocks) at 0) did.0)
-        where
-          through : (n m : ℕ) → n ≡ suc m → k ≤ m → suc k ≤ n
-          through n m is le = omega arith
 
   -- from an index on, with so many indexes left
   from_index : (d at : ℕ) → at + d ≡ w0.indexes → (k n : ℕ) (w : TableState) → StepsAlone s k w → IsTableKept w → w.task s ≡ Restarts at
       → FromStays at w0 w → all ≤ n + sum_below at f → k ≤ n
   from_index zero at ends k n w alone kept was stays enough =
-      absurd (none at w0.indexes ends (subst (λ m. at < m) stays.indexes (subst (IsInTable w) was (kept.inside s))))
-    where
-      none : (a b : ℕ) → a + zero ≡ b → a < b → ⊥
-      none a b is less = omega arith
+      absurd (omega (arith, ends, subst (λ m. at < m) stays.indexes (subst (IsInTable w) was (kept.inside s))))
   from_index (suc d) at ends _ n _ (LastAlone w v step p point) kept was stays enough =
-      first_step at (inside d at w0.indexes ends) (from_index d (suc at) (nearer d at w0.indexes ends)) 0 n w v step p point kept was stays enough NoneBehind
+      first_step at (omega arith) (from_index d (suc at) (omega arith)) 0 n w v step p point kept was stays enough NoneBehind
   from_index (suc d) at ends _ n _ (OneMoreAlone k w v step p point going more) kept was stays enough =
-      first_step at (inside d at w0.indexes ends) (from_index d (suc at) (nearer d at w0.indexes ends)) k n w v step p point kept was stays enough
+      first_step at (omega arith) (from_index d (suc at) (omega arith)) k n w v step p point kept was stays enough
       (SomeBehind k going more)
 
 pub vacuum_within : (s n at : ℕ) (tuples : ℕ → ℕ) (w : TableState) → IsTableKept w → w.task s ≡ Restarts at
     → ((i : ℕ) → i < w.indexes → HasAtMostTuples w i (tuples i)) → StepsAlone s n w → n ≤ vacuum_steps w at tuples
 vacuum_within s n at tuples w kept was has alone =
-    from_index w s tuples has (w.indexes - at) at (counts at w.indexes (subst (IsInTable w) was (kept.inside s))) n (vacuum_steps w at tuples) w alone kept was
-    (nothing_moved at w) (enough (sum_below w.indexes (index_steps w tuples)) (sum_below at (index_steps w tuples)))
-  where
-    counts : (a b : ℕ) → a < b → a + (b - a) ≡ b
-    counts a b less = omega arith
-
-    enough : (a b : ℕ) → a ≤ (a - b) + b
-    enough a b = omega arith
+    from_index w s tuples has (w.indexes - at) at (omega (arith, subst (IsInTable w) was (kept.inside s))) n (vacuum_steps w at tuples) w alone kept was
+    (nothing_moved at w) (omega arith)

@@ -3,6 +3,7 @@ use Rattle.std.proofs.Common.{◌≡◌, ◌≢◌, ◌⊎◌, inl, inr, ⊎_eli
 use Rattle.std.specs.Prelude.{refl}
 use Rattle.std.proofs.lemmas.Option.{same_Some, none-some}
 use Rattle.std.proofs.lemmas.Bool.{cases_eq, false≢true}
+use Rattle.std.proofs.Math.Nat.{le_antisymm, lt-suc_self, not-suc-le-zero}
 use Rattle.block_model.specs.declared.reply.Point.{Point}
 use Rattle.block_model.specs.declared.reply.Point.TheVariants as points
 use Rattle.block_model.specs.declared.place.Spot.{Spot}
@@ -12,11 +13,9 @@ use Rattle.coverage.specs.Statements.{building_of, loose_of}
 use Rattle.coverage.specs.Steps.{IsUnnamed, SweepsTuples}
 use Rattle.coverage.proofs.Numbers.{lt_or_ge, last_or_below}
 use Rattle.coverage.proofs.StepsExist.{chosen, chosen_yes, chosen_no, place_is, locks_after, after_only, after_others, after_taken, free_none}
-use Rattle.coverage.specs.Table.{Index, Task, Resting, Considers, Prunes, SweepsFrom, Sweeps, Restarts, WholeRanges, TableState, pick, seen_by}
-use Rattle.coverage.specs.Table.{index_view_at}
-use Rattle.coverage.specs.TableSteps.{TaskTurns, SameRows, OnlyTurns, first_block, Does, PrunesBlock, SweepsPage, RestartsIndex, HasTuples, IsFrom}
-use Rattle.coverage.specs.TableSteps.{Onward, Stays, ToRange, NextIndex, Pruned, ToPage, Swept, IsMaintained, RangesDone, NothingToSweep}
-use Rattle.coverage.specs.TableSteps.{GoesOn, GivesLock}
+use Rattle.coverage.specs.Table.{Index, Task, Resting, Considers, Prunes, SweepsFrom, Sweeps, Restarts, WholeRanges, TableState, pick, seen_by, index_view_at}
+use Rattle.coverage.specs.TableSteps.{TaskTurns, SameRows, OnlyTurns, first_block, Does, PrunesBlock, SweepsPage, RestartsIndex, HasTuples, IsFrom, Onward}
+use Rattle.coverage.specs.TableSteps.{Stays, ToRange, NextIndex, Pruned, ToPage, Swept, IsMaintained, RangesDone, NothingToSweep, GoesOn, GivesLock}
 use Rattle.coverage.specs.TablePoints.{does_point, IsTableStuck}
 use Rattle.coverage.proofs.Views.{pick_same, pick_there}
 
@@ -70,9 +69,6 @@ module _ (u : TableState) (at from : ℕ) (stuck : (new : Task) → Onward u (Sw
   next_is : (m p : ℕ) → ((n q : ℕ) → n < m → NoneAt n q) → ((q : ℕ) → q < p → NoneAt m q) → NoneAt m p
   next_is m p lower earlier has after = stuck (Sweeps m p) (ToPage at from m p (record { has = has; after = after; first = first }))
     where
-      above : (a b : ℕ) → a ≤ b → a ≢ b → a < b
-      above a b le other = omega arith
-
       first : (n q : ℕ) → HasTuples u n q → IsFrom at from n q → IsFrom m p n q
       first n q has' after' = ⊎_elim
           (λ (less : n < m). absurd (lower n q less has' after'))
@@ -82,32 +78,26 @@ module _ (u : TableState) (at from : ℕ) (stuck : (new : Task) → Onward u (Sw
           absurd (earlier q before (subst (λ j. HasTuples u j q) (sym same) has') (subst (λ j. IsFrom at from j q) (sym same) after')))
           (λ (more : p ≤ q). inr (same, more))
           (lt_or_ge q p))
-          (λ (other : m ≢ n). inl (above m n le other))
+          (λ (other : m ≢ n). inl (omega arith))
           (cases_eq m n))
           (lt_or_ge n m)
 
-  nothing : (n : ℕ) → n < zero → ⊥
-  nothing n less = omega arith
-
-  self : (n : ℕ) → n < suc n
-  self n = omega arith
-
   pages_below : (m : ℕ) → ((n q : ℕ) → n < m → NoneAt n q) → (j p : ℕ) → p < j → NoneAt m p
-  pages_below m lower zero p less = absurd (nothing p less)
+  pages_below m lower zero p less = absurd (not-suc-le-zero less)
   pages_below m lower (suc j) p less = ⊎_elim
       (λ (is : p ≡ j). subst (NoneAt m) (sym is) (next_is m j lower (pages_below m lower j)))
       (λ (before : p < j). pages_below m lower j p before)
       (last_or_below p j less)
 
   indexes_below : (k m p : ℕ) → m < k → NoneAt m p
-  indexes_below zero m p less = absurd (nothing m less)
+  indexes_below zero m p less = absurd (not-suc-le-zero less)
   indexes_below (suc k) m p less = ⊎_elim
-      (λ (is : m ≡ k). subst (λ j. NoneAt j p) (sym is) (pages_below k (indexes_below k) (suc p) p (self p)))
+      (λ (is : m ≡ k). subst (λ j. NoneAt j p) (sym is) (pages_below k (indexes_below k) (suc p) p (lt-suc_self p)))
       (λ (before : m < k). indexes_below k m p before)
       (last_or_below m k less)
 
   sweep_onward : 0 < u.indexes → ⊥
-  sweep_onward some = stuck (Restarts 0) (Swept at from (λ m p has after. indexes_below (suc m) m p (self m) has after) some)
+  sweep_onward some = stuck (Restarts 0) (Swept at from (λ m p has after. indexes_below (suc m) m p (lt-suc_self m) has after) some)
 
 pub prune_goes_on : (w : TableState) (s extent next : ℕ) → w.task s ≡ Prunes extent next → next < extent → IsTableStuck w s → ⊥
 prune_goes_on w s extent next was below stuck = ⊎_elim
@@ -115,7 +105,7 @@ prune_goes_on w s extent next was below stuck = ⊎_elim
     (λ (all : extent ≤ suc next). ⊎_elim
     (λ (none : w.indexes ≡ 0). no_end w s stuck u task now does points.Prune refl (NothingToSweep extent (suc next) all none))
     (λ (some : w.indexes ≢ 0).
-    sweep_onward u 0 0 (λ new onward. no_onward w s stuck u task now does points.Prune refl new (Pruned extent (suc next) new all onward)) (positive w.indexes some))
+    sweep_onward u 0 0 (λ new onward. no_onward w s stuck u task now does points.Prune refl new (Pruned extent (suc next) new all onward)) (omega arith))
     (cases_eq w.indexes 0))
     (lt_or_ge (suc next) extent)
   where
@@ -127,9 +117,6 @@ prune_goes_on w s extent next was below stuck = ⊎_elim
 
     now : u.task s ≡ task
     now = pick_same s (Prunes extent (suc next)) (w.task s)
-
-    positive : (n : ℕ) → n ≢ 0 → 0 < n
-    positive n some = omega arith
 
     does : Does s w u
     does = PrunesBlock extent next (λ b k. false) below (λ n b k other dead either. false≢true dead) (turns_here w s (Prunes extent next) task was) (record {
@@ -150,7 +137,7 @@ restart_goes_on w s at was inside stuck = ⊎_elim
     no_onward w s stuck u task now does points.Right refl (Restarts (suc at)) (NextIndex w.blocks at 0 (cross (first_block w at (0 + 1)) w.blocks less) more))
     (λ (last : w.indexes ≤ suc at).
     no_end w s stuck u task now does points.Right refl
-    (RangesDone (WholeRanges w.blocks) at 0 (cross (first_block w at (0 + 1)) w.blocks less) (same (suc at) w.indexes inside last)))
+    (RangesDone (WholeRanges w.blocks) at 0 (cross (first_block w at (0 + 1)) w.blocks less) (le_antisymm inside last)))
     (lt_or_ge (suc at) w.indexes))
     (λ (le : first_block w at (0 + 1) ≤ w.blocks). no_onward w s stuck u task now does points.Right refl _ (ToRange (WholeRanges w.blocks) at 0 le))
     (lt_or_ge w.blocks (first_block w at (0 + 1)))
@@ -166,9 +153,6 @@ restart_goes_on w s at was inside stuck = ⊎_elim
 
     cross : (a b : ℕ) → b < a → a ≤ b → ⊥
     cross a b less le = omega arith
-
-    same : (a b : ℕ) → a ≤ b → b ≤ a → a ≡ b
-    same a b le ge = omega arith
 
     does : Does s w u
     does = RestartsIndex at (turns_here w s (Restarts at) task was) (only_here w s task)
@@ -199,10 +183,7 @@ module _ (w : TableState) (s at page : ℕ) where
 
   sweepable_or_not : (x : Spot) → IsSweepable x ⊎ (IsSweepable x → ⊥)
   sweepable_or_not x = ⊎_elim
-      (λ (on : x.block ≡ page). ⊎_elim
-      (λ (unnamed : IsUnnamed view x). inl (on, unnamed))
-      (λ (not : IsUnnamed view x → ⊥). inr (λ is. not is.1))
-      (unnamed_or_not x))
+      (λ (on : x.block ≡ page). elim (unnamed_or_not x) [ inl unnamed ↦ inl (on, unnamed) | inr not ↦ inr (λ is. not is.1) ])
       (λ (off : x.block ≢ page). inr (λ is. off is.0))
       (cases_eq x.block page)
 
@@ -257,11 +238,8 @@ module _ (w : TableState) (s at page : ℕ) where
 
   pub sweep_goes_on : w.task s ≡ Sweeps at page → at < w.indexes → IsFree view.lock s page → IsTableStuck w s → ⊥
   sweep_goes_on was inside free stuck =
-      sweep_onward swept_state at (suc page) (no_onward w s stuck swept_state after (pick_same s after (w.task s)) does points.Sweep refl) (positive at w.indexes inside)
+      sweep_onward swept_state at (suc page) (no_onward w s stuck swept_state after (pick_same s after (w.task s)) does points.Sweep refl) (omega arith)
     where
-      positive : (a n : ℕ) → a < n → 0 < n
-      positive a n less = omega arith
-
       here : pick at at swept_index (w.index at) ≡ swept_index
       here = pick_same at swept_index (w.index at)
 

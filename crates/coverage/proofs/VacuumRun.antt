@@ -1,22 +1,23 @@
 -- A run of a vacuum over two indexes, each with a tuple that was unnamed at the opening.
-use Rattle.std.proofs.Common.{◌≡◌, ◌⊎◌, inl, inr, ⊎_elim, ℕ, ◌<◌, ◌≤◌, Bool, Option, Some, None, true, false, [], ◌∷◌, sym, ◌∙◌, ap, subst, arith, zero, suc}
+use Rattle.std.proofs.Common.{◌≡◌, ◌⊎◌, inl, inr, ⊎_elim, ℕ, ◌<◌, ◌≤◌, Bool, Option, Some, None, true, false, [], ◌∷◌, sym, ◌∙◌, ap, arith, zero, suc}
 use Rattle.std.specs.Prelude.{refl, ◌≢◌}
 use Rattle.std.proofs.lemmas.Option.{none-some}
 use Rattle.std.proofs.lemmas.Bool.{false≢true}
+use Rattle.std.proofs.Math.Nat.{lt_irrefl}
 use Rattle.block_model.specs.declared.row.Row.{Row}
 use Rattle.block_model.specs.declared.place.Spot.{Spot}
 use Rattle.coverage.specs.IndexView.{IndexTuple, Regular, Emptying, IndexView}
 use Rattle.coverage.specs.Steps.{SweepsTuples, IsUnnamed}
-use Rattle.coverage.specs.Statements.{Scan, Statement, Idle, Scanning}
+use Rattle.coverage.specs.Statements.{Scan, Idle, Scanning}
 use Rattle.coverage.specs.PageOrder.{AreOrdered}
 use Rattle.coverage.specs.IsCovered.{IsCovered, IsAtRest}
-use Rattle.coverage.proofs.SmallIndex.{at_number, at_other, grown_kind, kind_number, differ, pages, place, one_tuple, no_locks}
+use Rattle.coverage.proofs.SmallIndex.{at_number, at_both, at_spot, no_rows, one_row, grown_kind, differ, pages, place, one_tuple, no_locks}
+use Rattle.coverage.proofs.SmallTable.{first_at, others_rest, table, same_rows, only_turns}
 use Rattle.coverage.proofs.ExampleTuples.{contents, lawful, final_tuple}
 use Rattle.coverage.proofs.RangeSummarised.{summarised_kept}
 use Rattle.coverage.specs.Table.{Index, WholeRanges, Task, Resting, Considers, Prunes, SweepsFrom, Sweeps, Restarts, TableState, index_state, index_view_at}
-use Rattle.coverage.specs.TableSteps.{TaskTurns, SameRows, OnlyTurns, HasPut, SeesPlace, Vacuum, TakesLock, PrunesBlock, SweepsPage, RestartsIndex}
-use Rattle.coverage.specs.TableSteps.{HasTuples, IsFrom, Stays, NextIndex, Pruned, ToPage, Swept, RangesDone, GoesOn, GivesLock, TableStep, TableRun}
-use Rattle.coverage.specs.TableSteps.{TableDone, TableNext}
+use Rattle.coverage.specs.TableSteps.{TaskTurns, HasPut, SeesPlace, Vacuum, TakesLock, PrunesBlock, SweepsPage, RestartsIndex, HasTuples, IsFrom, Stays}
+use Rattle.coverage.specs.TableSteps.{NextIndex, Pruned, ToPage, Swept, RangesDone, GoesOn, GivesLock, TableStep, TableRun, TableDone, TableNext}
 use Rattle.coverage.specs.TableCovered.{IsTableKept}
 use Rattle.coverage.proofs.TableOpening.{table_opened}
 
@@ -53,85 +54,43 @@ both_swept zero = swept
 both_swept (suc zero) = swept
 both_swept (suc (suc i)) = full
 
-abbrev one_row : Row → ℕ → ℕ → Option Row
-one_row r b k = at_number b 0 (at_number k 0 (Some r) None) None
-
-abbrev no_row : ℕ → ℕ → Option Row
-no_row b k = None
-
-abbrev task_at : Task → ℕ → Task
-task_at e zero = e
-task_at e (suc n) = Resting
-
-abbrev table : (ℕ → Index) → (ℕ → ℕ → Option Row) → Option ℕ → (ℕ → Task) → TableState
-table index row held task = record {
-  indexes = 2;
-  index = index;
-  rows_per_page = 1;
-  heap_limit = 1;
-  blocks = 1;
-  row = row;
-  summarise_lock = held;
-  task = task;
-  counts = λ t. false;
-}
+abbrev two_indexes : (ℕ → Index) → (ℕ → ℕ → Option Row) → Option ℕ → (ℕ → Task) → TableState
+two_indexes index row held task = table 2 1 1 index row held task
 
 -- the states of the run, each named for the step that led to it
 abbrev pub at_rest : Row → TableState
-at_rest r = table all_full (one_row r) None (λ n. Resting)
+at_rest r = two_indexes all_full (one_row r) None (λ n. Resting)
 
 abbrev vacuum_begun : Row → TableState
-vacuum_begun r = table all_full (one_row r) (Some 0) (task_at (Prunes 1 0))
+vacuum_begun r = two_indexes all_full (one_row r) (Some 0) (first_at (Prunes 1 0))
 
 abbrev block_pruned : Task → TableState
-block_pruned e = table all_full no_row (Some 0) (task_at e)
+block_pruned e = two_indexes all_full no_rows (Some 0) (first_at e)
 
 abbrev first_index_swept : Task → TableState
-first_index_swept e = table first_swept no_row (Some 0) (task_at e)
+first_index_swept e = two_indexes first_swept no_rows (Some 0) (first_at e)
 
 abbrev both_indexes_swept : Task → TableState
-both_indexes_swept e = table both_swept no_row (Some 0) (task_at e)
+both_indexes_swept e = two_indexes both_swept no_rows (Some 0) (first_at e)
 
 abbrev pub vacuum_ended : TableState
-vacuum_ended = table both_swept no_row None (task_at Resting)
-
-same_at : {A : Type 0} → (n m : ℕ) (a : A) → at_number n m a a ≡ a
-same_at zero zero a = refl
-same_at zero (suc m) a = refl
-same_at (suc n) zero a = refl
-same_at (suc n) (suc m) a = same_at n m a
-
-at_place : {A : Type 0} → (a d : A) (x : Spot) → (x ≡ place) ⊎ (at_number x.block 2 (at_number x.slot 0 a d) d ≡ d)
-at_place a d x = ⊎_elim
-    (λ (block : x.block ≡ 2). ⊎_elim
-    (λ (slot : x.slot ≡ 0). inl (λ i. record { block = block i; slot = slot i }))
-    (λ (e : at_number x.slot 0 a d ≡ d). inr (ap (λ z. at_number x.block 2 z d) e ∙ same_at x.block 2 d))
-    (at_other x.slot 0 a d))
-    (λ (e : at_number x.block 2 (at_number x.slot 0 a d) d ≡ d). inr e)
-    (at_other x.block 2 (at_number x.slot 0 a d) d)
+vacuum_ended = two_indexes both_swept no_rows None (first_at Resting)
 
 same_place : {A : Type 0} → (d : A) (x : Spot) → at_number x.block 2 (at_number x.slot 0 d d) d ≡ d
-same_place d x = ap (λ z. at_number x.block 2 z d) (same_at x.slot 0 d) ∙ same_at x.block 2 d
+same_place d x = ap (λ z. at_number x.block 2 z d) (at_both x.slot 0 d) ∙ at_both x.block 2 d
 
 -- the table at rest
 tuple_left : (x : Spot) (t : IndexTuple) → one_tuple (Some final_tuple) x ≡ Some t → left_at true x ≡ true
-tuple_left x t here = ⊎_elim
-    (λ (is : x ≡ place). ap (left_at true) is)
-    (λ (e : one_tuple (Some final_tuple) x ≡ None). absurd (none-some _ (sym e ∙ here)))
-    (at_place (Some final_tuple) None x)
+tuple_left x t here = elim (at_spot place (Some final_tuple) None x) [ inl is ↦ ap (left_at true) is | inr e ↦ absurd (none-some _ (sym e ∙ here)) ]
 
 left_stands : (x : Spot) → left_at true x ≡ true → one_tuple (Some final_tuple) x ≡ None → ⊥
 left_stands x left gone = ⊎_elim
     (λ (is : x ≡ place). none-some final_tuple (sym gone ∙ ap (one_tuple (Some final_tuple)) is))
     (λ (e : left_at true x ≡ false). absurd (false≢true (sym e ∙ left)))
-    (at_place true false x)
-
-abbrev IsIdle : Statement → Type 0
-IsIdle Idle = Unit
-IsIdle e = ⊥
+    (at_spot place true false x)
 
 idle_scan : (scan : Scan) → Idle ≡ Scanning scan → ⊥
-idle_scan scan e = subst IsIdle e tt
+idle_scan scan e = cc
 
 row_below : (r : Row) (b k : ℕ) (q : Row) → one_row r b k ≡ Some q → b < 1
 row_below r zero k q there = omega arith
@@ -179,41 +138,20 @@ vacuum_kept r = table_opened (at_rest r)
       rows_below = row_below r;
     })
 
-turns : (e f : Task) (n : ℕ) → (n ≡ 0) ⊎ (task_at f n ≡ task_at e n)
-turns e f zero = inl refl
-turns e f (suc n) = inr refl
-
-turns_first : (f : Task) (n : ℕ) → (n ≡ 0) ⊎ (task_at f n ≡ Resting)
+turns_first : (f : Task) (n : ℕ) → (n ≡ 0) ⊎ (first_at f n ≡ Resting)
 turns_first f zero = inl refl
 turns_first f (suc n) = inr refl
 
 turned : (index index' : ℕ → Index) (row row' : ℕ → ℕ → Option Row) (held held' : Option ℕ) (e f : Task)
-    → TaskTurns 0 (table index row held (task_at e)) (table index' row' held' (task_at f)) e f
-turned index index' row row' held held' e f = record { was = refl; now = refl; others = λ n. turns e f n }
-
-same_rows : (index index' : ℕ → Index) (row : ℕ → ℕ → Option Row) (held held' : Option ℕ) (task task' : ℕ → Task)
-    → SameRows (table index row held task) (table index' row held' task')
-same_rows index index' row held held' task task' = record {
-  layout = record { indexes = refl; rows_per_page = refl; heap_limit = refl };
-  blocks = refl;
-  row = λ b k. refl;
-  counts = λ t. refl;
-}
-
-only_turns : (index : ℕ → Index) (row : ℕ → ℕ → Option Row) (held : Option ℕ) (task task' : ℕ → Task)
-    → OnlyTurns (table index row held task) (table index row held task')
-only_turns index row held task task' = record {
-  rows = same_rows _ _ _ _ _ _ _;
-  indexes = record { index = λ i. refl };
-  summarise_lock = refl;
-}
+    → TaskTurns 0 (two_indexes index row held (first_at e)) (two_indexes index' row' held' (first_at f)) e f
+turned index index' row row' held held' e f = record { was = refl; now = refl; others = others_rest e f }
 
 takes : (r : Row) → TableStep 0 (at_rest r) (vacuum_begun r)
 takes r = record {
   between = vacuum_begun r;
-  does = TakesLock (Prunes 1 0) Vacuum (record { was = refl; now = refl; others = turns_first (Prunes 1 0) }) refl refl (same_rows _ _ _ _ _ _ _)
+  does = TakesLock (Prunes 1 0) Vacuum (record { was = refl; now = refl; others = turns_first (Prunes 1 0) }) refl refl (same_rows _ _ _ _)
       (record { index = λ i. refl });
-  settles = GoesOn _ _ (Stays (Prunes 1 0) (omega arith)) (turned _ _ _ _ _ _ _ _) (only_turns _ _ _ _ _);
+  settles = GoesOn _ _ (Stays (Prunes 1 0) (omega arith)) (turned _ _ _ _ _ _ _ _) (only_turns _ _);
 }
 
 abbrev dropped : ℕ → ℕ → Bool
@@ -223,38 +161,23 @@ dropped_on : (b k : ℕ) → dropped b k ≡ true → b ≡ 0
 dropped_on zero k is = refl
 dropped_on (suc b) k is = absurd (false≢true is)
 
-dropped_rows : (r : Row) (b k : ℕ) → (no_row b k ≡ one_row r b k) ⊎ (dropped b k ≡ true)
+dropped_rows : (r : Row) (b k : ℕ) → (no_rows b k ≡ one_row r b k) ⊎ (dropped b k ≡ true)
 dropped_rows r zero zero = inr refl
 dropped_rows r zero (suc k) = inl refl
 dropped_rows r (suc b) k = inl refl
 
-spares : (n b k : ℕ) → n ≢ 0 → dropped b k ≡ true → (HasPut b k (task_at (Prunes 1 0) n) ⊎ SeesPlace b k (task_at (Prunes 1 0) n)) → ⊥
+spares : (n b k : ℕ) → n ≢ 0 → dropped b k ≡ true → (HasPut b k (first_at (Prunes 1 0) n) ⊎ SeesPlace b k (first_at (Prunes 1 0) n)) → ⊥
 spares zero b k other is seen = other refl
 spares (suc n) b k other is seen = ⊎_elim (λ (put : ⊥). put) (λ (sees : ⊥). sees) seen
 
 tuple_page : (q : ℕ) → (grown_kind q ≡ Regular) ⊎ (grown_kind q ≡ Emptying) → q ≡ 2
-tuple_page zero is = absurd (⊎_elim
-    (λ (e : grown_kind 0 ≡ Regular). differ 1 2 (ap kind_number e) (omega arith))
-    (λ (e : grown_kind 0 ≡ Emptying). differ 1 3 (ap kind_number e) (omega arith)) is)
-tuple_page (suc zero) is = absurd (⊎_elim
-    (λ (e : grown_kind 1 ≡ Regular). differ 1 2 (ap kind_number e) (omega arith))
-    (λ (e : grown_kind 1 ≡ Emptying). differ 1 3 (ap kind_number e) (omega arith)) is)
+tuple_page zero is = elim is [ inl e ↦ cc | inr e ↦ cc ]
+tuple_page (suc zero) is = elim is [ inl e ↦ cc | inr e ↦ cc ]
 tuple_page (suc (suc zero)) is = refl
-tuple_page (suc (suc (suc q))) is = absurd (⊎_elim
-    (λ (e : grown_kind (suc (suc (suc q))) ≡ Regular). differ 0 2 (ap kind_number e) (omega arith))
-    (λ (e : grown_kind (suc (suc (suc q))) ≡ Emptying). differ 0 3 (ap kind_number e) (omega arith)) is)
-
-from_two : (q : ℕ) → q ≡ 2 → 2 ≤ q
-from_two q is = omega arith
-
-not_three : (q : ℕ) → q ≡ 2 → 3 ≤ q → ⊥
-not_three q is high = omega arith
-
-not_less : (n : ℕ) → n < n → ⊥
-not_less n less = omega arith
+tuple_page (suc (suc (suc q))) is = elim is [ inl e ↦ cc | inr e ↦ cc ]
 
 first_of_all : (e : Task) (n q : ℕ) → HasTuples (block_pruned e) n q → IsFrom 0 0 n q → IsFrom 0 2 n q
-first_of_all e zero q has from = inr (refl, from_two q (tuple_page q has.1))
+first_of_all e zero q has from = inr (refl, omega (arith, tuple_page q has.1))
 first_of_all e (suc n) q has from = inl (omega arith)
 
 prunes : (r : Row) → TableStep 0 (vacuum_begun r) (block_pruned (Sweeps 0 2))
@@ -274,7 +197,7 @@ prunes r = record {
     has = (omega arith, inl refl);
     after = inr (refl, omega arith);
     first = first_of_all (Prunes 1 1);
-  }))) (turned _ _ _ _ _ _ _ _) (only_turns _ _ _ _ _);
+  }))) (turned _ _ _ _ _ _ _ _) (only_turns _ _);
 }
 
 first_others : (i : ℕ) → (i ≡ 0) ⊎ (first_swept i ≡ all_full i)
@@ -296,8 +219,8 @@ sweep_places x = ⊎_elim
     (λ (e : one_tuple (Some final_tuple) x ≡ None). ⊎_elim
     (λ (is : x ≡ place). on_place is)
     (λ (d : left_at true x ≡ false). inl (same_place None x ∙ sym e, same_place false x ∙ sym d))
-    (at_place true false x))
-    (at_place (Some final_tuple) None x)
+    (at_spot place true false x))
+    (at_spot place (Some final_tuple) None x)
   where
     on_place : x ≡ place → Places x
     on_place is =
@@ -306,10 +229,10 @@ sweep_places x = ⊎_elim
 
 -- an index with its tuple left, and without
 abbrev left_view : ℕ → IndexView
-left_view at = index_view_at at (table (λ i. full) no_row (Some 0) (task_at (Sweeps at 2)))
+left_view at = index_view_at at (two_indexes (λ i. full) no_rows (Some 0) (first_at (Sweeps at 2)))
 
 abbrev swept_view : ℕ → IndexView
-swept_view at = index_view_at at (table (λ i. swept) no_row (Some 0) (task_at (SweepsFrom at 3)))
+swept_view at = index_view_at at (two_indexes (λ i. swept) no_rows (Some 0) (first_at (SweepsFrom at 3)))
 
 page_swept : (at : ℕ) → SweepsTuples 0 (left_view at) (swept_view at) 2 (λ x. (x.block ≡ 2) × IsUnnamed (left_view at) x)
 page_swept at = record {
@@ -338,44 +261,35 @@ sweep_first : TableStep 0 (block_pruned (Sweeps 0 2)) (first_index_swept (Sweeps
 sweep_first = record {
   between = first_index_swept (SweepsFrom 0 3);
   does = SweepsPage 0 2 (turned _ _ _ _ _ _ _ _)
-      (record { below = omega arith; rows = same_rows _ _ _ _ _ _ _; others = first_others; autosummarize = refl })
+      (record { below = omega arith; rows = same_rows _ _ _ _; others = first_others; autosummarize = refl })
       (page_swept 0);
   settles = GoesOn _ _ (ToPage 0 3 1 2 (record {
     has = (omega arith, inl refl);
     after = inl (omega arith);
     first = next_of_all;
-  })) (turned _ _ _ _ _ _ _ _) (only_turns _ _ _ _ _);
+  })) (turned _ _ _ _ _ _ _ _) (only_turns _ _);
 }
   where
     next_of_all : (n q : ℕ) → HasTuples (first_index_swept (SweepsFrom 0 3)) n q → IsFrom 0 3 n q → IsFrom 1 2 n q
-    next_of_all zero q has from = absurd (⊎_elim
-        (λ (less : 0 < 0). not_less 0 less)
-        (λ (high : (0 ≡ 0) × (3 ≤ q)). not_three q (tuple_page q has.1) high.1)
-        from)
-    next_of_all (suc zero) q has from = inr (refl, from_two q (tuple_page q has.1))
+    next_of_all zero q has from = absurd (elim from [ inl less ↦ lt_irrefl 0 less | inr high ↦ omega (arith, tuple_page q has.1, high.1) ])
+    next_of_all (suc zero) q has from = inr (refl, omega (arith, tuple_page q has.1))
     next_of_all (suc (suc n)) q has from = inl (omega arith)
 
 sweep_second : TableStep 0 (first_index_swept (Sweeps 1 2)) (both_indexes_swept (Restarts 0))
 sweep_second = record {
   between = both_indexes_swept (SweepsFrom 1 3);
   does = SweepsPage 1 2 (turned _ _ _ _ _ _ _ _)
-      (record { below = omega arith; rows = same_rows _ _ _ _ _ _ _; others = both_others; autosummarize = refl })
+      (record { below = omega arith; rows = same_rows _ _ _ _; others = both_others; autosummarize = refl })
       (page_swept 1);
-  settles = GoesOn _ _ (Swept 1 3 none_left (omega arith)) (turned _ _ _ _ _ _ _ _) (only_turns _ _ _ _ _);
+  settles = GoesOn _ _ (Swept 1 3 none_left (omega arith)) (turned _ _ _ _ _ _ _ _) (only_turns _ _);
 }
   where
     past : (m : ℕ) → suc (suc m) < 2 → ⊥
     past m less = omega arith
 
     none_left : (m p : ℕ) → HasTuples (both_indexes_swept (SweepsFrom 1 3)) m p → IsFrom 1 3 m p → ⊥
-    none_left zero p has from = ⊎_elim
-        (λ (less : 1 < 0). absurd (omega arith))
-        (λ (high : (1 ≡ 0) × (3 ≤ p)). differ 0 1 (sym high.0) (omega arith))
-        from
-    none_left (suc zero) p has from = ⊎_elim
-        (λ (less : 1 < 1). not_less 1 less)
-        (λ (high : (1 ≡ 1) × (3 ≤ p)). not_three p (tuple_page p has.1) high.1)
-        from
+    none_left zero p has from = elim from [ inl less ↦ absurd (omega arith) | inr high ↦ differ 0 1 (sym high.0) (omega arith) ]
+    none_left (suc zero) p has from = elim from [ inl less ↦ lt_irrefl 1 less | inr high ↦ omega (arith, tuple_page p has.1, high.1) ]
     none_left (suc (suc m)) p has from = past m has.0
 
 no_range : 2 ≤ 1 → ⊥
@@ -384,15 +298,15 @@ no_range le = omega arith
 restart_first : TableStep 0 (both_indexes_swept (Restarts 0)) (both_indexes_swept (Restarts 1))
 restart_first = record {
   between = both_indexes_swept (Considers (WholeRanges 1) 0 0);
-  does = RestartsIndex 0 (turned _ _ _ _ _ _ _ _) (only_turns _ _ _ _ _);
-  settles = GoesOn _ _ (NextIndex 1 0 0 no_range (omega arith)) (turned _ _ _ _ _ _ _ _) (only_turns _ _ _ _ _);
+  does = RestartsIndex 0 (turned _ _ _ _ _ _ _ _) (only_turns _ _);
+  settles = GoesOn _ _ (NextIndex 1 0 0 no_range (omega arith)) (turned _ _ _ _ _ _ _ _) (only_turns _ _);
 }
 
 restart_second : TableStep 0 (both_indexes_swept (Restarts 1)) vacuum_ended
 restart_second = record {
   between = both_indexes_swept (Considers (WholeRanges 1) 1 0);
-  does = RestartsIndex 1 (turned _ _ _ _ _ _ _ _) (only_turns _ _ _ _ _);
-  settles = GivesLock _ (RangesDone (WholeRanges 1) 1 0 no_range refl) (turned _ _ _ _ _ _ _ _) refl (same_rows _ _ _ _ _ _ _)
+  does = RestartsIndex 1 (turned _ _ _ _ _ _ _ _) (only_turns _ _);
+  settles = GivesLock _ (RangesDone (WholeRanges 1) 1 0 no_range refl) (turned _ _ _ _ _ _ _ _) refl (same_rows _ _ _ _)
       (record { index = λ i. refl });
 }
 
@@ -403,7 +317,4 @@ vacuum_run r = TableNext 0 _ _ _ _ (takes r) (TableNext 0 _ _ _ _ (prunes r) (Ta
 pub tuples_went : (r : Row) (i : ℕ) → i < 2 → (((at_rest r).index i).tuple place ≢ None) × ((vacuum_ended.index i).tuple place ≡ None)
 tuples_went r zero low = ((λ is. none-some _ (sym is)), refl)
 tuples_went r (suc zero) low = ((λ is. none-some _ (sym is)), refl)
-tuples_went r (suc (suc i)) low = absurd (past i low)
-  where
-    past : (m : ℕ) → suc (suc m) < 2 → ⊥
-    past m less = omega arith
+tuples_went r (suc (suc i)) low = absurd (omega arith)

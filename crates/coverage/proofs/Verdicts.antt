@@ -3,6 +3,7 @@ use Rattle.std.proofs.Common.{◌≡◌, ◌≢◌, ◌⊎◌, inl, inr, ⊎_eli
 use Rattle.std.proofs.lemmas.Option.{same_Some, none-some}
 use Rattle.std.proofs.lemmas.Bool.{cases_eq}
 use Rattle.std.specs.Prelude.{refl, List, [], ◌∷◌, length}
+use Rattle.std.proofs.Math.Nat.{le_antisymm, not-le_of_lt}
 use Rattle.block_model.specs.declared.place.Spot.{Spot}
 use Rattle.coverage.specs.IndexView.{IndexTuple, PageKind, Unstarted, Regular, IndexView, map_page_of}
 use Rattle.coverage.specs.Changes.{IsFree}
@@ -27,10 +28,7 @@ locked_or_free w s p = by (w.lock p) refl
         (cases_eq n s)
 
 lowest_once : (Is : ℕ → Type 0) (p q : ℕ) → IsLowestNumber Is p → IsLowestNumber Is q → p ≡ q
-lowest_once Is p q one two = both p q (one.1 q two.0) (two.1 p one.0)
-  where
-    both : (p q : ℕ) → p ≤ q → q ≤ p → p ≡ q
-    both p q le ge = omega arith
+lowest_once Is p q one two = le_antisymm (one.1 q two.0) (two.1 p one.0)
 
 target_once : (w : IndexView) (need p q : ℕ) → IsTarget w.pages (bytes_of w.tuple) need p → IsTarget w.pages (bytes_of w.tuple) need q → p ≡ q
 target_once w need p q (OnStarted one) (OnStarted two) = lowest_once (PageHasRoom w.pages (bytes_of w.tuple) need) p q one two
@@ -96,10 +94,7 @@ put_past_map w s range need y ordered verdict = ⊎_elim
     (λ (started : (w.pages.map_pages < y.block) × (w.pages.kind y.block ≡ Regular) × (need ≤ page_room (bytes_of w.tuple) y.block)).
     (started.0, ordered.below y.block (λ is. subst IsNotStarted (sym is ∙ started.1) tt)))
     (λ (next : (w.pages.kind y.block ≡ Unstarted) × (y.block < w.pages.limit)). (
-      ⊎_elim
-          (λ (past : w.pages.map_pages < y.block). past)
-          (λ (inside : y.block ≤ w.pages.map_pages). absurd (subst IsNotStarted (sym next.0 ∙ ordered.map y.block inside) tt))
-          (lt_or_ge w.pages.map_pages y.block),
+      elim (lt_or_ge w.pages.map_pages y.block) [ inl past ↦ past | inr inside ↦ absurd (subst IsNotStarted (sym next.0 ∙ ordered.map y.block inside) tt) ],
       next.1,
     ))
     (put_place w s range need y verdict).1
@@ -108,33 +103,25 @@ put_past_map w s range need y ordered verdict = ⊎_elim
 fits_or_moves : (w : IndexView) (x : Spot) (new : IndexTuple) → w.pages.kind x.block ≡ Regular → length new.bytes ≤ place_room (bytes_of w.tuple) x
     → MustMove w.pages (bytes_of w.tuple) x (length new.bytes)
     → ⊥
-fits_or_moves w x new regular room must = ⊎_elim
-    (λ (other : w.pages.kind x.block ≢ Regular). other regular)
-    (λ (tight : place_room (bytes_of w.tuple) x < length new.bytes). apart (length new.bytes) (place_room (bytes_of w.tuple) x) room tight)
-    must
-  where
-    apart : (n m : ℕ) → n ≤ m → m < n → ⊥
-    apart n m le less = omega arith
+fits_or_moves w x new regular room must = elim must [ inl other ↦ other regular | inr tight ↦ not-le_of_lt tight room ]
 
 pub swap_once : (w : IndexView) (s range : ℕ) (x : Spot) (old new : IndexTuple) (p q : Verdict) → SwapVerdict w s range x old new p
     → SwapVerdict w s range x old new q → p ≡ q
-swap_once w s range x old new _ _ (SwapWaits locked) (SwapWaits locked') = refl
 swap_once w s range x old new _ _ (SwapWaits locked) (SwapDiffers free not) = absurd (free_not_locked w s x.block free locked)
 swap_once w s range x old new _ _ (SwapWaits locked) (SwapFits free here kind room) = absurd (free_not_locked w s x.block free locked)
 swap_once w s range x old new _ q (SwapWaits locked) (SwapMoves verdict free here must puts) = absurd (free_not_locked w s x.block free locked)
 swap_once w s range x old new _ _ (SwapDiffers free not) (SwapWaits locked) = absurd (free_not_locked w s x.block free locked)
-swap_once w s range x old new _ _ (SwapDiffers free not) (SwapDiffers free' not') = refl
 swap_once w s range x old new _ _ (SwapDiffers free not) (SwapFits free' here kind room) = absurd (not here)
 swap_once w s range x old new _ q (SwapDiffers free not) (SwapMoves verdict free' here must puts) = absurd (not here)
 swap_once w s range x old new _ _ (SwapFits free here kind room) (SwapWaits locked) = absurd (free_not_locked w s x.block free locked)
 swap_once w s range x old new _ _ (SwapFits free here kind room) (SwapDiffers free' not) = absurd (not here)
-swap_once w s range x old new _ _ (SwapFits free here kind room) (SwapFits free' here' kind' room') = refl
 swap_once w s range x old new _ q (SwapFits free here kind room) (SwapMoves verdict free' here' must puts) = absurd (fits_or_moves w x new kind room must)
 swap_once w s range x old new p _ (SwapMoves verdict free here must puts) (SwapWaits locked) = absurd (free_not_locked w s x.block free locked)
 swap_once w s range x old new p _ (SwapMoves verdict free here must puts) (SwapDiffers free' not) = absurd (not here)
 swap_once w s range x old new p _ (SwapMoves verdict free here must puts) (SwapFits free' here' kind room) = absurd (fits_or_moves w x new kind room must)
 swap_once w s range x old new p q (SwapMoves verdict free here must puts) (SwapMoves verdict' free' here' must' puts') =
     put_once w s range (length new.bytes) p q puts puts'
+swap_once w s range x old new _ _ _ _ = refl
 
 pub clear_once : (w : IndexView) (s range : ℕ) (x : Spot) (p q : Verdict) → ClearVerdict w s range x p → ClearVerdict w s range x q → p ≡ q
 clear_once w s range x _ _ (ClearWaits q locked) (ClearWaits q' locked') =

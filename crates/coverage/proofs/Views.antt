@@ -8,9 +8,9 @@ use Rattle.coverage.specs.Changes.{SameHeap, SameMap, SameTuples, SameUnnamed, O
 use Rattle.coverage.specs.Statements.{OnIndex, Empty, Phase, Statement, Idle, Inserting, Maintaining, Holding, Scanning}
 use Rattle.coverage.specs.Knowing.{LocksNone, Spares}
 use Rattle.coverage.specs.Steps.{ReadsIndex, SummariseLockPasses, Rests, Turned}
-use Rattle.coverage.specs.Table.{Index, TableScan, Task, Resting, Reaches, Asks, Inserts, Considers, Maintains, Prunes, SweepsFrom, Sweeps, Restarts, Scans}
-use Rattle.coverage.specs.Table.{Marks, TableState, pick, on_index_by, inserting_of, held_at, scan_at, seen_by, index_state, index_view_at}
-use Rattle.coverage.specs.TableSteps.{TaskTurns, SameRows, BeginsWith, Summarize, SummarizeOne, Work, Desummarize, Vacuum, HasPut, SeesPlace}
+use Rattle.coverage.specs.Table.{Index, TableScan, Task, Resting, Reaches, Asks, Inserts, Maintains, Scans, Marks, TableState, pick, on_index_by, inserting_of}
+use Rattle.coverage.specs.Table.{held_at, scan_at, seen_by, index_state, index_view_at}
+use Rattle.coverage.specs.TableSteps.{TaskTurns, SameRows, BeginsWith, Summarize, HasPut, SeesPlace}
 
 pub pick_same : (i : ℕ) → {A : Type 0} → (a b : A) → pick i i a b ≡ a
 pick_same zero a b = refl
@@ -75,35 +75,23 @@ inserting_put b k c j r q None on_index e = absurd (idle_not b k r on_index e)
   where
     is_idle : Statement → Type 0
     is_idle Idle = Unit {0}
-    is_idle (Inserting b k r on_index) = ⊥
-    is_idle (Maintaining range phase) = ⊥
-    is_idle Holding = ⊥
-    is_idle (Scanning scan) = ⊥
+    is_idle _ = ⊥
 
     idle_not : (b k : ℕ) (r : Row) (on_index : OnIndex) → Idle ≡ Inserting b k r on_index → ⊥
     idle_not b k r on_index e = subst is_idle e tt
 inserting_put b k c j r q (Some g) on_index e = (ap block_of e, ap slot_of e)
   where
     block_of : Statement → ℕ
-    block_of Idle = 0
     block_of (Inserting b k r on_index) = b
-    block_of (Maintaining range phase) = 0
-    block_of Holding = 0
-    block_of (Scanning scan) = 0
+    block_of _ = 0
 
     slot_of : Statement → ℕ
-    slot_of Idle = 0
     slot_of (Inserting b k r on_index) = k
-    slot_of (Maintaining range phase) = 0
-    slot_of Holding = 0
-    slot_of (Scanning scan) = 0
+    slot_of _ = 0
 
 abbrev IsInserting : Statement → Type 0
-IsInserting Idle = ⊥
 IsInserting (Inserting c j q on_index) = Unit
-IsInserting (Maintaining range phase) = ⊥
-IsInserting Holding = ⊥
-IsInserting (Scanning scan) = ⊥
+IsInserting _ = ⊥
 
 is_inserting : (b k : ℕ) (r : Row) (on_index : OnIndex) (d : Statement) → d ≡ Inserting b k r on_index → IsInserting d
 is_inserting b k r on_index d e = subst IsInserting (sym e) tt
@@ -120,14 +108,10 @@ seen_put i b k r on_index Resting e = absurd (is_inserting b k r on_index Idle e
 seen_put i b k r on_index (Reaches c j q at) e = inserting_put b k c j r q (on_index_by i at Empty) on_index e
 seen_put i b k r on_index (Asks c j q at) e = inserting_put b k c j r q (on_index_by i at Empty) on_index e
 seen_put i b k r on_index (Inserts c j q at g) e = inserting_put b k c j r q (on_index_by i at g) on_index e
-seen_put i b k r on_index (Considers job at range) e = absurd (is_inserting b k r on_index Holding e)
 seen_put i b k r on_index (Maintains job at range phase) e = absurd (pick_not_inserting i at range phase (is_inserting b k r on_index _ e))
-seen_put i b k r on_index (Prunes extent next) e = absurd (is_inserting b k r on_index Holding e)
-seen_put i b k r on_index (SweepsFrom at from) e = absurd (is_inserting b k r on_index Holding e)
-seen_put i b k r on_index (Sweeps at page) e = absurd (is_inserting b k r on_index Holding e)
-seen_put i b k r on_index (Restarts at) e = absurd (is_inserting b k r on_index Holding e)
 seen_put i b k r on_index (Scans scan) e = absurd (is_inserting b k r on_index (Scanning (scan_at i scan)) e)
 seen_put i b k r on_index (Marks scan ids) e = absurd (is_inserting b k r on_index Idle e)
+seen_put i b k r on_index _ e = absurd (is_inserting b k r on_index Holding e)
 
 -- rows that no statement of the table has put or sees are spared in each index
 spares_on_index : (dropped : ℕ → ℕ → Bool) (b k : ℕ) (r : Row) (o : Option OnIndex) → (IsTrue (dropped b k) → ⊥) → Spares dropped (inserting_of b k r o)
@@ -142,18 +126,12 @@ spares_pick dropped (suc i) (suc at) range phase = spares_pick dropped i at rang
 
 pub seen_spares : (dropped : ℕ → ℕ → Bool) (i : ℕ) (task : Task) → ((b k : ℕ) → IsTrue (dropped b k) → (HasPut b k task ⊎ SeesPlace b k task) → ⊥)
     → Spares dropped (seen_by i task)
-seen_spares dropped i Resting alive = tt
 seen_spares dropped i (Reaches b k r at) alive = spares_on_index dropped b k r (on_index_by i at Empty) (λ dead. alive b k dead (inl (refl, refl)))
 seen_spares dropped i (Asks b k r at) alive = spares_on_index dropped b k r (on_index_by i at Empty) (λ dead. alive b k dead (inl (refl, refl)))
 seen_spares dropped i (Inserts b k r at on_index) alive = spares_on_index dropped b k r (on_index_by i at on_index) (λ dead. alive b k dead (inl (refl, refl)))
-seen_spares dropped i (Considers job at range) alive = tt
 seen_spares dropped i (Maintains job at range phase) alive = spares_pick dropped i at range phase
-seen_spares dropped i (Prunes extent next) alive = tt
-seen_spares dropped i (SweepsFrom at from) alive = tt
-seen_spares dropped i (Sweeps at page) alive = tt
-seen_spares dropped i (Restarts at) alive = tt
 seen_spares dropped i (Scans scan) alive = λ b k sees dead. alive b k dead (inr sees)
-seen_spares dropped i (Marks scan ids) alive = tt
+seen_spares dropped i _ alive = tt
 
 -- where index i is the same
 module _ (i s : ℕ) (w v : TableState) (index : v.index i ≡ w.index i) where
@@ -256,7 +234,4 @@ scan_of task = None
 
 pub begins_no_scan : (w : TableState) (first : Task) → BeginsWith w first → scan_of first ≡ None
 begins_no_scan w _ (Summarize at below) = refl
-begins_no_scan w _ (SummarizeOne at only below) = refl
-begins_no_scan w _ (Work at only below) = refl
-begins_no_scan w _ (Desummarize at only below) = refl
-begins_no_scan w _ Vacuum = refl
+begins_no_scan w _ _ = refl

@@ -6,8 +6,8 @@ use Rattle.coverage.specs.IndexView.{IndexTuple, PageKind, Unstarted, Mapping, R
 use Rattle.coverage.specs.Changes.{IsFree}
 use Rattle.coverage.specs.Verdicts.{IsLocked, IsFirstLocked, Verdict, Waits, PutVerdict}
 use Rattle.coverage.specs.Statements.{Copied, Phase, Vacant, IsAt}
-use Rattle.coverage.specs.Waiting.{IsNextTuple, Grows}
-use Rattle.coverage.specs.Waiting.{IsPhaseWaiting, FinalWaits, PlaceWaits, GrowWaits, CountWaits, FlagWaits, EvacuateWaits, EvacuatePutWaits, TurnWaits}
+use Rattle.coverage.specs.Waiting.{IsNextTuple, Grows, IsPhaseWaiting, FinalWaits, PlaceWaits, GrowWaits, CountWaits, FlagWaits, EvacuateWaits}
+use Rattle.coverage.specs.Waiting.{EvacuatePutWaits, TurnWaits}
 use Rattle.coverage.proofs.Verdicts.{free_not_locked, first_locked_once, first_is_locked, put_once, swap_once, put_waits, swap_waits}
 use Rattle.coverage.proofs.NextSteps.{next_once}
 

@@ -4,8 +4,6 @@ use Rattle.disk_trait.specs.Told.{Told}
 use Rattle.store_layout.specs.declared.limits.TheConstants.{MAX_ENTRIES}
 use Rattle.store_layout.specs.declared.statement.Statement.{Statement}
 use Rattle.store_layout.specs.declared.statement.Statement.TheVariants as statements
-use Rattle.store_layout.specs.DiskLayout.{DiskLayout, IsPlace, page_offset}
-use Rattle.block_model.specs.declared.place.Place.{Place}
 use Rattle.page_locks.specs.LockCounts.{locks_of}
 use Rattle.page_locks.specs.RightHolders.{right_of}
 use Rattle.page_map.specs.declared.faults.StoreError.TheVariants as errors
@@ -36,10 +34,6 @@ pub record LeavesSessions {D : Type 0} (told : D → Told) (old new : StoreState
 -- where a disk fault wasn't kept, none is now
 abbrev pub StaysReady : {D : Type 0} → View D → View D → Type 0
 StaysReady old new = (old.failed ≡ None) × (new.failed ≡ None)
-
--- a page of the layout begins there
-abbrev pub IsPageOffset : DiskLayout → ℕ → Type 0
-IsPageOffset layout at = (place : Place) × IsPlace layout place × (at ≡ page_offset layout place)
 
 -- Why a step isn't done, by the pages' disk. A disk fault comes only where the count of faults rose, and is kept with the count; from then
 -- on each step answers it. A page is damaged only where the disk doesn't tell its contents.

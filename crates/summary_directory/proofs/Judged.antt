@@ -1,5 +1,5 @@
 -- the blocks that are listed are the given ones
-use Rattle.std.proofs.Common.{◌≡◌, ℕ, zero, suc, ◌/◌, Bool, true, List, [], ◌∷◌, map, get_or, Option, None, Some, Result, Ok, Err, refl, sym, ap, ◌∙◌, zero-le}
+use Rattle.std.proofs.Common.{◌≡◌, ℕ, zero, suc, ◌/◌, true, List, [], ◌∷◌, map, get_or, Option, None, Some, Result, Ok, Err, refl, sym, ap, ◌∙◌, zero-le}
 use Rattle.std.specs.Prelude.{slice_index, slice_index_or}
 use Rattle.std.specs.List.{filter, list_all, range_with_len}
 use Rattle.std.proofs.lemmas.List.{get_or_past}

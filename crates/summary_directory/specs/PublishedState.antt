@@ -1,5 +1,5 @@
 -- what posts show, one after the other
-use Rattle.std.specs.Prelude.{ℕ, ◌==◌, ◌&&◌, if◌then◌else◌, List, fold, None, Some}
+use Rattle.std.specs.Prelude.{◌==◌, ◌&&◌, if◌then◌else◌, List, fold, None, Some}
 use Rattle.summary_directory.specs.Shown.{Shown}
 use Rattle.summary_directory.specs.declared.post.Post.{Post}
 use Rattle.summary_directory.specs.declared.post.Post.TheVariants.{Set, Clear, Extent}

@@ -1,5 +1,5 @@
 -- posts as a shelf takes them in
-use Rattle.std.specs.Prelude.{ℕ, ◌+◌, List, [], fold, slice_index, slice_index_or, None, Some}
+use Rattle.std.specs.Prelude.{◌+◌, List, [], fold, slice_index, slice_index_or, None, Some}
 use Rattle.summary_directory.specs.Shown.{Shown}
 use Rattle.summary_directory.specs.Places.{placed}
 use Rattle.summary_directory.specs.declared.post.Post.{Post}

@@ -1,5 +1,4 @@
 use Rattle.std.proofs.Common.{ℕ, ◌<◌, length}
-use Rattle.store_layout.specs.DiskLayout.{DiskLayout}
 use Rattle.range_tuple.specs.SoundTuples.{AreSoundTuples}
 use Rattle.index_steps.specs.IndexTuples.{classes_of, shape_of}
 use Rattle.index_steps.proofs.Shapes.{indexed, lawful_shape, room_is}

@@ -1,4 +1,4 @@
-use Rattle.std.proofs.Common.{◌≡◌, fold, ap, ◌∙◌}
+use Rattle.std.proofs.Common.{fold, ap, ◌∙◌}
 use Rattle.summary_directory.specs.Rule.{kept}
 use Rattle.summary_directory.specs.ShelfFold.{step}
 use Rattle.summary_directory.proofs.Steps.{publishes, match_both, counted}

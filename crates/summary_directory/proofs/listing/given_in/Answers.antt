@@ -1,5 +1,4 @@
 use Rattle.std.proofs.Common.{◌≡◌, ℕ, List, map, slice_index, ap, ◌∙◌}
-use Rattle.block_model.specs.declared.row.Cond.{Cond}
 use Rattle.block_model.specs.declared.row.Query.{Query}
 use Rattle.summary_directory.specs.declared.kept.Kept.{Kept}
 use Rattle.summary_directory.specs.Rule.{kept}
