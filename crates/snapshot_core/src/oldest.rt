@@ -40,6 +40,5 @@ fn is_earlier(one: &Snapshot, other: &Snapshot) -> bool
     ensures { result ≡ is_earlier one.now other.now }
 {
     one.next < other.next
-        || (one.next == other.next
-            && other.active.as_slice().len() < one.active.as_slice().len())
+        || (one.next == other.next && other.active.as_slice().len() < one.active.as_slice().len())
 }
