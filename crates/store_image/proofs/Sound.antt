@@ -247,21 +247,23 @@ module _ (layout : DiskLayout) (pages : PageMap) (limits : KeepsLimits layout.sc
     pub sound_image : (table : CommittedTable) × IsStoreImage layout pages table
     sound_image =
         let found = statuses_found layout pages sizes started in
-        let database = rest_shown layout pages found.0 found.1 found.2 found.3 started blocks sound.ids (begun found.1 found.0 found.2) in
-        (_, record {
-          next = found.0;
-          database = database;
-          tables = λ n below.
-              let its = blocks n below in
-              record {
-                blocks = its.0;
-                has = its.1;
-                unnamed = unnamed n;
-                rest = λ locks unlocked. table_rests sound whole found.0 database.stored database.has locks unlocked n its.0 its.1;
-                covered = λ locks unlocked. table_covered sound whole found.0 database.stored database.has locks unlocked n its.0 its.1;
-              };
-          order = sound.order;
-        })
+        let database = rest_shown layout pages found.0 found.1 found.2 found.3 started blocks sound.ids (begun found.1 found.0 found.2) in (
+          _,
+          record {
+            next = found.0;
+            database = database;
+            tables = λ n below.
+                let its = blocks n below in
+                record {
+                  blocks = its.0;
+                  has = its.1;
+                  unnamed = unnamed n;
+                  rest = λ locks unlocked. table_rests sound whole found.0 database.stored database.has locks unlocked n its.0 its.1;
+                  covered = λ locks unlocked. table_covered sound whole found.0 database.stored database.has locks unlocked n its.0 its.1;
+                };
+            order = sound.order;
+          },
+        )
 
   -- ---- from an image
 
