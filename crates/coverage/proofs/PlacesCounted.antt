@@ -18,7 +18,7 @@ one_less P Q x (suc m) is sub most = (
   refl,
   λ xs apart all.
       let with_x = most (x ∷ xs) ((λ among. (sub x (all x among)).1 refl), apart)
-          (λ y among. elim among [ inl same ↦ subst P (sym same) is | inr in_rest ↦ (sub y (all y in_rest)).0 ]) in
+      (λ y among. elim among [ inl same ↦ subst P (sym same) is | inr in_rest ↦ (sub y (all y in_rest)).0 ]) in
       omega arith,
 )
 

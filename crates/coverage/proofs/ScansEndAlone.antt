@@ -54,7 +54,7 @@ module _ (per extent range : ℕ) (ranged : 0 < per) where
   none_of_ranges : extent ≤ range * per → (extent + per - 1) / per ≤ range
   none_of_ranges high =
       let below = (div-lt_iff_lt-mul {k = per} {x = extent + per - 1} {y = suc range} ranged).1
-          (subst (λ n. extent + per - 1 < n) (sym (suc-mul range per)) (omega arith)) in
+      (subst (λ n. extent + per - 1 < n) (sym (suc-mul range per)) (omega arith)) in
       omega arith
 
 -- a tuple of the range stands at the place that the scan holds
@@ -251,7 +251,7 @@ module _ (s rows : ℕ) where
     step_within _ _ (DidMark scan id rest only) was now few =
         let settled = scan_settles s u v step.settles (Marks scan rest) tt now in
         let fewer = marks_within rows n u (λ i below. (kept_u.indexes i below).sound.ranged) scan rest (v.task s) settled.0 ends
-            (subst (λ z. Within rows n z (v.task s)) (same_table u v settled.1) (more (to_mark scan rest (v.task s) settled.0))) in
+        (subst (λ z. Within rows n z (v.task s)) (same_table u v settled.1) (more (to_mark scan rest (v.task s) settled.0))) in
         omega arith
       where
         to_mark : (scan : TableScan) (ids : List RowId) (t : Task) → Onward u (Marks scan ids) t → ToMark rows (table_of v) t

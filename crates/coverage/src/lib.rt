@@ -10,9 +10,9 @@ mod index_laws;
 mod table_laws;
 
 pub use index_laws::{
-    a_map_grows, a_page_with_room_is_not_full, a_range_is_summarised, an_insert_moves_a_tuple, changes_are_sound,
-    counts_are_exact, each_step_is_the_next_one, index_stays_covered, knowledge_is_stable,
-    opened_index_is_kept, others_go_on, results_are_exact, scans_miss_nothing,
+    a_map_grows, a_page_with_room_is_not_full, a_range_is_summarised, an_insert_moves_a_tuple,
+    changes_are_sound, counts_are_exact, each_step_is_the_next_one, index_stays_covered,
+    knowledge_is_stable, opened_index_is_kept, others_go_on, results_are_exact, scans_miss_nothing,
     settled_is_accounted, some_step_comes, steps_are_of_the_index, verdicts_are_exact,
 };
 pub use table_laws::{

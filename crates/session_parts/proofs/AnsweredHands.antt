@@ -96,8 +96,10 @@ module _ (s : ShownStore) (p : Place) (n : ℕ) (shown : IsPlaceOf s p) where
     where
       by : (look : Option Query) → MarkAnswers look marking answers → AnswersFit p n answers (statements.Delete marking.query)
       by (Some look) before = inl before.0
-      by None behind = inr (subst (λ (l : DiskLayout). marking.query.table < length l.schema.tables) (sym shown.layout) fit.1.table,
-          marks_there marking _ (there (hands.Marks marking) is marking.query.table fit.1.table))
+      by None behind = inr (
+        subst (λ (l : DiskLayout). marking.query.table < length l.schema.tables) (sym shown.layout) fit.1.table,
+        marks_there marking _ (there (hands.Marks marking) is marking.query.table fit.1.table),
+      )
   fits_by hand is fit answers are = tt
 
   pub in_place : (at : HandAt) → FitsHand s.layout own (hand_in s.hands n) → p.hands n ≡ Some at → IsAnsweredInPlace p n at
