@@ -97,7 +97,7 @@ run_end p q image further has =
       has = image_as q.layout q.layout (database_at q).table (table_behind q (length q.journal)) image refl (sym (behind_all q)) has;
     }
 
-run_later : (p q r : Place) (image : List ℕ) → IsFurther q r → IsOfRun p q image → IsOfRun p r image
+pub run_later : (p q r : Place) (image : List ℕ) → IsFurther q r → IsOfRun p q image → IsOfRun p r image
 run_later p q r image further of =
     let long = longer q r further in
     record {
@@ -107,12 +107,12 @@ run_later p q r image further of =
       has = image_as q.layout r.layout (table_behind q of.count) (table_behind r of.count) image (sym further.layout) (sym (same_behind q r of.count further of.most)) of.has;
     }
 
-run_earlier : (p q r : Place) (image : List ℕ) → IsFurther p q → IsOfRun q r image → IsOfRun p r image
+pub run_earlier : (p q r : Place) (image : List ℕ) → IsFurther p q → IsOfRun q r image → IsOfRun p r image
 run_earlier p q r image further of =
     let long = longer p q further in
     record { count = of.count; least = omega (arith, of.least, long); most = of.most; has = of.has }
 
-stop_earlier : (p q r : Place) (image : List ℕ) → IsFurther p q → IsOfStop q r image → IsOfStop p r image
+pub stop_earlier : (p q r : Place) (image : List ℕ) → IsFurther p q → IsOfStop q r image → IsOfStop p r image
 stop_earlier p q r image further (inl of) = inl (run_earlier p q r image further of)
 stop_earlier p q r image further (inr has) = inr has
 

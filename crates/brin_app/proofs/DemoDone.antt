@@ -1,5 +1,5 @@
 -- what is done for the demo, by what is done with its disk
-use Rattle.std.proofs.Common.{◌≡◌, ◌≢◌, ℕ, ◌≤◌, List, Option, None, Ok, Err, refl, sym, ◌∙◌, subst, arith, ◌⊎◌, inl, inr}
+use Rattle.std.proofs.Common.{◌≡◌, ◌≢◌, ℕ, ◌≤◌, List, [], ◌∷◌, Option, None, Ok, Err, refl, sym, ap, ◌∙◌, subst, arith, ◌⊎◌, inl, inr}
 use Rattle.std.specs.Prelude.{IsTrue}
 use Rattle.block_model.specs.Causes.{Rose, rose_earlier}
 use Rattle.block_model.specs.DatabaseState.{initial_state}
@@ -14,6 +14,9 @@ use Rattle.recovery.specs.declared.fault.StartFault.{StartFault}
 use Rattle.recovery.specs.declared.fault.StartFault.TheVariants as starts
 use Rattle.page_store.specs.Refused.{IsRefused}
 use Rattle.session_core.specs.FreshPages.{fresh_pages}
+use Rattle.demo_script.specs.Conversation.{Said}
+use Rattle.demo_script.specs.Played.{AreSaid}
+use Rattle.script_run.specs.declared.engine.AnswerFault.{AnswerFault}
 use Rattle.script_run.specs.declared.engine.AnswerFault.TheVariants.{Memory, Full, Disk, Damaged}
 use Rattle.script_run.specs.declared.fault.RunFault.TheVariants as faults
 use Rattle.script_run.specs.Runs.{RunEnd}
@@ -25,20 +28,37 @@ use Rattle.session_core.specs.StopRule.{AllHaveTable, IsImageWith}
 use Rattle.session_core.specs.OpenedParts.{ShowsStart}
 use Rattle.session_core.specs.Started.{ImagesStay, OpensTable}
 use Rattle.brin_app.specs.declared.top.Task.TheVariants.{Demo}
-use Rattle.brin_app.specs.CrashRule.{IsOfStop}
-use Rattle.brin_app.specs.DemoOutput.{DemoFillsJournal, DemoWrites, IsDemoOutput, IsDemoRun, IsFreshDemo, IsLeftOff}
+use Rattle.brin_app.specs.Asking.{IsLineAnswered}
+use Rattle.brin_app.specs.CrashRule.{Stand}
+use Rattle.brin_app.specs.DemoOutput.{AnswersOver, DemoFillsJournal, DemoWrites, IsCutOff, IsDemoOutput, IsDemoRun, IsFreshDemo, IsLeftOff}
 use Rattle.brin_app.specs.DemoSums.{SumsFresh}
-use Rattle.brin_app.specs.ScriptOutput.{EachImageHas, HoldsFresh, IsOldOrEmpty, IsOldOrNone, RunsThrough, StopsOfNewRun, StopsOfRun, exit_status}
+use Rattle.brin_app.specs.ScriptOutput.{EachImageHas, HoldsFresh, IsOldOrEmpty, exit_status}
 use Rattle.brin_app.specs.StatusCauses.{IsDoneSo}
 use Rattle.brin_app.specs.Statuses.{IsFit, IsStatus, IsUnfit, start_status}
-use Rattle.brin_app.proofs.Crash.{image_as, run_of}
-use Rattle.brin_app.proofs.Doing.{AreNotDamaged, HaveOneLayout, OpenToOneMap, fresh_start, has_store, held, idle, table_at, undamaged}
+use Rattle.brin_app.proofs.Doing.{AreNotDamaged, HaveOneLayout, OpenToOneMap, fresh_start, has_store, held, idle, undamaged}
 use Rattle.brin_app.proofs.Known.{is_6, is_9, same_status, start_known}
 
 -- ---- how it ends
 
-module _ (layout : DiskLayout) (seed rows : ℕ) (start after : Place) (k k' : Option (List ℕ)) where
-  no_room : (end : RunEnd) → DemoWrites end layout seed rows start after k k' → exit_status end ≡ 8 → IsLeftOff layout seed rows start after Full
+-- lines over stretches lead from place to place
+said_places : (layout : DiskLayout) (a b : Stand) (said : List Said) → AreSaid (AnswersOver layout) a said b → AreSaid (IsLineAnswered layout.schema) a.place said b.place
+said_places layout a b [] e = ap (λ (x : Stand). x.place) e
+said_places layout a b (one ∷ said) e = (e.0.place, e.1.so, said_places layout e.0 b said e.2)
+
+left_off : (layout : DiskLayout) (seed rows : ℕ) (a b : Stand) (fault : AnswerFault) → IsCutOff layout seed rows a b fault → IsLeftOff layout seed rows a.place b.place fault
+left_off layout seed rows a b fault cut = record {
+  front = cut.front;
+  is_front = cut.is_front;
+  state = cut.state.place;
+  said = said_places layout a cut.state cut.front cut.said;
+  stops = elim cut.stops [
+    | inl line ↦ inl (line.0, line.1, line.2, line.3.so)
+    | inr short ↦ inr (short.0, ap (λ (x : Stand). x.place) short.1)
+  ];
+}
+
+module _ (layout : DiskLayout) (seed rows : ℕ) (start after : Stand) (k k' : Option (List ℕ)) where
+  no_room : (end : RunEnd) → DemoWrites end layout seed rows start after k k' → exit_status end ≡ 8 → IsLeftOff layout seed rows start.place after.place Full
   no_room (Ok done) w e = absurd (omega (arith, e))
   no_room (Err faults.Read) w e = absurd w
   no_room (Err faults.Write) w e = absurd (omega (arith, e))
@@ -47,11 +67,11 @@ module _ (layout : DiskLayout) (seed rows : ℕ) (start after : Place) (k k' : O
   no_room (Err (faults.Unanswered Disk)) w e = absurd (omega (arith, e))
   no_room (Err (faults.Unanswered Damaged)) w e = absurd (omega (arith, e))
   no_room (Err (faults.Unanswered Full)) w e = elim w.1 [
-    | inl off ↦ off
+    | inl cut ↦ left_off layout seed rows start after Full cut
     | inr short ↦ absurd (let wrong : Full ≡ Memory = short.0 in cc)
   ]
 
-  to_its_end : (end : RunEnd) → DemoWrites end layout seed rows start after k k' → exit_status end ≢ 5 → exit_status end ≢ 6 → exit_status end ≢ 11 → ¬ (IsLeftOff layout seed rows start after Full)
+  to_its_end : (end : RunEnd) → DemoWrites end layout seed rows start after k k' → exit_status end ≢ 5 → exit_status end ≢ 6 → exit_status end ≢ 11 → ¬ (IsLeftOff layout seed rows start.place after.place Full)
       → (exit_status end ≡ 0) ⊎ (exit_status end ≡ 7)
   to_its_end (Ok done) w write disk_ damage room = inl refl
   to_its_end (Err faults.Read) w write disk_ damage room = absurd w
@@ -62,50 +82,37 @@ module _ (layout : DiskLayout) (seed rows : ℕ) (start after : Place) (k k' : O
   to_its_end (Err (faults.Unanswered Damaged)) w write disk_ damage room = absurd (damage refl)
   to_its_end (Err (faults.Unanswered Full)) w write disk_ damage room = absurd (room (no_room (Err (faults.Unanswered Full)) w refl))
 
-module _ (layout : DiskLayout) (seed rows : ℕ) (status : ℕ) (AnyMoment : Place → Place → Type 0) (new : Told) (k k' : Option (List ℕ)) (start : Place) (begins : IsStart layout start)
-    (o : IsDemoRun status layout seed rows AnyMoment new k k' start) where
+module _ (layout : DiskLayout) (seed rows : ℕ) (status : ℕ) (new : Told) (k k' : Option (List ℕ)) (start : Stand) (begins : IsStart layout start.place) (o : IsDemoRun status layout seed rows new k k' start) where
+  -- where it came to
+  abbrev after : Stand
+  after = record { place = o.after; disk = new }
+
   demo_spent : status ≡ 8 → DemoFillsJournal layout seed rows
-  demo_spent e = (start, begins, (o.after, no_room layout seed rows start o.after k k' o.end o.writes (sym o.status_is ∙ e)))
+  demo_spent e = (start.place, begins, (o.after, no_room layout seed rows start after k k' o.end o.writes (sym o.status_is ∙ e)))
 
   demo_complete : status ≢ 5 → status ≢ 6 → status ≢ 11 → ¬ (DemoFillsJournal layout seed rows) → (status ≡ 0) ⊎ (status ≡ 7)
   demo_complete write disk_ damage room =
       subst (λ (n : ℕ). (n ≡ 0) ⊎ (n ≡ 7)) (sym o.status_is)
-      (to_its_end layout seed rows start o.after k k' o.end o.writes (λ e. write (o.status_is ∙ e)) (λ e. disk_ (o.status_is ∙ e)) (λ e. damage (o.status_is ∙ e)) (λ off. room (start, begins, (o.after, off))))
+      (to_its_end layout seed rows start after k k' o.end o.writes (λ e. write (o.status_is ∙ e)) (λ e. disk_ (o.status_is ∙ e)) (λ e. damage (o.status_is ∙ e)) (λ off. room (start.place, begins, (o.after, off))))
 
 -- ---- over a store that was opened
-
-module _ (status : ℕ) (layout : DiskLayout) (seed rows : ℕ) (old mid new : Told) (k k' : Option (List ℕ)) (p : Place) where
-  -- from a moment before its start on
-  earlier_demo : ImagesStay old mid → IsDemoRun status layout seed rows (RunsThrough mid new) new k k' p → IsDemoRun status layout seed rows (StopsOfRun old new) new k k' p
-  earlier_demo stay o = record {
-    end = o.end;
-    status_is = o.status_is;
-    after = o.after;
-    writes = o.writes;
-    further = o.further;
-    any_moment = λ each.
-        joined old mid new (IsOfStop p o.after)
-        (weaker old mid (IsImageWith p.layout (database_at p).table) (IsOfStop p o.after) (stay p.layout (database_at p).table each) (λ image has. inl (run_of p o.after image o.further has)))
-        o.any_moment;
-    at_end = o.at_end;
-    whole = o.whole;
-  }
 
 module _ {D : Type 0} (told : D → Told) (one : HaveOneLayout) (old : Told) (s : StoreState D) (map : OpenToOneMap s.pages.layout)
     (there : IsTrue old.tells_contents → HasStore s.pages.layout old.size old.contents) (pages : IsTrue old.tells_contents → OpensAs s.pages.layout old.contents s.pages.pages)
     (same_tells : (told s.pages.disk).tells_contents ≡ old.tells_contents) (ready : s.pages.failed ≡ None) (opens : OpensTable told s) (stay : ImagesStay old (told s.pages.disk))
     (new : Told) (status seed rows : ℕ) (k k' : Option (List ℕ))
     (runs : (start : Place) → Tells told s.pages → s.pages.failed ≡ None → ShowsPlace s start → AllHaveTable told s.pages start
-    → IsDemoRun status s.pages.layout seed rows (RunsThrough (told s.pages.disk) new) new k k' start) where
+    → IsDemoRun status s.pages.layout seed rows new k k' (record { place = start; disk = told s.pages.disk })) where
   fresh_demo : (Tells told s.pages → s.pages.pages ≡ fresh_pages s.pages.layout → ShowsStart s.pages.layout s) → IsTrue old.tells_contents → (layout : DiskLayout) → HoldsFresh old layout → (left : Option (List ℕ))
       → IsFreshDemo status seed rows old new layout left left k k'
   fresh_demo begins tells layout fresh left =
       let start = fresh_start told one old s map there pages same_tells ready opens stay begins tells layout fresh in
+      let at : Stand = record { place = start.0; disk = told s.pages.disk } in
       inr (
-        start.0,
+        at,
         start.1,
-        subst (λ (m : DiskLayout). IsDemoRun status m seed rows (StopsOfRun old new) new k k' start.0) start.2
-            (earlier_demo status s.pages.layout seed rows old (told s.pages.disk) new k k' start.0 stay (runs start.0 (same_tells ∙ tells) ready start.3 start.4)),
+        record { any_moment = stay start.0.layout (database_at start.0).table; sure = start.4 },
+        subst (λ (m : DiskLayout). IsDemoRun status m seed rows new k k' at) start.2 (runs start.0 (same_tells ∙ tells) ready start.3 start.4),
       )
 
   pub opened_sums : IsStatus status → (w : Type 0) → (Tells told s.pages → s.pages.pages ≡ fresh_pages s.pages.layout → ShowsStart s.pages.layout s) → (status ≡ 5 → w) → (old.faults ≤ (told s.pages.disk).faults)
@@ -203,28 +210,6 @@ module _ (one : HaveOneLayout) (law : AreNotDamaged) (layout : DiskLayout) (seed
   }
 
   module _ (new : Told) (status : ℕ) (k k' : Option (List ℕ)) (made : EachImageHas mid layout initial_state.table) where
-    -- from before the store was made on
-    new_run : (p : Place) → IsStart layout p → IsDemoRun status layout seed rows (StopsOfRun mid new) new k k' p → IsDemoRun status layout seed rows (StopsOfNewRun old new) new k k' p
-    new_run p start o =
-        let table : initial_state.table ≡ (database_at p).table = sym (table_at p initial_state start.opening start.journal) in
-        let At = λ (image : List ℕ). IsOldOrNone old image ⊎ IsOfStop p o.after image in
-        let own = λ (image : List ℕ) (has : IsImageWith layout initial_state.table image). image_as layout p.layout initial_state.table (database_at p).table image (sym start.layout_is) table has in
-        record {
-          end = o.end;
-          status_is = o.status_is;
-          after = o.after;
-          writes = o.writes;
-          further = o.further;
-          any_moment = joined old mid new At
-              (weaker old mid (IsOldOrEmpty layout old) At moments (λ image at. elim at [
-                | inl was ↦ inl was
-                | inr has ↦ inr (inl (run_of p o.after image o.further (own image has)))
-              ]))
-              (weaker mid new (IsOfStop p o.after) At (o.any_moment (λ image now. own image (made image now))) (λ image of. inr of));
-          at_end = o.at_end;
-          whole = o.whole;
-        }
-
     unopened_why : (status ≡ 6) ⊎ (status ≡ 7) → (status ≡ 6) ⊎ ((status ≡ 7) ⊎ (status ≡ 9))
     unopened_why (inl six) = inl six
     unopened_why (inr seven) = inr (inl seven)
@@ -240,21 +225,21 @@ module _ (one : HaveOneLayout) (law : AreNotDamaged) (layout : DiskLayout) (seed
               any_moment = joined old mid new (IsOldOrEmpty layout old) moments (weaker mid new (IsImageWith layout initial_state.table) (IsOldOrEmpty layout old) (un.any_moment made) (λ image has. inr has));
             });
       }
-      new_output (inr run) = record { source = refl; run = λ tells. inr (run.0, run.1, new_run run.0 run.1 run.2) }
+      new_output (inr run) = record { source = refl; run = λ tells. inr (run.0, run.1, record { made = mid; any_moment = moments; empty = made; opened = run.2 }, run.3) }
 
       new_spent : IsFreshDemo status seed rows mid new layout l l k k' → status ≡ 8 → DemoFillsJournal layout seed rows
       new_spent (inl un) e = elim un.why [
         | inl six ↦ absurd (omega (arith, six, e))
         | inr seven ↦ absurd (omega (arith, seven, e))
       ]
-      new_spent (inr run) e = demo_spent layout seed rows status (StopsOfRun mid new) new k k' run.0 run.1 run.2 e
+      new_spent (inr run) e = demo_spent layout seed rows status new k k' run.0 run.1 run.3 e
 
       new_complete : status ≢ 5 → status ≢ 6 → status ≢ 11 → IsFreshDemo status seed rows mid new layout l l k k' → ¬ (DemoFillsJournal layout seed rows) → (status ≡ 0) ⊎ (status ≡ 7)
       new_complete write disk_ damage (inl un) room = elim un.why [
         | inl six ↦ absurd (disk_ six)
         | inr seven ↦ inr seven
       ]
-      new_complete write disk_ damage (inr run) room = demo_complete layout seed rows status (StopsOfRun mid new) new k k' run.0 run.1 run.2 write disk_ damage room
+      new_complete write disk_ damage (inr run) room = demo_complete layout seed rows status new k k' run.0 run.1 run.3 write disk_ damage room
 
     module _ (r w : Type 0) (holds : IsTrue old.tells_contents → HoldsFresh mid layout) (sums : SumsFresh status seed rows mid new k k' w) (fits_journal : ¬ (DemoFillsJournal layout seed rows)) where
       no_damage_then : status ≡ 11 → IsTrue old.tells_contents → ⊥

@@ -20,39 +20,38 @@ use Rattle.session_parts.specs.ShowsPlace.{ShowsPlace}
 use Rattle.session_parts.specs.StoreStates.{StoreState}
 use Rattle.brin_app.specs.declared.sessions.Sessions.{Sessions}
 use Rattle.brin_app.specs.Asking.{AsksLine, IsLineAnswered}
-use Rattle.brin_app.specs.DemoOutput.{DemoWrites, IsDemoRun, summary_at}
+use Rattle.brin_app.specs.CrashRule.{Stand}
+use Rattle.brin_app.specs.DemoOutput.{AnswersOver, DemoWrites, IsCutOff, IsDemoRun, IsPlayed, summary_at}
 use Rattle.brin_app.specs.DemoSums.{HasSummed, IsCounted}
 use Rattle.brin_app.specs.Leading.{HasStopCause}
-use Rattle.brin_app.specs.ScriptOutput.{RunsThrough, Stops, exit_status}
+use Rattle.brin_app.specs.ScriptOutput.{StopsOver, exit_status}
 use Rattle.brin_app.specs.SessionPlaces.{StopsLine}
 use Rattle.brin_app.specs.Simulations.{EndsAs}
-use Rattle.brin_app.proofs.Crash.{OnlyNow}
 use Rattle.brin_app.proofs.Leading.{cause_after, leaves_as_is, leaves_on}
-use Rattle.brin_app.proofs.Running.{EndsFrom, ShowsFrom, Stays, begun, further_at, led_from, ran_from, stopped_from, unbegun_at}
+use Rattle.brin_app.proofs.Running.{EndsFrom, ShowsFrom, Stays, begun, ends_with, led_from, start, stopped_from, unbegun_at}
 
 -- ---- from the first place on
 
 module _ {D : Type 0} (told : D → Told) (s : StoreState D) (p : Place) (seed rows : ℕ) where
-  said_from : (a b : Sessions D) (q : Place) (said : List Said) → ShowsFrom told s p a q → AreSaid (AsksLine told) a said b → (r : Place) × ShowsFrom told s p b r × AreSaid (IsLineAnswered s.pages.layout.schema) q said r
-  said_from a b q [] at e = (q, subst (λ (x : Sessions D). ShowsFrom told s p x q) (sym e) at, refl)
-  said_from a b q (one ∷ said) at e =
-      let first = led_from told s p a e.0 q (λ x y. IsLineAnswered a.store.pages.layout.schema x one.line one.answer y) at e.1 in
+  said_from : (a b : Sessions D) (x : Stand) (said : List Said) → ShowsFrom told s p a x → AreSaid (AsksLine told) a said b → (y : Stand) × ShowsFrom told s p b y × AreSaid (AnswersOver s.pages.layout) x said y
+  said_from a b x [] at e = (x, subst (λ (c : Sessions D). ShowsFrom told s p c x) (sym e) at, refl)
+  said_from a b x (one ∷ said) at e =
+      let first = led_from told s p a e.0 x (λ u v. IsLineAnswered a.store.pages.layout.schema u one.line one.answer v) at e.1 in
       let rest = said_from e.0 b first.0 said first.1 e.2 in
-      (rest.0, rest.1, (first.0, subst (λ (l : DiskLayout). IsLineAnswered l.schema q one.line one.answer first.0) at.leaves.layout first.2, rest.2))
+      (rest.0, rest.1, (first.0, subst (λ (l : DiskLayout). AnswersOver l x one.line one.answer first.0) at.leaves.layout first.2, rest.2))
 
-  module _ (a b : Sessions D) (q : Place) (at : ShowsFrom told s p a q) where
-    played_from : (counts : Counts) → HasPlayed (AsksLine told) seed rows a b counts → (r : Place) × ShowsFrom told s p b r × HasPlayed (IsLineAnswered s.pages.layout.schema) seed rows q r counts
+  module _ (a b : Sessions D) (x : Stand) (at : ShowsFrom told s p a x) where
+    played_from : (counts : Counts) → HasPlayed (AsksLine told) seed rows a b counts → (y : Stand) × ShowsFrom told s p b y × IsPlayed s.pages.layout seed rows x y counts
     played_from counts o =
-        let far = said_from a b q (o.rounds ++ o.last) at o.said in
+        let far = said_from a b x (o.rounds ++ o.last) at o.said in
         (far.0, far.1, record { rounds = o.rounds; last = o.last; demo = o.demo; said = far.2; counted = o.counted })
 
-    left_from : (fault : AnswerFault) → HasStopped (AsksLine told) (StopsLine told) seed rows a b fault
-        → (r : Place) × EndsFrom told s p fault b r × HasStopped (IsLineAnswered s.pages.layout.schema) (Stops s.pages.layout) seed rows q r fault
+    left_from : (fault : AnswerFault) → HasStopped (AsksLine told) (StopsLine told) seed rows a b fault → (y : Stand) × EndsFrom told s p fault b y × IsCutOff s.pages.layout seed rows x y fault
     left_from fault o =
-        let far = said_from a o.state q o.front at o.said in
+        let far = said_from a o.state x o.front at o.said in
         elim o.stops [
           | inl line ↦
-              let end = stopped_from told s p o.state b far.0 fault (λ x y. IsLineStopped o.state.store.pages.layout.schema x line.0 fault y) far.1 line.3 in (
+              let end = stopped_from told s p o.state b far.0 fault (λ u v. IsLineStopped o.state.store.pages.layout.schema u line.0 fault v) far.1 line.3 in (
                 end.0,
                 end.1,
                 record {
@@ -60,22 +59,22 @@ module _ {D : Type 0} (told : D → Told) (s : StoreState D) (p : Place) (seed r
                   is_front = o.is_front;
                   state = far.0;
                   said = far.2;
-                  stops = inl (line.0, line.1, line.2, subst (λ (l : DiskLayout). IsLineStopped l.schema far.0 line.0 fault end.0) far.1.leaves.layout end.2);
+                  stops = inl (line.0, line.1, line.2, subst (λ (l : DiskLayout). StopsOver l far.0 line.0 fault end.0) far.1.leaves.layout end.2);
                 },
               )
           | inr short ↦ (
             far.0,
-            subst (λ (f : AnswerFault). EndsFrom told s p f b far.0) (sym short.0) (subst (λ (x : Sessions D). EndsFrom told s p Memory x far.0) (sym short.1) (unbegun_at told s p o.state far.0 far.1)),
+            subst (λ (f : AnswerFault). EndsFrom told s p f b far.0) (sym short.0) (subst (λ (c : Sessions D). EndsFrom told s p Memory c far.0) (sym short.1) (unbegun_at told s p o.state far.0 far.1)),
             record { front = o.front; is_front = o.is_front; state = far.0; said = far.2; stops = inr (short.0, refl) },
           )
         ]
 
-    text_there : (text : List ℕ) (c : IsCounted told seed rows a b text) (r : Place) → ShowsFrom told s p b r → text ≡ summary_at c.counts r
-    text_there text c r at_end = c.text_is ∙ ap (summary_text c.counts) (c.shown at_end.tells r at_end.shown)
+    text_there : (text : List ℕ) (c : IsCounted told seed rows a b text) (y : Stand) → ShowsFrom told s p b y → text ≡ summary_at c.counts y.place
+    text_there text c y at_end = c.text_is ∙ ap (summary_text c.counts) (c.shown at_end.tells y.place at_end.shown)
 
     -- what was written, by how it ended
     summed_from : (k k' : Option (List ℕ)) (end : RunEnd) → HasSummed told seed rows a b k k' end
-        → (r : Place) × EndsAs (ShowsFrom told s p) (EndsFrom told s p) end b r × DemoWrites end s.pages.layout seed rows q r k k'
+        → (y : Stand) × EndsAs (ShowsFrom told s p) (EndsFrom told s p) end b y × DemoWrites end s.pages.layout seed rows x y k k'
     summed_from k k' (Ok done) h =
         let far = played_from h.1.counts h.1.played in
         (far.0, far.1, (h.1.counts, far.2, subst (Appends k k') (text_there h.0 h.1 far.0 far.1) h.2))
@@ -97,27 +96,24 @@ module _ {D : Type 0} (told : D → Told) (s : StoreState D) (p : Place) (seed r
   -- ---- a run
 
   module _ (a b : Sessions D) (end : RunEnd) (k k' : Option (List ℕ)) (summed : HasSummed told seed rows a b k k' end) where
-    with_disk : (status : ℕ) → status ≡ exit_status end → ShowsFrom told s p a p → AllHaveTable told s.pages p
-        → IsDemoRun status s.pages.layout seed rows (RunsThrough (told s.pages.disk) (told b.store.pages.disk)) (told b.store.pages.disk) k k' p
-    with_disk status said start all =
-        let far = summed_from a b p start k k' end summed in
-        let x = ran_from told s p end b far.0 far.1 all in
+    with_disk : (status : ℕ) → status ≡ exit_status end → ShowsFrom told s p a (start told s p) → IsDemoRun status s.pages.layout seed rows (told b.store.pages.disk) k k' (start told s p)
+    with_disk status said begins =
+        let far = summed_from a b (start told s p) begins k k' end summed in
+        let x = ends_with told s p end b far.0 far.1 in
         record {
           end = end;
           status_is = said;
-          after = far.0;
-          writes = far.2;
-          further = further_at told s p end b far.0 far.1;
-          any_moment = x.moments;
-          at_end = x.images;
-          whole = λ not. x.whole (λ six. not (said ∙ six));
+          after = far.0.place;
+          writes = subst (λ (d : Told). DemoWrites end s.pages.layout seed rows (start told s p) (record { place = far.0.place; disk = d }) k k') (sym x.disk) far.2;
+          further = x.further;
+          at_end = x.tables.images;
+          whole = λ not. x.tables.whole (λ six. not (said ∙ six));
         }
 
-    pub demo_run : (status : ℕ) (disk : D) → a.store ≡ s → disk ≡ b.store.pages.disk → status ≡ exit_status end → OnlyNow told s.pages → Tells told s.pages → s.pages.failed ≡ None → ShowsPlace s p
-        → AllHaveTable told s.pages p → IsDemoRun status s.pages.layout seed rows (RunsThrough (told s.pages.disk) (told disk)) (told disk) k k' p
-    demo_run status disk same is said only tells ready shown all =
-        subst (λ (d : D). IsDemoRun status s.pages.layout seed rows (RunsThrough (told s.pages.disk) (told d)) (told d) k k' p) (sym is)
-        (with_disk status said (begun told s p a same only tells ready shown) all)
+    pub demo_run : (status : ℕ) (disk : D) → a.store ≡ s → disk ≡ b.store.pages.disk → status ≡ exit_status end → Tells told s.pages → s.pages.failed ≡ None → ShowsPlace s p → AllHaveTable told s.pages p
+        → IsDemoRun status s.pages.layout seed rows (told disk) k k' (start told s p)
+    demo_run status disk same is said tells ready shown all =
+        subst (λ (d : D). IsDemoRun status s.pages.layout seed rows (told d) k k' (start told s p)) (sym is) (with_disk status said (begun told s p a same tells ready shown all))
 
 -- ---- causes, over any disk
 

@@ -33,12 +33,12 @@ use Rattle.session_core.specs.OpenedParts.{ShowsStart}
 use Rattle.session_core.specs.Started.{HoldsImage, ImagesStay, OpensTable}
 use Rattle.brin_app.specs.declared.top.Task.{Task}
 use Rattle.brin_app.specs.declared.top.Task.TheVariants.{Demo, Init, Run, RunStored}
-use Rattle.brin_app.specs.CrashRule.{IsOfStop}
-use Rattle.brin_app.specs.ScriptOutput.{EachImageHas, HoldsFresh, HoldsTable, IsFreshOutput, IsIdle, IsMade, IsOldOrEmpty, IsOldOrNone, IsScriptRun, IsUnopened, RunsThrough, StartsOver, StopsOfNewRun, StopsOfRun}
+use Rattle.brin_app.specs.CrashRule.{Stand}
+use Rattle.brin_app.specs.ScriptOutput.{EachImageHas, HoldsFresh, HoldsTable, IsFreshOutput, IsIdle, IsMade, IsOldOrEmpty, IsOpenedAt, IsScriptRun, IsUnopened, StartsOver}
 use Rattle.brin_app.specs.StatusCauses.{HasSpentCauses, IsCompleteOf, IsDoneSo, IsRefusedSo, IsSpentOf}
 use Rattle.brin_app.specs.Statuses.{IsFit, IsStatus, IsUnfit, start_status}
 use Rattle.brin_app.specs.TaskOutputs.{IsOutputOf}
-use Rattle.brin_app.proofs.Crash.{image_as, run_of}
+use Rattle.brin_app.proofs.Crash.{image_as}
 use Rattle.brin_app.proofs.Known.{is_0, is_6, is_9, same_status, start_known}
 use Rattle.brin_app.proofs.Outputs.{idle_spent, run_complete, run_spent}
 
@@ -233,23 +233,6 @@ module _ (one : HaveOneLayout) (law : AreNotDamaged) (old new : Told) (l k : Opt
 pub table_at : (p : Place) (opening : DatabaseState) → p.opening ≡ opening → p.journal ≡ [] → (database_at p).table ≡ opening.table
 table_at p opening is none = ap (λ (j : List Entry). (serial_run p.opening j).table) none ∙ ap (λ (o : DatabaseState). o.table) is
 
--- from a moment before its start on
-earlier_run : (status : ℕ) (layout : DiskLayout) (old mid new : Told) (l l' k k' : Option (List ℕ)) (p : Place) → ImagesStay old mid → IsScriptRun status layout (RunsThrough mid new) new l l' k k' p
-    → IsScriptRun status layout (StopsOfRun old new) new l l' k k' p
-earlier_run status layout old mid new l l' k k' p stay o = record {
-  end = o.end;
-  status_is = o.status_is;
-  after = o.after;
-  ran = o.ran;
-  further = o.further;
-  any_moment = λ each.
-      joined old mid new (IsOfStop p o.after)
-      (weaker old mid (IsImageWith p.layout (database_at p).table) (IsOfStop p o.after) (stay p.layout (database_at p).table each) (λ image has. inl (run_of p o.after image o.further has)))
-      o.any_moment;
-  at_end = o.at_end;
-  whole = o.whole;
-}
-
 module _ {D : Type 0} (told : D → Told) (one : HaveOneLayout) (old : Told) (s : StoreState D) (map : OpenToOneMap s.pages.layout)
     (there : IsTrue old.tells_contents → HasStore s.pages.layout old.size old.contents) (pages : IsTrue old.tells_contents → OpensAs s.pages.layout old.contents s.pages.pages)
     (same_tells : (told s.pages.disk).tells_contents ≡ old.tells_contents) (ready : s.pages.failed ≡ None) (opens : OpensTable told s) (stay : ImagesStay old (told s.pages.disk)) where
@@ -310,24 +293,29 @@ module _ {D : Type 0} (told : D → Told) (one : HaveOneLayout) (old : Told) (s 
 
   module _ (new : Told) (status : ℕ) (l l' k k' : Option (List ℕ))
       (runs : (start : Place) → Tells told s.pages → s.pages.failed ≡ None → ShowsPlace s start → AllHaveTable told s.pages start
-      → IsScriptRun status s.pages.layout (RunsThrough (told s.pages.disk) new) new l l' k k' start) where
-    run_at : (layout : DiskLayout) → s.pages.layout ≡ layout → IsTrue old.tells_contents → (start : Place) → ShowsPlace s start → AllHaveTable told s.pages start
-        → IsScriptRun status layout (StopsOfRun old new) new l l' k k' start
-    run_at layout same tells start shown all =
-        subst (λ (m : DiskLayout). IsScriptRun status m (StopsOfRun old new) new l l' k k' start) same
-        (earlier_run status s.pages.layout old (told s.pages.disk) new l l' k k' start stay (runs start (same_tells ∙ tells) ready shown all))
+      → IsScriptRun status s.pages.layout new l l' k k' (record { place = start; disk = told s.pages.disk })) where
+    -- from a place that the store shows
+    abbrev pub RunsFrom : DiskLayout → (Place → Type 0) → Type 0
+    RunsFrom layout Starts = (start : Stand) × Starts start.place × IsOpenedAt old start × IsScriptRun status layout new l l' k k' start
 
-    pub stored_run : IsTrue old.tells_contents → (layout : DiskLayout) (table : TableState) (holds : HoldsTable old layout table)
-        → (start : Place) × StartsOver layout holds.pages holds.image.next table start × IsScriptRun status layout (StopsOfRun old new) new l l' k k' start
+    run_at : (layout : DiskLayout) (Starts : Place → Type 0) → s.pages.layout ≡ layout → IsTrue old.tells_contents → (start : Place) → Starts start → ShowsPlace s start → AllHaveTable told s.pages start → RunsFrom layout Starts
+    run_at layout Starts same tells start starts shown all =
+        let at : Stand = record { place = start; disk = told s.pages.disk } in (
+          at,
+          starts,
+          record { any_moment = stay start.layout (database_at start).table; sure = all },
+          subst (λ (m : DiskLayout). IsScriptRun status m new l l' k k' at) same (runs start (same_tells ∙ tells) ready shown all),
+        )
+
+    pub stored_run : IsTrue old.tells_contents → (layout : DiskLayout) (table : TableState) (holds : HoldsTable old layout table) → RunsFrom layout (StartsOver layout holds.pages holds.image.next table)
     stored_run tells layout table holds =
-        let same = its_layout layout table tells holds in
         let start = its_opening layout table tells holds holds.image in
-        (start.0, start.1, run_at layout same tells start.0 start.2 start.3)
+        run_at layout (StartsOver layout holds.pages holds.image.next table) (its_layout layout table tells holds) tells start.0 start.1 start.2 start.3
 
     pub fresh_run : (Tells told s.pages → s.pages.pages ≡ fresh_pages s.pages.layout → ShowsStart s.pages.layout s) → IsFreshOutput status old new l l' k k'
     fresh_run begins tells layout fresh =
         let start = fresh_start begins tells layout fresh in
-        inr (start.0, start.1, run_at layout start.2 tells start.0 start.3 start.4)
+        inr (run_at layout (IsStart layout) start.2 tells start.0 start.1 start.3 start.4)
 
     -- whatever the disk tells is a store's
     held_here : HoldsImage old → IsTrue old.tells_contents → ((layout : DiskLayout) (table : TableState) → HoldsTable old layout table → ⊥) → ⊥
@@ -351,10 +339,10 @@ module _ {D : Type 0} (told : D → Told) (one : HaveOneLayout) (old : Told) (s 
           no_usage = others.0;
           spent = λ tells layout table holds.
               let run = stored_run tells layout table holds in
-              run_spent (StartsOver layout holds.pages holds.image.next table) layout status (StopsOfRun old new) new run.0 run.1 l l' k k' run.2;
+              run_spent (StartsOver layout holds.pages holds.image.next table) layout status new run.0 run.1 l l' k k' run.3;
           complete = λ no_read no_write no_disk tells layout table holds.
               let run = stored_run tells layout table holds in
-              run_complete (StartsOver layout holds.pages holds.image.next table) layout status (StopsOfRun old new) new run.0 run.1 l l' k k' run.2 (λ e. no_read (read e)) (λ e. no_write (write e)) (λ e. no_disk (rose e))
+              run_complete (StartsOver layout holds.pages holds.image.next table) layout status new run.0 run.1 l l' k k' run.3 (λ e. no_read (read e)) (λ e. no_write (write e)) (λ e. no_disk (rose e))
               (λ e. damage e (same_tells ∙ tells) ready);
         }
 
@@ -393,27 +381,9 @@ module _ (one : HaveOneLayout) (law : AreNotDamaged) (layout : DiskLayout) (old 
   }
 
   module _ (new : Told) (status : ℕ) (l l' k k' : Option (List ℕ)) (made : EachImageHas mid layout initial_state.table) where
-    -- from before the store was made on
-    new_run : (p : Place) → IsStart layout p → IsScriptRun status layout (StopsOfRun mid new) new l l' k k' p → IsScriptRun status layout (StopsOfNewRun old new) new l l' k k' p
-    new_run p start o =
-        let table : initial_state.table ≡ (database_at p).table = sym (table_at p initial_state start.opening start.journal) in
-        let At = λ (image : List ℕ). IsOldOrNone old image ⊎ IsOfStop p o.after image in
-        let own = λ (image : List ℕ) (has : IsImageWith layout initial_state.table image). image_as layout p.layout initial_state.table (database_at p).table image (sym start.layout_is) table has in
-        record {
-          end = o.end;
-          status_is = o.status_is;
-          after = o.after;
-          ran = o.ran;
-          further = o.further;
-          any_moment = joined old mid new At
-              (weaker old mid (IsOldOrEmpty layout old) At moments (λ image at. elim at [
-                | inl was ↦ inl was
-                | inr has ↦ inr (inl (run_of p o.after image o.further (own image has)))
-              ]))
-              (weaker mid new (IsOfStop p o.after) At (o.any_moment (λ image now. own image (made image now))) (λ image of. inr of));
-          at_end = o.at_end;
-          whole = o.whole;
-        }
+    -- what comes of it
+    abbrev FreshRun : Type 0
+    FreshRun = IsUnopened status layout initial_state.table mid new l l' k k' ⊎ ((start : Stand) × IsStart layout start.place × IsOpenedAt mid start × IsScriptRun status layout new l l' k k' start)
 
     unopened_why : (status ≡ 6) ⊎ (status ≡ 7) → (status ≡ 6) ⊎ ((status ≡ 7) ⊎ (status ≡ 9))
     unopened_why (inl six) = inl six
@@ -423,29 +393,25 @@ module _ (one : HaveOneLayout) (law : AreNotDamaged) (layout : DiskLayout) (old 
     not_eight (inl six) e = omega (arith, six, e)
     not_eight (inr seven) e = omega (arith, seven, e)
 
-    new_output : IsTrue old.tells_contents → IsUnopened status layout initial_state.table mid new l l' k k' ⊎ ((start : Place) × IsStart layout start × IsScriptRun status layout (StopsOfRun mid new) new l l' k k' start)
-        → IsOutputOf (Run layout) status old new l l' k k'
+    new_output : IsTrue old.tells_contents → FreshRun → IsOutputOf (Run layout) status old new l l' k k'
     new_output _ (inl un) tells =
         inl (record {
           why = unopened_why un.why;
           idle = un.idle;
           any_moment = joined old mid new (IsOldOrEmpty layout old) moments (weaker mid new (IsImageWith layout initial_state.table) (IsOldOrEmpty layout old) (un.any_moment made) (λ image has. inr has));
         })
-    new_output _ (inr run) tells = inr (run.0, run.1, new_run run.0 run.1 run.2)
+    new_output _ (inr run) tells = inr (run.0, run.1, record { made = mid; any_moment = moments; empty = made; opened = run.2 }, run.3)
 
-    new_spent : IsUnopened status layout initial_state.table mid new l l' k k' ⊎ ((start : Place) × IsStart layout start × IsScriptRun status layout (StopsOfRun mid new) new l l' k k' start)
-        → IsSpentOf (Run layout) status old l l'
+    new_spent : FreshRun → IsSpentOf (Run layout) status old l l'
     new_spent (inl un) tells = subst (λ (m : Option (List ℕ)). HasSpentCauses status (IsStart layout) layout l m) (sym un.idle.source) (idle_spent status (IsStart layout) layout l (not_eight un.why))
-    new_spent (inr run) tells = run_spent (IsStart layout) layout status (StopsOfRun mid new) new run.0 run.1 l l' k k' run.2
+    new_spent (inr run) tells = run_spent (IsStart layout) layout status new run.0 run.1 l l' k k' run.3
 
-    new_complete : status ≢ 4 → status ≢ 5 → status ≢ 6 → status ≢ 11
-        → IsUnopened status layout initial_state.table mid new l l' k k' ⊎ ((start : Place) × IsStart layout start × IsScriptRun status layout (StopsOfRun mid new) new l l' k k' start)
-        → IsCompleteOf (Run layout) status old l
+    new_complete : status ≢ 4 → status ≢ 5 → status ≢ 6 → status ≢ 11 → FreshRun → IsCompleteOf (Run layout) status old l
     new_complete read write disk_ damage (inl un) tells fits limit room = elim un.why [
       | inl six ↦ absurd (disk_ six)
       | inr seven ↦ inr seven
     ]
-    new_complete read write disk_ damage (inr run) tells fits limit room = run_complete (IsStart layout) layout status (StopsOfRun mid new) new run.0 run.1 l l' k k' run.2 read write disk_ damage limit room
+    new_complete read write disk_ damage (inr run) tells fits limit room = run_complete (IsStart layout) layout status new run.0 run.1 l l' k k' run.3 read write disk_ damage limit room
 
     module _ (r w : Type 0) (holds : IsTrue old.tells_contents → HoldsFresh mid layout) (done : IsDoneSo RunStored status mid new l l' k k' r w) where
       no_damage_then : status ≡ 11 → IsTrue old.tells_contents → ⊥

@@ -23,13 +23,15 @@ use Rattle.brin_app.specs.declared.top.Task.TheVariants.{Demo, Init, Run, RunSto
 use Rattle.brin_app.specs.CrashRule.{HasTableOf, IsFurther}
 use Rattle.brin_app.specs.DemoOutput.{IsFreshDemo}
 use Rattle.brin_app.specs.Holding.{HasMade, HasRun, HoldsOn, HoldsOnFor, HoldsStore, HoldsSure, StaysStore}
-use Rattle.brin_app.specs.ScriptOutput.{EachImageHas, HoldsFresh, HoldsTable, IsOldOrEmpty, IsStoredOutput, IsUnopened, StopsOfRun}
+use Rattle.brin_app.specs.Moments.{StopsOfRun}
+use Rattle.brin_app.specs.ScriptOutput.{EachImageHas, HoldsFresh, HoldsTable, IsOldOrEmpty, IsStoredOutput, IsUnopened}
 use Rattle.brin_app.specs.StatusCauses.{IsDoneSo}
 use Rattle.brin_app.specs.Statuses.{IsUnfit, start_status}
 use Rattle.brin_app.specs.Tasks.{Asks}
 use Rattle.brin_app.specs.WantedSizes.{AsksForNew}
 use Rattle.brin_app.proofs.Crash.{image_as}
 use Rattle.brin_app.proofs.Doing.{HaveOneLayout, OpenToOneMap, fresh_image, held, table_at}
+use Rattle.brin_app.proofs.Moments.{runs_hold}
 
 -- ---- statuses
 
@@ -194,14 +196,15 @@ module _ (one : HaveOneLayout) (map : (layout : DiskLayout) → OpenToOneMap lay
         elim (output sure.tells_contents store.0 store.1 sure.holds) [
           | inl un ↦ unopened_on status store.0 store.1 l l' k k' sure un
           | inr run ↦
-              ran_on status store.0 store.1 sure run.0 run.2.after run.1.opening.layout_is (table_at run.0 (database_with sure.holds.image.next store.1) run.1.opening.opening_is run.1.opening.journal) run.2.further
-              run.2.any_moment run.2.at_end run.2.whole
+              ran_on status store.0 store.1 sure run.0.place run.3.after run.1.opening.layout_is (table_at run.0.place (database_with sure.holds.image.next store.1) run.1.opening.opening_is run.1.opening.journal) run.3.further
+              ((runs_hold.scripts status store.0 old new l l' k k' run.0 run.3).opened run.2) run.3.at_end run.3.whole
         ]
 
     pub demo_on : (status seed rows : ℕ) (layout : DiskLayout) (l k k' : Option (List ℕ)) → IsFreshDemo status seed rows old new layout l l k k' → HoldsSure old layout initial_state.table → StaysStore status new
     demo_on status seed rows layout l k k' (inl un) sure = unopened_on status layout initial_state.table l l k k' sure un
     demo_on status seed rows layout l k k' (inr run) sure =
-        ran_on status layout initial_state.table sure run.0 run.2.after run.1.layout_is (table_at run.0 initial_state run.1.opening run.1.journal) run.2.further run.2.any_moment run.2.at_end run.2.whole
+        ran_on status layout initial_state.table sure run.0.place run.3.after run.1.layout_is (table_at run.0.place initial_state run.1.opening run.1.journal) run.3.further
+        ((runs_hold.demos status layout seed rows old new k k' run.0 run.3).opened run.2) run.3.at_end run.3.whole
 
     -- ---- over an image of one, or bytes that don't open
 
@@ -209,12 +212,12 @@ module _ (one : HaveOneLayout) (map : (layout : DiskLayout) → OpenToOneMap lay
         → IsTrue old.tells_contents → IsTrue new.tells_images → HoldsImage new
     stored_image status l l' k k' output layout table holds has tells images = elim (output tells layout table holds) [
       | inl un ↦ absurd (not_unopened status has un.why)
-      | inr run ↦ ran_image new laws images run.2.after run.2.at_end
+      | inr run ↦ ran_image new laws images run.3.after run.3.at_end
     ]
 
     pub demo_image : (status seed rows : ℕ) (layout : DiskLayout) (l k k' : Option (List ℕ)) → IsFreshDemo status seed rows old new layout l l k k' → HasRun status ⊎ (status ≡ 9) → IsTrue new.tells_images → HoldsImage new
     demo_image status seed rows layout l k k' (inl un) has images = absurd (not_unopened status has un.why)
-    demo_image status seed rows layout l k k' (inr run) has images = ran_image new laws images run.2.after run.2.at_end
+    demo_image status seed rows layout l k k' (inr run) has images = ran_image new laws images run.3.after run.3.at_end
 
     -- a store was opened; where its bytes were known to be one's, these are its table and layout
     pub opened_on : (status : ℕ) (l l' k k' : Option (List ℕ)) → IsStoredOutput status old new l l' k k' → (HoldsImage old → IsTrue old.tells_contents → (layout : DiskLayout) × (table : TableState) × HoldsTable old layout table)

@@ -9,6 +9,7 @@ pub mod Holding
 pub mod Known
 pub mod Leading
 pub mod Making
+pub mod Moments
 pub mod Outputs
 pub mod Performed
 pub mod Running

@@ -1,5 +1,5 @@
 -- what follows from a run for its status
-use Rattle.std.proofs.Common.{◌≡◌, ◌≢◌, ℕ, ◌+◌, ◌≤◌, List, length, Option, None, Some, Ok, Err, refl, sym, ap, ◌∙◌, subst, arith, length-append, ◌⊎◌, inl, inr}
+use Rattle.std.proofs.Common.{◌≡◌, ◌≢◌, ℕ, ◌+◌, ◌≤◌, List, [], ◌∷◌, length, Option, None, Some, Ok, Err, refl, sym, ap, ◌∙◌, subst, arith, length-append, ◌⊎◌, inl, inr}
 use Rattle.std.specs.Prelude.{IsErrOf}
 use Rattle.std.specs.Io.KnownBytes.{Consumes}
 use Rattle.disk_trait.specs.Told.{Told}
@@ -10,7 +10,8 @@ use Rattle.script_run.specs.Runs.{RunEnd, Stopped}
 use Rattle.store_layout.specs.DiskLayout.{DiskLayout}
 use Rattle.script_semantics.specs.Place.{Place}
 use Rattle.brin_app.specs.declared.status.TheConstants.{SCRIPT_LIMIT}
-use Rattle.brin_app.specs.ScriptOutput.{IsScriptRun, Stops, Texts, exit_status}
+use Rattle.brin_app.specs.CrashRule.{Stand}
+use Rattle.brin_app.specs.ScriptOutput.{IsScriptRun, StopsOver, Texts, TextsOver, exit_status}
 use Rattle.brin_app.specs.StatusCauses.{FillsJournal, FitsLimit, HasSpentCauses, IsComplete, JournalWasFull}
 
 -- the status tells whether a fault of the source, or of the sink, ended the run
@@ -55,22 +56,30 @@ not_spent (Err (faults.Unanswered fault)) n within is = absurd (let h : n ≤ SC
 came_length : (old new script : List ℕ) → Consumes (Some old) (Some new) script → length old ≡ length script + length new
 came_length old new script e = ap length e ∙ length-append script new
 
+-- lines over stretches lead from place to place
+placed : (layout : DiskLayout) (a b : Stand) (lines texts : List (List ℕ)) → AreAnswers (TextsOver layout) a lines texts b → AreAnswers (Texts layout) a.place lines texts b.place
+placed layout a b [] [] e = ap (λ (x : Stand). x.place) e
+placed layout a b [] (text ∷ texts) e = absurd e
+placed layout a b (line ∷ lines) [] e = absurd e
+placed layout a b (line ∷ lines) (text ∷ texts) e = (e.0.place, e.1.so, placed layout e.0 b lines texts e.2)
+
 module _ (Starts : Place → Type 0) (layout : DiskLayout) where
   -- a line for which the journal has no room fills it
-  filled_by : (left : Option (List ℕ)) (script : List ℕ) (done texts : List (List ℕ)) (start final after : Place) → Starts start → AreAnswers (Texts layout) start done texts final
-      → Stopped (Stops layout) final after script left done Full → FillsJournal Starts layout script left
+  filled_by : (left : Option (List ℕ)) (script : List ℕ) (done texts : List (List ℕ)) (start final after : Stand) → Starts start.place → AreAnswers (TextsOver layout) start done texts final
+      → Stopped (StopsOver layout) final after script left done Full → FillsJournal Starts layout script left
   filled_by left script done texts start final after starts answers (inl at) =
-      record { start = start; starts = starts; done = done; texts = texts; place = final; line = at.line; after = after; first = at.first; answers = answers; past = at.stops }
+      let answered = placed layout start final done texts answers in
+      record { start = start.place; starts = starts; done = done; texts = texts; place = final.place; line = at.line; after = after.place; first = at.first; answers = answered; past = at.stops.so }
   filled_by left script done texts start final after starts answers (inr at) = absurd (let wrong : Full ≡ Memory = at.0 in cc)
 
-  module _ (status : ℕ) (AnyMoment : Place → Place → Type 0) (disk : Told) (start : Place) (starts : Starts start) where
+  module _ (status : ℕ) (disk : Told) (start : Stand) (starts : Starts start.place) where
     -- a run that ended for want of room in the journal filled it
-    filled : (l l' k k' : Option (List ℕ)) → (o : IsScriptRun status layout AnyMoment disk l l' k k' start) → o.end ≡ (Err (faults.Unanswered Full)) → JournalWasFull Starts layout l l'
+    filled : (l l' k k' : Option (List ℕ)) → (o : IsScriptRun status layout disk l l' k k' start) → o.end ≡ (Err (faults.Unanswered Full)) → JournalWasFull Starts layout l l'
     filled l l' k k' o e =
         let r = o.ran in
-        (r.0, r.5, filled_by l' r.0 r.2 r.3 start r.4 o.after starts r.7.answers (r.7.stopped Full e).0)
+        (r.0, r.5, filled_by l' r.0 r.2 r.3 start r.4 (record { place = o.after; disk = disk }) starts r.7.answers (r.7.stopped Full e).0)
 
-    spent_causes : (old new : List ℕ) (k k' : Option (List ℕ)) (o : IsScriptRun status layout AnyMoment disk (Some old) (Some new) k k' start) → (o.end ≡ (Err faults.Spent)) ⊎ (o.end ≡ (Err (faults.Unanswered Full)))
+    spent_causes : (old new : List ℕ) (k k' : Option (List ℕ)) (o : IsScriptRun status layout disk (Some old) (Some new) k k' start) → (o.end ≡ (Err faults.Spent)) ⊎ (o.end ≡ (Err (faults.Unanswered Full)))
         → (length old ≡ (SCRIPT_LIMIT + 1) + length new) ⊎ JournalWasFull Starts layout (Some old) (Some new)
     spent_causes old new k k' o (inl e) =
         let r = o.ran in
@@ -78,7 +87,7 @@ module _ (Starts : Place → Type 0) (layout : DiskLayout) where
         let long : length r.0 ≡ SCRIPT_LIMIT + 1 = (r.7.spent e).0 in inl (omega arith)
     spent_causes old new k k' o (inr e) = inr (filled (Some old) (Some new) k k' o e)
 
-    pub run_spent : (l l' k k' : Option (List ℕ)) → IsScriptRun status layout AnyMoment disk l l' k k' start → HasSpentCauses status Starts layout l l'
+    pub run_spent : (l l' k k' : Option (List ℕ)) → IsScriptRun status layout disk l l' k k' start → HasSpentCauses status Starts layout l l'
     run_spent None l' k k' o = tt
     run_spent (Some old) None k k' o = tt
     run_spent (Some old) (Some new) k k' o =
@@ -105,7 +114,7 @@ module _ (Starts : Place → Type 0) (layout : DiskLayout) where
     ended (Err (faults.Unanswered Disk)) n J long small full read write disk_ damage j = absurd (disk_ refl)
     ended (Err (faults.Unanswered Damaged)) n J long small full read write disk_ damage j = absurd (damage refl)
 
-    pub run_complete : (l l' k k' : Option (List ℕ)) → IsScriptRun status layout AnyMoment disk l l' k k' start → status ≢ 4 → status ≢ 5 → status ≢ 6 → status ≢ 11 → IsComplete status Starts layout l
+    pub run_complete : (l l' k k' : Option (List ℕ)) → IsScriptRun status layout disk l l' k k' start → status ≢ 4 → status ≢ 5 → status ≢ 6 → status ≢ 11 → IsComplete status Starts layout l
     run_complete l l' k k' o read write disk_ damage fits room =
         let r = o.ran in
         subst (λ n. (n ≡ 0) ⊎ (n ≡ 7)) (sym o.status_is)

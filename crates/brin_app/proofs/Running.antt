@@ -19,140 +19,157 @@ use Rattle.session_parts.specs.ShowsPlace.{ShowsPlace}
 use Rattle.session_parts.specs.StoreStates.{StoreState}
 use Rattle.brin_app.specs.declared.sessions.Sessions.{Sessions}
 use Rattle.brin_app.specs.declared.status.TheConstants.{SCRIPT_LIMIT}
-use Rattle.brin_app.specs.CrashRule.{HasTableOf, IsFurther, IsOfStop, StopsBetween}
+use Rattle.brin_app.specs.CrashRule.{HasTableOf, IsCutStretch, IsFurther, IsOfRun, IsOfStop, IsStretch, Stand, StopsBetween}
 use Rattle.brin_app.specs.Leading.{HasStopCause, IsLeftBy, PlacesLead, PlacesStop}
-use Rattle.brin_app.specs.ScriptOutput.{IsScriptRun, RunsThrough, Stops, Texts, exit_status}
+use Rattle.brin_app.specs.ScriptOutput.{IsScriptRun, StopsOver, TextsOver, exit_status}
 use Rattle.brin_app.specs.SessionPlaces.{AnswersLine, StopsLine}
 use Rattle.brin_app.specs.Simulations.{EndsAs, Simulates}
-use Rattle.brin_app.proofs.Crash.{OnlyNow, between_kept, between_then, further_on, still}
-use Rattle.brin_app.proofs.Leading.{cause_after, leaves_as_is, leaves_on, left_later}
+use Rattle.brin_app.proofs.Crash.{further_on, still}
+use Rattle.brin_app.proofs.Leading.{cause_after, leaves_as_is, leaves_on}
 use Rattle.brin_app.proofs.Simulated.{lifted_run}
+
+-- ---- from one store to another
+
+module _ {D : Type 0} (told : D → Told) where
+  -- which table each image has then: that of a commit in hand is told as one only of a disk that failed
+  pub record HasTables (t : StoreState D) (q : Place) (status : ℕ) : Type 0 where
+    pub images : EachImage told t.pages (HasTableOf q)
+    pub whole : status ≢ 6 → AllHaveTable told t.pages q
+
+  all_tables : (t : StoreState D) (q : Place) (status : ℕ) → AllHaveTable told t.pages q → HasTables t q status
+  all_tables t q status all = record { images = λ image now. inl (all image now); whole = λ _. all }
+
+  -- what a line leaves that stopped
+  abbrev LeftTables : (t u : StoreState D) → (q r : Place) → (status : ℕ) → Type 0
+  LeftTables t u q r status = Throughout (told t.pages.disk) (told u.pages.disk) (IsOfStop q r) × HasTables u r status
+
+  left_between : (t u : StoreState D) (q r : Place) (status : ℕ) → StopsBetween told t u q r → AllHaveTable told t.pages q → LeftTables t u q r status
+  left_between t u q r status stops all =
+      let x = stops all in
+      (weaker (told t.pages.disk) (told u.pages.disk) _ (IsOfStop q r) x.0.moments (λ image of. inl of), all_tables u r status x.1)
+
+  left_tables : (t u : StoreState D) (q r : Place) (fault : AnswerFault) → IsLeftBy told t u fault q r → AllHaveTable told t.pages q → LeftTables t u q r (exit_status (Err (faults.Unanswered fault)))
+  left_tables t u q r Memory left all = left_between t u q r 7 left.1 all
+  left_tables t u q r Full left all = left_between t u q r 8 left.1 all
+  left_tables t u q r Disk left all = let x = left all in (x.0.moments, record { images = x.1; whole = λ not. absurd (not refl) })
+  left_tables t u q r Damaged left all = absurd left
 
 -- ---- from the first place on
 
 module _ {D : Type 0} (told : D → Told) (s : StoreState D) (p : Place) where
-  -- sessions show a place to which a script led from the first one
-  pub record ShowsFrom (a : Sessions D) (q : Place) : Type 0 where
+  -- the stand is one of sessions that show its place, to which a script led from the first one, and each image has the table there
+  pub record ShowsFrom (a : Sessions D) (x : Stand) : Type 0 where
     pub leaves : Leaves told s.pages a.store.pages
     pub tells : Tells told a.store.pages
     pub ready : a.store.pages.failed ≡ None
-    pub shown : ShowsPlace a.store q
-    pub further : IsFurther p q
-    pub stops : StopsBetween told s a.store p q
+    pub shown : ShowsPlace a.store x.place
+    pub disk : told a.store.pages.disk ≡ x.disk
+    pub further : IsFurther p x.place
+    pub all : AllHaveTable told a.store.pages x.place
+
+  -- a run ended there with the status
+  pub record EndsWith (status : ℕ) (a : Sessions D) (x : Stand) : Type 0 where
+    pub disk : told a.store.pages.disk ≡ x.disk
+    pub further : IsFurther p x.place
+    pub tables : HasTables told a.store x.place status
 
   -- a line stopped there
-  pub record EndsFrom (fault : AnswerFault) (a : Sessions D) (q : Place) : Type 0 where
-    pub further : IsFurther p q
-    pub left : IsLeftBy told s a.store fault p q
+  abbrev pub EndsFrom : AnswerFault → Sessions D → Stand → Type 0
+  EndsFrom fault a x = EndsWith (exit_status (Err (faults.Unanswered fault))) a x
 
-  -- what leads from a place that the sessions show leads on from the first one
-  pub led_from : (a b : Sessions D) (q : Place) (P : Place → Place → Type 0) → ShowsFrom a q → PlacesLead told a.store b.store P → (r : Place) × ShowsFrom b r × P q r
-  led_from a b q P at leads =
-      let far = leads.places at.tells at.ready q at.shown in (
-        far.place,
+  -- what leads from a place that the sessions show leads on, over a stretch of its own
+  pub led_from : (a b : Sessions D) (x : Stand) (P : Place → Place → Type 0) → ShowsFrom a x → PlacesLead told a.store b.store P → (y : Stand) × ShowsFrom b y × IsStretch P x y
+  led_from a b x P at leads =
+      let far = leads.places at.tells at.ready x.place at.shown in
+      let stops = far.stops at.all in (
+        record { place = far.place; disk = told b.store.pages.disk },
         record {
           leaves = leaves_on told s.pages a.store.pages b.store.pages at.leaves leads.leaves;
           tells = leads.leaves.tells ∙ at.tells;
           ready = leads.ready at.ready;
           shown = far.shown;
-          further = further_on p q far.place at.further far.further;
-          stops = between_then told s a.store b.store p q far.place at.further far.further at.stops far.stops;
+          disk = refl;
+          further = further_on p x.place far.place at.further far.further;
+          all = stops.1;
         },
-        far.so,
+        record {
+          so = far.so;
+          further = far.further;
+          moments = subst (λ (d : Told). Throughout d (told b.store.pages.disk) (IsOfRun x.place far.place)) at.disk stops.0.moments;
+          sure = stops.1;
+        },
       )
 
-  pub stopped_from : (a b : Sessions D) (q : Place) (fault : AnswerFault) (P : Place → Place → Type 0) → ShowsFrom a q → PlacesStop told a.store b.store fault P → (r : Place) × EndsFrom fault b r × P q r
-  stopped_from a b q fault P at stops =
-      let far = stops.places at.tells at.ready q at.shown in
-      (far.place, record { further = further_on p q far.place at.further far.further; left = left_later told s a.store b.store fault p q far.place at.further far.further at.stops far.left }, far.so)
+  pub stopped_from : (a b : Sessions D) (x : Stand) (fault : AnswerFault) (P : Place → Place → Type 0) → ShowsFrom a x → PlacesStop told a.store b.store fault P → (y : Stand) × EndsFrom fault b y × IsCutStretch P x y
+  stopped_from a b x fault P at stops =
+      let far = stops.places at.tells at.ready x.place at.shown in
+      let left = left_tables told a.store b.store x.place far.place fault far.left at.all in (
+        record { place = far.place; disk = told b.store.pages.disk },
+        record { disk = refl; further = further_on p x.place far.place at.further far.further; tables = left.1 },
+        record { so = far.so; further = far.further; moments = subst (λ (d : Told). Throughout d (told b.store.pages.disk) (IsOfStop x.place far.place)) at.disk left.0 },
+      )
+
+  ends_there : (status : ℕ) (a : Sessions D) (x : Stand) → ShowsFrom a x → EndsWith status a x
+  ends_there status a x at = record { disk = at.disk; further = at.further; tables = all_tables told a.store x.place status at.all }
 
   -- memory was short there before anything was done
-  pub unbegun_at : (a : Sessions D) (q : Place) → ShowsFrom a q → EndsFrom Memory a q
-  unbegun_at a q at = record { further = at.further; left = (at.shown, at.stops) }
+  pub unbegun_at : (a : Sessions D) (x : Stand) → ShowsFrom a x → EndsFrom Memory a x
+  unbegun_at a x at = ends_there 7 a x at
 
-  simulate : Simulates ShowsFrom EndsFrom (AnswersLine told) (StopsLine told) (Texts s.pages.layout) (Stops s.pages.layout)
+  simulate : Simulates ShowsFrom EndsFrom (AnswersLine told) (StopsLine told) (TextsOver s.pages.layout) (StopsOver s.pages.layout)
   simulate = record {
-    answers = λ a b q line text at leads.
-        let far = led_from a b q (λ x y. IsLineText a.store.pages.layout.schema x line text y) at leads in
-        (far.0, far.1, subst (λ (l : DiskLayout). IsLineText l.schema q line text far.0) at.leaves.layout far.2);
-    stops = λ a b q line fault at stops.
-        let far = stopped_from a b q fault (λ x y. IsLineStopped a.store.pages.layout.schema x line fault y) at stops in
-        (far.0, far.1, subst (λ (l : DiskLayout). IsLineStopped l.schema q line fault far.0) at.leaves.layout far.2);
+    answers = λ a b x line text at leads.
+        let far = led_from a b x (λ u v. IsLineText a.store.pages.layout.schema u line text v) at leads in
+        (far.0, far.1, subst (λ (l : DiskLayout). TextsOver l x line text far.0) at.leaves.layout far.2);
+    stops = λ a b x line fault at stops.
+        let far = stopped_from a b x fault (λ u v. IsLineStopped a.store.pages.layout.schema u line fault v) at stops in
+        (far.0, far.1, subst (λ (l : DiskLayout). StopsOver l x line fault far.0) at.leaves.layout far.2);
     unbegun = unbegun_at;
   }
 
-  -- ---- at the end
-
-  -- each image at every moment, and at the end
-  pub record RanFrom (t : StoreState D) (q : Place) (status : ℕ) : Type 0 where
-    pub moments : Throughout (told s.pages.disk) (told t.pages.disk) (IsOfStop p q)
-    pub images : EachImage told t.pages (HasTableOf q)
-    pub whole : status ≢ 6 → AllHaveTable told t.pages q
-
-  ran_between : (t : StoreState D) (q : Place) (status : ℕ) → StopsBetween told s t p q → AllHaveTable told s.pages p → RanFrom t q status
-  ran_between t q status stops all =
-      let x = stops all in
-      record {
-        moments = weaker (told s.pages.disk) (told t.pages.disk) _ (IsOfStop p q) x.0.moments (λ image of. inl of);
-        images = λ image now. inl (x.1 image now);
-        whole = λ _. x.1;
-      }
-
-  pub ran_from : (end : RunEnd) (b : Sessions D) (q : Place) → EndsAs ShowsFrom EndsFrom end b q → AllHaveTable told s.pages p → RanFrom b.store q (exit_status end)
-  ran_from (Ok done) b q at all = ran_between b.store q 0 at.stops all
-  ran_from (Err faults.Read) b q at all = ran_between b.store q 4 at.stops all
-  ran_from (Err faults.Write) b q at all = ran_between b.store q 5 at.stops all
-  ran_from (Err faults.Spent) b q at all = ran_between b.store q 8 at.stops all
-  ran_from (Err (faults.Unanswered Memory)) b q at all = ran_between b.store q 7 at.left.1 all
-  ran_from (Err (faults.Unanswered Full)) b q at all = ran_between b.store q 8 at.left.1 all
-  ran_from (Err (faults.Unanswered Disk)) b q at all =
-      let x = at.left all in
-      record { moments = x.0.moments; images = x.1; whole = λ not. absurd (not refl) }
-  ran_from (Err (faults.Unanswered Damaged)) b q at all = absurd at.left
-
-  pub further_at : (end : RunEnd) (b : Sessions D) (q : Place) → EndsAs ShowsFrom EndsFrom end b q → IsFurther p q
-  further_at (Ok done) b q at = at.further
-  further_at (Err faults.Read) b q at = at.further
-  further_at (Err faults.Write) b q at = at.further
-  further_at (Err faults.Spent) b q at = at.further
-  further_at (Err (faults.Unanswered fault)) b q at = at.further
-
   -- ---- a run
 
-  pub begun : (a : Sessions D) → a.store ≡ s → OnlyNow told s.pages → Tells told s.pages → s.pages.failed ≡ None → ShowsPlace s p → ShowsFrom a p
-  begun a same only tells ready shown =
-      let at_start : ShowsPlace a.store p = subst (λ (t : StoreState D). ShowsPlace t p) (sym same) shown in
-      record {
-        leaves = subst (λ (t : StoreState D). Leaves told s.pages t.pages) (sym same) (leaves_as_is told s.pages);
-        tells = subst (λ (t : StoreState D). Tells told t.pages) (sym same) tells;
-        ready = ap (λ (t : StoreState D). t.pages.failed) same ∙ ready;
-        shown = at_start;
-        further = still p;
-        stops = between_kept told s a.store p p (ap (λ (t : StoreState D). t.pages) same) only (record { layout = refl; opening = refl; journal = refl });
-      }
+  pub ends_with : (end : RunEnd) (b : Sessions D) (x : Stand) → EndsAs ShowsFrom EndsFrom end b x → EndsWith (exit_status end) b x
+  ends_with (Ok done) b x at = ends_there 0 b x at
+  ends_with (Err faults.Read) b x at = ends_there 4 b x at
+  ends_with (Err faults.Write) b x at = ends_there 5 b x at
+  ends_with (Err faults.Spent) b x at = ends_there 8 b x at
+  ends_with (Err (faults.Unanswered fault)) b x at = at
+
+  -- where it starts
+  abbrev pub start : Stand
+  start = record { place = p; disk = told s.pages.disk }
+
+  pub begun : (a : Sessions D) → a.store ≡ s → Tells told s.pages → s.pages.failed ≡ None → ShowsPlace s p → AllHaveTable told s.pages p → ShowsFrom a start
+  begun a same tells ready shown all = record {
+    leaves = subst (λ (t : StoreState D). Leaves told s.pages t.pages) (sym same) (leaves_as_is told s.pages);
+    tells = subst (λ (t : StoreState D). Tells told t.pages) (sym same) tells;
+    ready = ap (λ (t : StoreState D). t.pages.failed) same ∙ ready;
+    shown = subst (λ (t : StoreState D). ShowsPlace t p) (sym same) shown;
+    disk = ap (λ (t : StoreState D). told t.pages.disk) same;
+    further = still p;
+    all = subst (λ (t : StoreState D). AllHaveTable told t.pages p) (sym same) all;
+  }
 
   module _ (a b : Sessions D) (end : RunEnd) (l l' k k' : Option (List ℕ)) (ran : Ran (AnswersLine told) (StopsLine told) a b SCRIPT_LIMIT end l l' k k') where
-    with_disk : (status : ℕ) → status ≡ exit_status end → ShowsFrom a p → AllHaveTable told s.pages p
-        → IsScriptRun status s.pages.layout (RunsThrough (told s.pages.disk) (told b.store.pages.disk)) (told b.store.pages.disk) l l' k k' p
-    with_disk status said start all =
-        let far = lifted_run ShowsFrom EndsFrom (AnswersLine told) (StopsLine told) (Texts s.pages.layout) (Stops s.pages.layout) simulate a b p SCRIPT_LIMIT end l l' k k' start ran in
-        let x = ran_from end b far.0 far.1 all in
+    with_disk : (status : ℕ) → status ≡ exit_status end → ShowsFrom a start → IsScriptRun status s.pages.layout (told b.store.pages.disk) l l' k k' start
+    with_disk status said begins =
+        let far = lifted_run ShowsFrom EndsFrom (AnswersLine told) (StopsLine told) (TextsOver s.pages.layout) (StopsOver s.pages.layout) simulate a b start SCRIPT_LIMIT end l l' k k' begins ran in
+        let x = ends_with end b far.0 far.1 in
         record {
           end = end;
           status_is = said;
-          after = far.0;
-          ran = far.2;
-          further = further_at end b far.0 far.1;
-          any_moment = x.moments;
-          at_end = x.images;
-          whole = λ not. x.whole (λ six. not (said ∙ six));
+          after = far.0.place;
+          ran = subst (λ (d : Told). Ran (TextsOver s.pages.layout) (StopsOver s.pages.layout) start (record { place = far.0.place; disk = d }) SCRIPT_LIMIT end l l' k k') (sym x.disk) far.2;
+          further = x.further;
+          at_end = x.tables.images;
+          whole = λ not. x.tables.whole (λ six. not (said ∙ six));
         }
 
-    pub script_run : (status : ℕ) (disk : D) → a.store ≡ s → disk ≡ b.store.pages.disk → status ≡ exit_status end → OnlyNow told s.pages → Tells told s.pages → s.pages.failed ≡ None → ShowsPlace s p
-        → AllHaveTable told s.pages p → IsScriptRun status s.pages.layout (RunsThrough (told s.pages.disk) (told disk)) (told disk) l l' k k' p
-    script_run status disk same is said only tells ready shown all =
-        subst (λ (d : D). IsScriptRun status s.pages.layout (RunsThrough (told s.pages.disk) (told d)) (told d) l l' k k' p) (sym is)
-        (with_disk status said (begun a same only tells ready shown) all)
+    pub script_run : (status : ℕ) (disk : D) → a.store ≡ s → disk ≡ b.store.pages.disk → status ≡ exit_status end → Tells told s.pages → s.pages.failed ≡ None → ShowsPlace s p → AllHaveTable told s.pages p
+        → IsScriptRun status s.pages.layout (told disk) l l' k k' start
+    script_run status disk same is said tells ready shown all =
+        subst (λ (d : D). IsScriptRun status s.pages.layout (told d) l l' k k' start) (sym is) (with_disk status said (begun a same tells ready shown all))
 
 -- ---- causes, over any disk
 

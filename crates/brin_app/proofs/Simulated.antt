@@ -8,7 +8,7 @@ use Rattle.script_run.specs.Runs.{Ran, RunEnd, Stopped, Wrote}
 use Rattle.brin_app.specs.Simulations.{EndsAs, Simulates}
 
 -- a run ends since a line isn't answered, or otherwise
-ending : (end : RunEnd) → ((fault : AnswerFault) × (end ≡ Err (faults.Unanswered fault))) ⊎ ((fault : AnswerFault) → end ≢ Err (faults.Unanswered fault))
+pub ending : (end : RunEnd) → ((fault : AnswerFault) × (end ≡ Err (faults.Unanswered fault))) ⊎ ((fault : AnswerFault) → end ≢ Err (faults.Unanswered fault))
 ending (Ok done) = inr (λ fault e. cc)
 ending (Err faults.Read) = inr (λ fault e. cc)
 ending (Err faults.Spent) = inr (λ fault e. cc)

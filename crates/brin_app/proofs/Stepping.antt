@@ -12,7 +12,7 @@ use Rattle.block_model.specs.declared.reply.Refusal.TheVariants as refusals
 use Rattle.store_layout.specs.declared.statement.Statement.{Statement}
 use Rattle.query_words.specs.declared.line.Order.TheVariants as orders
 use Rattle.script_run.specs.declared.engine.AnswerFault.{AnswerFault}
-use Rattle.script_run.specs.declared.engine.AnswerFault.TheVariants.{Memory, Full, Disk, Damaged}
+use Rattle.script_run.specs.declared.engine.AnswerFault.TheVariants.{Disk, Damaged}
 use Rattle.coverage.specs.Accounts.{Account}
 use Rattle.script_semantics.specs.LineTexts.{NotTaken, Taken, WantsMemory, named, Finishes, LastStep, Further, Starts, RefusesStart, StepsOnce, IsFinished, NoStep, NoFinish, Plain, RefusesPlain, Submits}
 use Rattle.script_semantics.specs.Place.{Hand as HandAt, Place}
@@ -158,10 +158,7 @@ halted_at : (n : ℕ) (p q r : Place) → MovedTo n p q → r ≡ q → MovedTo 
 halted_at n p q r before same = subst (λ (x : Place). MovedTo n p x) (sym same) before
 
 pub halted : (n : ℕ) (fault : AnswerFault) (p q r : Place) → MovedTo n p q → IsNotMade n fault q r → IsHalted n fault p r
-halted n Memory p q r before stops = absurd stops
-halted n Full p q r before stops = (stops.0, halted_at n p q r before stops.1)
-halted n Disk p q r before stops = (tt, halted_at n p q r before stops.1)
-halted n Damaged p q r before stops = (tt, halted_at n p q r before stops.1)
+halted n fault p q r before stops = (stops.0, halted_at n p q r before stops.1)
 
 -- ---- orders
 
@@ -218,10 +215,7 @@ came_to_step : (n : ℕ) (p q : Place) → q ≡ p → ComesTo p n orders.Step q
 came_to_step n p q same = subst (λ (r : Place). ComesTo p n orders.Step r) (sym same) OfStep
 
 pub step_cut : (n : ℕ) (fault : AnswerFault) (p q : Place) → IsNotMade n fault p q → IsCutShort n orders.Step fault p q
-step_cut n Memory p q stops = absurd stops
-step_cut n Full p q stops = (stops.0, came_to_step n p q stops.1)
-step_cut n Disk p q stops = (tt, came_to_step n p q stops.1)
-step_cut n Damaged p q stops = (tt, came_to_step n p q stops.1)
+step_cut n fault p q stops = (stops.0, came_to_step n p q stops.1)
 
 pub finish_cut : (n : ℕ) (fault : AnswerFault) (p q : Place) → IsHalted n fault p q → IsCutShort n orders.Finish fault p q
 finish_cut n fault p q stops = (stops.0, OfFinish q stops.1)

@@ -1,9 +1,10 @@
 -- The crash rule: which table each image of the disk has at each moment of a script, by the journal of its requests.
-use Rattle.std.specs.Prelude.{◌≡◌, ◌⊎◌, ℕ, ◌≤◌, List, ◌++◌, length, take}
+use Rattle.std.specs.Prelude.{◌≡◌, ◌⊎◌, ℕ, ◌≤◌, IsTrue, List, ◌++◌, length, take}
 use Rattle.block_model.specs.declared.request.Entry.{Entry}
 use Rattle.block_model.specs.SerialRun.{serial_run}
 use Rattle.block_model.specs.TableState.{TableState}
 use Rattle.disk_trait.specs.Told.{Told}
+use Rattle.disk_trait.specs.Throughout.{Throughout}
 use Rattle.script_semantics.specs.Place.{Place, database_at}
 use Rattle.transactions.specs.FoundLaws.{table_committed}
 use Rattle.transactions.specs.StopLaws.{EachImage, EachStop}
@@ -45,3 +46,28 @@ StopsBetween told s s' p q = AllHaveTable told s.pages p → EachStop told s.pag
 -- in hand is in it or not.
 abbrev pub StopsAmid : {D : Type 0} → (D → Told) → (s s' : StoreState D) → (p q : Place) → Type 0
 StopsAmid told s s' p q = AllHaveTable told s.pages p → EachStop told s.pages s'.pages (IsOfStop p q) × EachImage told s'.pages (HasTableOf q)
+
+-- ---- line by line
+
+-- where a script stands between two of its lines: the place, and what the disk tells there
+pub record Stand : Type 0 where
+  pub place : Place
+  pub disk : Told
+
+-- each image that a stop may leave there has the table of the place's journal
+abbrev pub IsSure : Stand → Type 0
+IsSure a = (image : List ℕ) → IsTrue (a.disk.now image) → IsImageWith a.place.layout (database_at a.place).table image
+
+-- A line leads so from one stand to the next, over a stretch of moments of its own: at each of them each image has the table behind first requests, all of those
+-- of the lines before among them. At the next stand each has the table with the requests of this line too.
+pub record IsStretch (P : Place → Place → Type 0) (a b : Stand) : Type 0 where
+  pub so : P a.place b.place
+  pub further : IsFurther a.place b.place
+  pub moments : Throughout a.disk b.disk (IsOfRun a.place b.place)
+  pub sure : IsSure b
+
+-- A line that isn't answered leads so from a stand to where it stops: up to there each image has such a table, or that with a commit which is in hand there.
+pub record IsCutStretch (P : Place → Place → Type 0) (a b : Stand) : Type 0 where
+  pub so : P a.place b.place
+  pub further : IsFurther a.place b.place
+  pub moments : Throughout a.disk b.disk (IsOfStop a.place b.place)

@@ -10,20 +10,29 @@ use Rattle.script_run.specs.declared.engine.AnswerFault.{AnswerFault}
 use Rattle.script_run.specs.declared.engine.AnswerFault.TheVariants.{Memory, Full}
 use Rattle.script_run.specs.declared.fault.RunFault.TheVariants as faults
 use Rattle.script_run.specs.Runs.{RunEnd}
+use Rattle.demo_script.specs.declared.answer.Answer.{Answer}
 use Rattle.demo_script.specs.declared.counts.Counts.{Counts}
 use Rattle.demo_script.specs.Played.{HasPlayed, HasStopped}
 use Rattle.demo_script.specs.Summary.{summary_text}
 use Rattle.script_semantics.specs.Place.{Place, database_at}
 use Rattle.script_semantics.specs.Starts.{IsStart}
 use Rattle.brin_app.specs.Asking.{IsLineAnswered}
-use Rattle.brin_app.specs.CrashRule.{HasTableOf, IsFurther}
-use Rattle.brin_app.specs.ScriptOutput.{EachImageHas, IsUnmade, IsUnopened, Stops, StopsOfNewRun, StopsOfRun, exit_status}
+use Rattle.brin_app.specs.CrashRule.{HasTableOf, IsFurther, IsStretch, Stand}
+use Rattle.brin_app.specs.ScriptOutput.{EachImageHas, IsMadeAt, IsOpenedAt, IsUnmade, IsUnopened, Stops, StopsOver, exit_status}
 
--- the whole demo was said from the one place to the other, and answered with these counts
-abbrev pub IsPlayed : DiskLayout → (seed rows : ℕ) → (start after : Place) → Counts → Type 0
-IsPlayed layout seed rows start after counts = HasPlayed (IsLineAnswered layout.schema) seed rows start after counts
+-- a line of the demo is answered so, over a stretch of the disk's moments of its own
+abbrev pub AnswersOver : DiskLayout → Stand → List ℕ → Answer → Stand → Type 0
+AnswersOver layout a line answer b = IsStretch (λ p q. IsLineAnswered layout.schema p line answer q) a b
+
+-- the whole demo was said from the one stand to the other, and answered with these counts
+abbrev pub IsPlayed : DiskLayout → (seed rows : ℕ) → (start after : Stand) → Counts → Type 0
+IsPlayed layout seed rows start after counts = HasPlayed (AnswersOver layout) seed rows start after counts
 
 -- its first lines were, and the one behind them wasn't answered
+abbrev pub IsCutOff : DiskLayout → (seed rows : ℕ) → (start after : Stand) → AnswerFault → Type 0
+IsCutOff layout seed rows start after fault = HasStopped (AnswersOver layout) (StopsOver layout) seed rows start after fault
+
+-- the same from place to place, whatever the disk tells
 abbrev pub IsLeftOff : DiskLayout → (seed rows : ℕ) → (start after : Place) → AnswerFault → Type 0
 IsLeftOff layout seed rows start after fault = HasStopped (IsLineAnswered layout.schema) (Stops layout) seed rows start after fault
 
@@ -33,21 +42,20 @@ summary_at counts after = summary_text counts (after.tables 0).blocks
 
 -- By how the demo ends. What is written is its summary; where the sink failed a front of it; and nothing where a line wasn't answered, or memory was
 -- short for the summary.
-abbrev pub DemoWrites : RunEnd → DiskLayout → (seed rows : ℕ) → (start after : Place) → (taken taken' : Option (List ℕ)) → Type 0
-DemoWrites (Ok done) layout seed rows start after taken taken' = (counts : Counts) × IsPlayed layout seed rows start after counts × Appends taken taken' (summary_at counts after)
-DemoWrites (Err faults.Write) layout seed rows start after taken taken' = (counts : Counts) × IsPlayed layout seed rows start after counts × AppendsPart taken taken' (summary_at counts after)
+abbrev pub DemoWrites : RunEnd → DiskLayout → (seed rows : ℕ) → (start after : Stand) → (taken taken' : Option (List ℕ)) → Type 0
+DemoWrites (Ok done) layout seed rows start after taken taken' = (counts : Counts) × IsPlayed layout seed rows start after counts × Appends taken taken' (summary_at counts after.place)
+DemoWrites (Err faults.Write) layout seed rows start after taken taken' = (counts : Counts) × IsPlayed layout seed rows start after counts × AppendsPart taken taken' (summary_at counts after.place)
 DemoWrites (Err (faults.Unanswered fault)) layout seed rows start after taken taken' =
-    (taken' ≡ taken) × (IsLeftOff layout seed rows start after fault ⊎ ((fault ≡ Memory) × (counts : Counts) × IsPlayed layout seed rows start after counts))
+    (taken' ≡ taken) × (IsCutOff layout seed rows start after fault ⊎ ((fault ≡ Memory) × (counts : Counts) × IsPlayed layout seed rows start after counts))
 DemoWrites end layout seed rows start after taken taken' = ⊥
 
--- The demo was run from the place, by the crash rule of scripts.
-pub record IsDemoRun (status : ℕ) (layout : DiskLayout) (seed rows : ℕ) (AnyMoment : Place → Place → Type 0) (new : Told) (taken taken' : Option (List ℕ)) (start : Place) : Type 0 where
+-- The demo was run from the first stand on, by the crash rule of scripts.
+pub record IsDemoRun (status : ℕ) (layout : DiskLayout) (seed rows : ℕ) (new : Told) (taken taken' : Option (List ℕ)) (start : Stand) : Type 0 where
   pub end : RunEnd
   pub status_is : status ≡ exit_status end
   pub after : Place
-  pub writes : DemoWrites end layout seed rows start after taken taken'
-  pub further : IsFurther start after
-  pub any_moment : AnyMoment start after
+  pub writes : DemoWrites end layout seed rows start (record { place = after; disk = new }) taken taken'
+  pub further : IsFurther start.place after
   pub at_end : (image : List ℕ) → IsTrue (new.now image) → HasTableOf after image
   pub whole : status ≢ 6 → EachImageHas new after.layout (database_at after).table
 
@@ -55,13 +63,13 @@ pub record IsDemoRun (status : ℕ) (layout : DiskLayout) (seed rows : ℕ) (Any
 abbrev pub IsFreshDemo : ℕ → (seed rows : ℕ) → (old new : Told) → DiskLayout → (left left' taken taken' : Option (List ℕ)) → Type 0
 IsFreshDemo status seed rows old new layout left left' taken taken' =
     IsUnopened status layout initial_state.table old new left left' taken taken'
-    ⊎ ((start : Place) × IsStart layout start × IsDemoRun status layout seed rows (StopsOfRun old new) new taken taken' start)
+    ⊎ ((start : Stand) × IsStart layout start.place × IsOpenedAt old start × IsDemoRun status layout seed rows new taken taken' start)
 
 -- A store is made, whatever the disk held, and the demo is run over it, where the disk tells its contents. Nothing is read of the source.
 pub record IsDemoOutput (status : ℕ) (layout : DiskLayout) (seed rows : ℕ) (old new : Told) (left left' taken taken' : Option (List ℕ)) : Type 0 where
   pub source : left' ≡ left
   pub run : IsTrue old.tells_contents → IsUnmade status layout old new left left' taken taken'
-      ⊎ ((start : Place) × IsStart layout start × IsDemoRun status layout seed rows (StopsOfNewRun old new) new taken taken' start)
+      ⊎ ((start : Stand) × IsStart layout start.place × IsMadeAt layout old start × IsDemoRun status layout seed rows new taken taken' start)
 
 -- Some first lines of the demo lead to a journal that has no room for the requests of the next one. No demo does so.
 abbrev pub DemoFillsJournal : DiskLayout → (seed rows : ℕ) → Type 0

@@ -4,6 +4,7 @@ pub mod DemoOutput
 pub mod DemoSums
 pub mod Holding
 pub mod Leading
+pub mod Moments
 pub mod Orders
 pub mod SessionPlaces
 pub mod ScriptOutput

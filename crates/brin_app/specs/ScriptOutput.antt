@@ -19,7 +19,7 @@ use Rattle.script_run.specs.Runs.{Ran, RunEnd}
 use Rattle.session_core.specs.StopRule.{IsImageWith}
 use Rattle.session_core.specs.StoreImage.{IsStoreImage, IsTableOn, database_with}
 use Rattle.brin_app.specs.declared.status.TheConstants.{SCRIPT_LIMIT}
-use Rattle.brin_app.specs.CrashRule.{HasTableOf, IsFurther, IsOfStop}
+use Rattle.brin_app.specs.CrashRule.{HasTableOf, IsCutStretch, IsFurther, IsStretch, IsSure, Stand}
 
 -- the status of each way in which a run ends: too long a script and a full journal have one
 abbrev pub exit_status : RunEnd → ℕ
@@ -39,6 +39,13 @@ Texts layout = IsLineText layout.schema
 -- what becomes of a line of theirs that isn't answered
 abbrev pub Stops : DiskLayout → Place → List ℕ → AnswerFault → Place → Type 0
 Stops layout = IsLineStopped layout.schema
+
+-- both over stretches of the disk's moments, one for each line
+abbrev pub TextsOver : DiskLayout → Stand → List ℕ → List ℕ → Stand → Type 0
+TextsOver layout a line text b = IsStretch (λ p q. Texts layout p line text q) a b
+
+abbrev pub StopsOver : DiskLayout → Stand → List ℕ → AnswerFault → Stand → Type 0
+StopsOver layout a line fault b = IsCutStretch (λ p q. Stops layout p line fault q) a b
 
 -- ---- disks
 
@@ -74,27 +81,27 @@ IsOldOrEmpty layout old image = IsOldOrNone old image ⊎ IsImageWith layout ini
 
 -- ---- runs
 
--- At every moment of a run over a store that stands there, each image has a table of the run, where each had the table of its start.
-abbrev pub StopsOfRun : (old new : Told) → (start after : Place) → Type 0
-StopsOfRun old new start after = EachImageHas old start.layout (database_at start).table → Throughout old new (IsOfStop start after)
+-- A store that stands there was opened before the first line. Up to that line each image has its table, where each had it before; and at that line each has it.
+pub record IsOpenedAt (old : Told) (start : Stand) : Type 0 where
+  pub any_moment : EachImageHas old start.place.layout (database_at start.place).table → Throughout old start.disk (IsImageWith start.place.layout (database_at start.place).table)
+  pub sure : IsSure start
 
--- the same from its start on
-abbrev pub RunsThrough : (old new : Told) → (start after : Place) → Type 0
-RunsThrough old new start after = Throughout old new (IsOfStop start after)
+-- A store was made before the first line: while it is made each image was there before, or is no store, or has the empty table; then each has that table, and
+-- the store is opened.
+pub record IsMadeAt (layout : DiskLayout) (old : Told) (start : Stand) : Type 0 where
+  pub made : Told
+  pub any_moment : Throughout old made (IsOldOrEmpty layout old)
+  pub empty : EachImageHas made layout initial_state.table
+  pub opened : IsOpenedAt made start
 
--- While a store is made, and a script runs over it, each was there before, or is no store, or has a table of the run.
-abbrev pub StopsOfNewRun : (old new : Told) → (start after : Place) → Type 0
-StopsOfNewRun old new start after = Throughout old new (λ image. IsOldOrNone old image ⊎ IsOfStop start after image)
-
--- The script of the source was run from the place: what was written are the texts of its lines, and the status says how far that went. At the end each
--- image has the table of the whole journal; where the disk failed, a commit that was in hand may be in it as well.
-pub record IsScriptRun (status : ℕ) (layout : DiskLayout) (AnyMoment : Place → Place → Type 0) (new : Told) (left left' taken taken' : Option (List ℕ)) (start : Place) : Type 0 where
+-- The script of the source was run from the first stand on, line by line: what was written are the texts of its lines, and the status says how far that
+-- went. At the end each image has the table of the whole journal; where the disk failed, a commit that was in hand may be in it as well.
+pub record IsScriptRun (status : ℕ) (layout : DiskLayout) (new : Told) (left left' taken taken' : Option (List ℕ)) (start : Stand) : Type 0 where
   pub end : RunEnd
   pub status_is : status ≡ exit_status end
   pub after : Place
-  pub ran : Ran (Texts layout) (Stops layout) start after SCRIPT_LIMIT end left left' taken taken'
-  pub further : IsFurther start after
-  pub any_moment : AnyMoment start after
+  pub ran : Ran (TextsOver layout) (StopsOver layout) start (record { place = after; disk = new }) SCRIPT_LIMIT end left left' taken taken'
+  pub further : IsFurther start.place after
   pub at_end : (image : List ℕ) → IsTrue (new.now image) → HasTableOf after image
   pub whole : status ≢ 6 → EachImageHas new after.layout (database_at after).table
 
@@ -129,17 +136,17 @@ pub record IsMade (status : ℕ) (layout : DiskLayout) (old new : Told) : Type 0
 abbrev pub IsNewOutput : ℕ → DiskLayout → (old new : Told) → (left left' taken taken' : Option (List ℕ)) → Type 0
 IsNewOutput status layout old new left left' taken taken' =
     IsTrue old.tells_contents → IsUnmade status layout old new left left' taken taken'
-    ⊎ ((start : Place) × IsStart layout start × IsScriptRun status layout (StopsOfNewRun old new) new left left' taken taken' start)
+    ⊎ ((start : Stand) × IsStart layout start.place × IsMadeAt layout old start × IsScriptRun status layout new left left' taken taken' start)
 
 abbrev pub IsStoredOutput : ℕ → (old new : Told) → (left left' taken taken' : Option (List ℕ)) → Type 0
 IsStoredOutput status old new left left' taken taken' =
     IsTrue old.tells_contents → (layout : DiskLayout) (table : TableState) (holds : HoldsTable old layout table)
     → IsUnopened status layout table old new left left' taken taken'
-    ⊎ ((start : Place) × StartsOver layout holds.pages holds.image.next table start × IsScriptRun status layout (StopsOfRun old new) new left left' taken taken' start)
+    ⊎ ((start : Stand) × StartsOver layout holds.pages holds.image.next table start.place × IsOpenedAt old start × IsScriptRun status layout new left left' taken taken' start)
 
 -- the same over a store that was just made
 abbrev pub IsFreshOutput : ℕ → (old new : Told) → (left left' taken taken' : Option (List ℕ)) → Type 0
 IsFreshOutput status old new left left' taken taken' =
     IsTrue old.tells_contents → (layout : DiskLayout) → HoldsFresh old layout
     → IsUnopened status layout initial_state.table old new left left' taken taken'
-    ⊎ ((start : Place) × IsStart layout start × IsScriptRun status layout (StopsOfRun old new) new left left' taken taken' start)
+    ⊎ ((start : Stand) × IsStart layout start.place × IsOpenedAt old start × IsScriptRun status layout new left left' taken taken' start)

@@ -12,7 +12,6 @@ ghost use Rattle.brin_app.specs.declared.top.Task.TheVariants as tasks;
 ghost use Rattle.brin_app.specs.DemoOutput.{IsDemoRun};
 ghost use Rattle.brin_app.specs.DemoSums.{HasSummed, SumsFresh};
 ghost use Rattle.brin_app.specs.Holding.{HoldsOnFor};
-ghost use Rattle.brin_app.specs.ScriptOutput.{RunsThrough};
 ghost use Rattle.brin_app.specs.StatusCauses.{IsDoneSo};
 ghost use Rattle.brin_app.specs.Statuses.{IsStatus};
 
@@ -94,7 +93,7 @@ fn demo_over<D: Disk + Drop, K: Sink>(
     requires { AreDemoNumbers numbers.seed numbers.rows }
     ensures known { IsStatus result.0 }
     ensures runs { (start : Place) → Tells D.told store.pages → store.pages.failed ≡ None → ShowsPlace store start → AllHaveTable D.told store.pages start
-        → IsDemoRun result.0 store.pages.layout numbers.seed numbers.rows (RunsThrough (D.told store.pages.disk) (D.told result.1)) (D.told result.1) (K.taken sink.old) (K.taken sink.new) start }
+        → IsDemoRun result.0 store.pages.layout numbers.seed numbers.rows (D.told result.1) (K.taken sink.old) (K.taken sink.new) (record { place = start; disk = D.told store.pages.disk }) }
     ensures write_fault { result.0 ≡ 5 → Rose (K.faults sink.old) (K.faults sink.new) }
     ensures disk_fault { result.0 ≡ 6 → store.pages.failed ≡ None → Rose (D.told store.pages.disk).faults (D.told result.1).faults }
     ensures damaged { result.0 ≡ 11 → Tells D.told store.pages → store.pages.failed ≡ None → ⊥ }

@@ -10,6 +10,7 @@ ghost use Rattle.recovery.specs.Damaged.{IsDamaged};
 ghost use Rattle.recovery.specs.Opens.{Opens};
 ghost use Rattle.recovery.specs.PageOrder.{AreInOrder};
 ghost use Rattle.brin_app.specs.DemoOutput.{NoDemoFillsJournal};
+ghost use Rattle.brin_app.specs.Moments.{RunsHoldThroughout};
 ghost use Rattle.brin_app.specs.ScriptRoom.{ScriptsFitJournal};
 
 use index_steps::{every_index_of_a_table_is_listed, tuples_of_an_index_are_lawful};
@@ -64,4 +65,11 @@ pub(crate) fn each_image_opens_to_one_map()
     no_change_begins_another();
     redo_is_a_function();
     maps_with_the_same_pages_are_equal();
+}
+
+/// The stretches of a run's lines make up the run: at every moment of it each image has the table behind first requests, and no image is what was there
+/// before, or no store, but while a store is made. Does nothing.
+pub fn the_lines_of_a_run_hold_throughout()
+    ensures { RunsHoldThroughout }
+{
 }

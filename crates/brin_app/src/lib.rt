@@ -3,8 +3,8 @@
 //! a script starts on; the demo's five lines are the counts of the answers to its script (demo_script). It stands on the words of the command
 //! line (command_line, command_line), the lines (query_words), their texts (reply_texts), the loop over them (script_run), the making of a
 //! store (store_format) and the store of sessions over a disk (session_core).
-//! At every moment each image of the disk has the table of a front of the script's requests, and at the end that of all of them
-//! (specs/CrashRule.antt); behind a fault of the disk the commit that was in hand may be in it as well.
+//! Each line has moments of its own: in them each image of the disk has the table before the line, or that with its commit, and behind them, and at the
+//! end, that of all requests so far (specs/CrashRule.antt). Behind a fault of the disk the commit that was in hand may be in it as well.
 #![tactic(auto)]
 
 mod answers;
@@ -17,7 +17,7 @@ mod status;
 mod top;
 mod wanted;
 
-pub use laws::{every_script_has_a_start, short_scripts_fit};
+pub use laws::{every_script_has_a_start, short_scripts_fit, the_lines_of_a_run_hold_throughout};
 pub use status::{
     DAMAGED, DISK_FAULT, DONE, LIMIT, MEMORY, NO_STORE, READ_FAULT, SCRIPT_LIMIT, USAGE,
     WRITE_FAULT,

@@ -14,7 +14,7 @@ ghost use Rattle.session_core.specs.StopRule.{AllHaveTable};
 ghost use Rattle.session_core.specs.Started.{HoldsImage};
 ghost use Rattle.session_core.specs.FreshPages.{IsOldOrFresh};
 ghost use Rattle.brin_app.specs.Holding.{HoldsOn, HoldsOnFor};
-ghost use Rattle.brin_app.specs.ScriptOutput.{EachImageHas, EachImageIsFresh, HoldsFresh, IsFreshOutput, IsMade, IsOldOrEmpty, IsScriptRun, RunsThrough, exit_status};
+ghost use Rattle.brin_app.specs.ScriptOutput.{EachImageHas, EachImageIsFresh, HoldsFresh, IsFreshOutput, IsMade, IsOldOrEmpty, IsScriptRun, exit_status};
 ghost use Rattle.brin_app.specs.StatusCauses.{HasDamage, IsCompleteOf, IsDoneSo, IsRefusedSo, IsSpentOf, LacksStore};
 ghost use Rattle.brin_app.specs.Statuses.{IsFit, IsStatus, IsUnfit, format_status, start_status};
 ghost use Rattle.command_line.specs.Laws.{AreDemoNumbers};
@@ -356,7 +356,7 @@ fn run_opened<D: Disk + Drop, S: Source, K: Sink>(
 ) -> (u8, D)
     ensures known { IsStatus result.0 }
     ensures runs { (start : Place) → Tells D.told store.pages → store.pages.failed ≡ None → ShowsPlace store start → AllHaveTable D.told store.pages start
-        → IsScriptRun result.0 store.pages.layout (RunsThrough (D.told store.pages.disk) (D.told result.1)) (D.told result.1) (S.left source.old) (S.left source.new) (K.taken sink.old) (K.taken sink.new) start }
+        → IsScriptRun result.0 store.pages.layout (D.told result.1) (S.left source.old) (S.left source.new) (K.taken sink.old) (K.taken sink.new) (record { place = start; disk = D.told store.pages.disk }) }
     ensures read_fault { result.0 ≡ 4 → Rose (S.faults source.old) (S.faults source.new) }
     ensures write_fault { result.0 ≡ 5 → Rose (K.faults sink.old) (K.faults sink.new) }
     ensures disk_fault { result.0 ≡ 6 → store.pages.failed ≡ None → Rose (D.told store.pages.disk).faults (D.told result.1).faults }

@@ -17,6 +17,7 @@ use Rattle.block_model.specs.DatabaseState.{DatabaseState, OpenTransaction}
 use Rattle.block_model.specs.RequestEffect.{Answer, effect_at, effect_is, after_request, is_conflict, is_own, marked_elsewhere, with_transaction, without_transaction, after_begin, new_transaction, merged}
 use Rattle.block_model.specs.SerialRun.{serial_run}
 use Rattle.model_laws.specs.Commits.{merged_of, committed_in}
+use Rattle.model_laws.specs.MarksAreApart.{MarksAreApart}
 use Rattle.model_laws.specs.NoRowRemovedTwice.{IsOpening, InitialIsOpening, MarksApart, MarksStand, NoRowRemovedTwice}
 use Rattle.model_laws.proofs.KeyedLists.{tied}
 use Rattle.block_model.specs.NumberMaps.{found_after_put, found_after_removal, same_Some, none_Some}
@@ -319,7 +320,7 @@ sound_after s (e ∷ es) h = sound_after (after_request s e) es (follows s e h).
 
 opening_is_sound : (s : DatabaseState) → IsOpening s → IsSound s
 opening_is_sound s h =
-    let nobody = λ (n : ℕ) (x : OpenTransaction) (found : get s.sessions n ≡ Some x). none_Some x (sym (ap (λ ss. get ss n) h.none_open ∙ get-empty nat_cmp n) ∙ found) in
+    let nobody = λ (n : ℕ) (x : OpenTransaction) (found : get s.sessions n ≡ Some x). none_Some x (sym (h.none_open n) ∙ found) in
     record {
       below = λ n x found. absurd (nobody n x found);
       apart = λ n m x y differ found _ _. nobody n x found;
@@ -335,5 +336,8 @@ no_row_removed_twice s journal h = record {
   stood = λ before after e x is commits. (sound_after s before (opening_is_sound s h)).stand e.session x commits.under_way;
 }
 
+pub marks_are_apart : MarksAreApart
+marks_are_apart s journal h = let sound = sound_after s journal (opening_is_sound s h) in record { stand = sound.stand; apart = sound.marks_apart }
+
 pub initial_is_opening : InitialIsOpening
-initial_is_opening = record { none_open = refl; earlier = λ id has. absurd (false≢true (sym (ap is_some (get-empty id_cmp id)) ∙ has)) }
+initial_is_opening = record { none_open = get-empty nat_cmp; earlier = λ id has. absurd (false≢true (sym (ap is_some (get-empty id_cmp id)) ∙ has)) }

@@ -9,6 +9,7 @@ pub mod FailedCommitChangesNothing
 pub mod TableIsCommits
 pub mod OwnRequestsAlone
 pub mod NoRowRemovedTwice
+pub mod MarksAreApart
 pub mod RowsStandAtTheirIds
 pub mod EqualityIsIdentity
 pub mod ConverseOperators

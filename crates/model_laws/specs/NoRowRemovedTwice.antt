@@ -1,5 +1,5 @@
 -- No row is removed by two commits, and each that is removed stood in the table.
-use Rattle.std.specs.Prelude.{◌≡◌, ◌<◌, true, List, ◌∷◌, ◌++◌, AllPairs}
+use Rattle.std.specs.Prelude.{◌≡◌, ℕ, ◌<◌, true, List, ◌∷◌, ◌++◌, None, AllPairs}
 use Rattle.std.specs.FinMap as map
 use Rattle.std.specs.FinSet as set
 use Rattle.block_model.specs.declared.row.RowId.{RowId}
@@ -10,7 +10,7 @@ use Rattle.model_laws.specs.Commits.{Commits, committed_in}
 
 -- no transaction is under way, and each row has been put by one of an earlier number
 pub record IsOpening (s : DatabaseState) : Type 0 where
-  pub none_open : s.sessions ≡ map.empty
+  pub none_open : (n : ℕ) → map.get s.sessions n ≡ None
   pub earlier : (id : RowId) → map.contains_key s.table id ≡ true → id.t < s.next
 
 -- a new database is an opening

@@ -5,6 +5,7 @@ ghost use Rattle.model_laws.specs.FailedCommitChangesNothing.{FailedCommitChange
 ghost use Rattle.model_laws.specs.TableIsCommits.{TableIsCommits};
 ghost use Rattle.model_laws.specs.OwnRequestsAlone.{OwnRequestsAlone};
 ghost use Rattle.model_laws.specs.NoRowRemovedTwice.{InitialIsOpening, NoRowRemovedTwice};
+ghost use Rattle.model_laws.specs.MarksAreApart.{MarksAreApart};
 ghost use Rattle.model_laws.specs.RowsStandAtTheirIds.{RowsStandAtTheirIds};
 
 /// A commit of a transaction that hasn't failed puts its own rows and takes away those that it marked. It changes nothing
@@ -39,6 +40,11 @@ pub fn initial_is_opening()
 /// commits.
 pub fn no_row_removed_twice()
     ensures { NoRowRemovedTwice }
+{}
+
+/// From an opening on, open transactions marked rows that stand in the table, and no two of them the same one.
+pub fn marks_are_apart()
+    ensures { MarksAreApart }
 {}
 
 /// Each row of the tables and of each copy stands at its own id, from a new database on.

@@ -14,8 +14,8 @@ mod transaction;
 mod value_laws;
 
 pub use laws::{
-    commit_changes_own, failed_commit_changes_nothing, initial_is_opening, no_row_removed_twice,
-    own_requests_alone, rows_stand_at_their_ids, table_is_commits,
+    commit_changes_own, failed_commit_changes_nothing, initial_is_opening, marks_are_apart,
+    no_row_removed_twice, own_requests_alone, rows_stand_at_their_ids, table_is_commits,
 };
 pub use model::{Answered, End, Run, SerialModel};
 pub use value_laws::{

@@ -30,10 +30,11 @@ runs_over layout table status old new before behind sure stays has output =
       | inr run ↦
           record {
             start = run.0;
-            from = table_at run.0 _ run.1.opening.opening_is run.1.opening.journal;
+            from = table_at run.0.place _ run.1.opening.opening_is run.1.opening.journal;
             begins = run.1.opening.journal;
-            run = run.2;
-            holds = subst (λ (m : DiskLayout). HoldsSure new m (database_at run.2.after).table) (run.2.further.layout ∙ run.1.opening.layout_is)
-                (stays.table run.2.after.layout (database_at run.2.after).table (run.2.whole only.0));
+            opened = run.2;
+            run = run.3;
+            holds = subst (λ (m : DiskLayout). HoldsSure new m (database_at run.3.after).table) (run.3.further.layout ∙ run.1.opening.layout_is)
+                (stays.table run.3.after.layout (database_at run.3.after).table (run.3.whole only.0));
           }
     ]

@@ -1,6 +1,6 @@
 //! A new store on a disk in memory.
 
-ghost use Rattle.std.specs.Prelude.{IfOk};
+ghost use Rattle.std.specs.Prelude.{◌≡◌, IfOk, IfErr};
 ghost use Rattle.block_model.specs.DatabaseState.{initial_state};
 ghost use Rattle.disk_trait.specs.Memory.{told_by_memory};
 ghost use Rattle.brin_app.specs.declared.top.Task.TheVariants as tasks;
@@ -8,6 +8,7 @@ ghost use Rattle.brin_app.specs.DiskLayout.{DiskLayout};
 ghost use Rattle.brin_app.specs.Holding.{HoldsSure, StaysStore};
 ghost use Rattle.brin_app.specs.Tasks.{Asks};
 ghost use Rattle.brin_app.specs.WantedSizes.{AsksForNew};
+ghost use Rattle.rerun.specs.Turns.{HasMadeNone};
 
 use crate::streams::{Room, Streams};
 use block_model::Words;
@@ -16,10 +17,11 @@ use disk_trait::MemoryDisk;
 use io_traits::{MemorySink, MemorySource};
 use std::alloc::Global;
 
-/// The disk of the new store for which the words ask. `Err` is the status where none was made.
+/// The disk of the new store for which the words ask. `Err` is the status with which the making ended, unless that is 0.
 pub(crate) fn new_store(alloc: Global, words: &Words, room: Room) -> Result<MemoryDisk, u8>
     ensures store { IfOk result (λ disk. StaysStore 0 (told_by_memory disk)) }
     ensures empty { IfOk result (λ disk. (layout : DiskLayout) → Asks words.now (tasks.Init layout) → HoldsSure (told_by_memory disk) layout initial_state.table) }
+    ensures none { IfErr result (HasMadeNone words.now) }
 {
     let disk = new_disk(alloc, words, room)?;
     let mut none = no_streams(alloc)?;
@@ -34,6 +36,7 @@ pub(crate) fn new_store(alloc: Global, words: &Words, room: Room) -> Result<Memo
 fn new_disk(alloc: Global, words: &Words, room: Room) -> Result<MemoryDisk, u8>
     ensures asked { IfOk result (λ _. (layout : DiskLayout) × AsksForNew words.now layout) }
     ensures new { IfOk result (λ _. ¬ (Asks words.now tasks.RunStored)) }
+    ensures none { IfErr result (HasMadeNone words.now) }
 {
     let Ok(wanted) = wanted_size(alloc, words) else {
         return Err(MEMORY);
@@ -51,7 +54,9 @@ fn new_disk(alloc: Global, words: &Words, room: Room) -> Result<MemoryDisk, u8>
 }
 
 /// An empty script, and a sink without room. `Err` is the status where memory is short.
-fn no_streams(alloc: Global) -> Result<Streams, u8> {
+fn no_streams(alloc: Global) -> Result<Streams, u8>
+    ensures { IfErr result (λ status. status ≡ 7) }
+{
     let script = MemorySource::new(Vec::new(alloc), 1, Vec::new(alloc));
     let Ok(texts) = MemorySink::new(alloc, 0, 1, Vec::new(alloc)) else {
         return Err(MEMORY);

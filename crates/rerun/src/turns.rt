@@ -1,6 +1,6 @@
 //! Scripts over one store, one after the other.
 
-ghost use Rattle.std.specs.Prelude.{IfOk};
+ghost use Rattle.std.specs.Prelude.{IfOk, IfErr};
 ghost use Rattle.block_model.specs.TableState.{TableState};
 ghost use Rattle.disk_trait.specs.Memory.{told_by_memory};
 ghost use Rattle.brin_app.specs.declared.top.Task.TheVariants as tasks;
@@ -8,7 +8,7 @@ ghost use Rattle.brin_app.specs.DiskLayout.{DiskLayout};
 ghost use Rattle.brin_app.specs.Holding.{HasRun, HoldsStore, HoldsSure};
 ghost use Rattle.brin_app.specs.Started.{HoldsImage};
 ghost use Rattle.brin_app.specs.Tasks.{Asks};
-ghost use Rattle.rerun.specs.Turns.{AreInTurn, IsRunOver};
+ghost use Rattle.rerun.specs.Turns.{AreInTurn, HasEnded, HasMadeNone, IsRunOver};
 
 use crate::making::new_store;
 use crate::streams::{Ends, Room, Streams};
@@ -17,8 +17,8 @@ use brin_app::brin_main;
 use disk_trait::MemoryDisk;
 use std::alloc::Global;
 
-/// Makes the store for which words ask, on a new disk in memory that has room to record so much, and runs two scripts over it. `Err` is the status where no
-/// store was made.
+/// Makes the store for which words ask, on a new disk in memory that has room to record so much, and runs two scripts over it. `Err` is the status with
+/// which the making ended, unless that is 0.
 pub fn run_twice(
     alloc: Global,
     making: &Words,
@@ -28,8 +28,11 @@ pub fn run_twice(
     second: &mut Streams,
 ) -> Result<Ends, u8>
     // The second script starts from the table that the first one left, where no fault of the disk and no want of memory ended them.
-    ensures { IfOk result (λ ends. (layout : DiskLayout) → Asks making.now (tasks.Init layout) → Asks running.now tasks.RunStored → HasRun ends.first → HasRun ends.second
+    ensures in_turn { IfOk result (λ ends. (layout : DiskLayout) → Asks making.now (tasks.Init layout) → Asks running.now tasks.RunStored → HasRun ends.first → HasRun ends.second
         → AreInTurn layout ends first.old first.new second.old second.new) }
+    // How each run ended, and how the making did where it made no store.
+    ensures ended { IfOk result (λ ends. HasEnded running.now ends.first × HasEnded running.now ends.second) }
+    ensures none { IfErr result (HasMadeNone making.now) }
 {
     let disk = new_store(alloc, making, room)?;
     let (one, disk) = run_over(alloc, running, disk, first);
@@ -52,6 +55,7 @@ fn run_over(
     ensures ran { Asks words.now tasks.RunStored → HasRun result.0 → (layout : DiskLayout) (table : TableState) → HoldsSure (told_by_memory disk) layout table
         → IsRunOver layout table result.0 (told_by_memory disk) (told_by_memory result.1) streams.old streams.new }
     ensures image { HoldsStore (told_by_memory disk) → HoldsImage (told_by_memory result.1) }
+    ensures ended { HasEnded words.now result.0 }
 {
     brin_main(alloc, words, disk, &mut streams.script, &mut streams.texts)
 }

@@ -9,13 +9,11 @@ use Rattle.coverage.specs.IndexView.{IndexView}
 use Rattle.coverage.specs.Statements.{Dropping, Empty, Held, Holding, Maintaining, NotBuilding, Phase, Statement}
 use Rattle.coverage.specs.Counts.{desummarise_count}
 use Rattle.coverage.specs.Steps.{Clear, ClearAgain, ClearMap, ClearNone, DesummariseStep, DropCleared}
-use Rattle.coverage.specs.Accounts as accounts
-use Rattle.coverage.specs.Accounts.{Accounts, AccountsStep, Adds}
-use Rattle.coverage.specs.Table.{Considers, Desummarising, EachRange, Index, Job, Maintains, OneRange, Resting, TableState, Task, WholeRanges, index_view_at}
+use Rattle.coverage.specs.Accounts.{Account, Accounts, AccountsStep, Adds}
+use Rattle.coverage.specs.Refusals.{Refusal}
+use Rattle.coverage.specs.Table.{Considers, Desummarising, Index, Maintains, Resting, TableState, Task, index_view_at}
 use Rattle.coverage.specs.TablePoints.{does_point}
-use Rattle.coverage.specs.TableSteps.{AsksSummary, BeginsScan, BeginsWith, Blocked, Conflicts, Desummarize, Does, GivesLock, GoesOn, HasRange, HasStep, Inserted, InsertCompletes, InsertGoes, IsMaintained, Judges, JudgesNext}
-use Rattle.coverage.specs.TableSteps.{MaintainCompletes, MaintainGoes, Marked, MarksRow, NextIndex, NothingToSweep, Onward, Pruned, PrunesBlock, PutsRow, RangesDone, ReadsBlock, RefusesInsert, RefusesMaintain, RefusesRow}
-use Rattle.coverage.specs.TableSteps.{RefusesScan, RefusesVacuum, RestartsIndex, Scanned, Settles, Stays, Summarize, SummarizeOne, SweepsPage, Swept, TableStep, TakesLock, ToAsk, ToIndex, ToMarks, ToPage, ToRange, Transacts, Vacuum, Work, range_in}
+use Rattle.coverage.specs.TableSteps.{Does, Settles, TableStep, range_in}
 use Rattle.index_steps.specs.IndexTuples.{index_at}
 use Rattle.store_layout.specs.declared.statement.Statement.TheVariants as statements
 use Rattle.script_semantics.specs.Beginnings.{Begins, StandsAt}
@@ -26,6 +24,7 @@ use Rattle.script_semantics.specs.StatementSteps as steps
 use Rattle.script_semantics.specs.StatementSteps.{AtOnce, Ended, IsRefused, IsWaiting, LacksMemoryAtOnce, MeetsConflict, Moved, NoNumber, NothingAsked, Outcome, Replies, StepsTo}
 use Rattle.script_semantics.specs.Turns.{Turn, point_of}
 use Rattle.script_laws.specs.TextLaws.{AnswersItsRange, IsCleared}
+use Rattle.script_laws.proofs.MaintainDoes.{AtRange, Completes, FindsLocked, Goes, LacksPage, Ranged, SettlesSo, at_first, at_range, settles_so}
 
 -- what its phase says of the range: its entry stands as at first, and nothing is counted; or it had one, and has none now
 abbrev pub PhaseSays : (first now : IndexView) → (range count : ℕ) → Phase → Type 0
@@ -70,66 +69,19 @@ module _ (first : TableState) (s at range : ℕ) where
     IsAtPhase : (phase : Phase) → w.task s ≡ task_at phase → SaysIn w count phase → Comes w count
     IsPast : w.task s ≡ Considers (Desummarising range) at (suc range) → IsCleared ((first.index at).entry range) ((w.index at).entry range) count → Comes w count
 
-  -- the parts of a task
-  abbrev its_range : Task → ℕ
-  its_range (Maintains job i m phase) = m
-  its_range task = 0
-
-  abbrev its_index : Task → ℕ
-  its_index (Maintains job i m phase) = i
-  its_index task = 0
-
-  goes_here : (w v : TableState) (count i m o : ℕ) (old : Phase) (new : Statement) (phase : Phase) → Maintains (Desummarising o) i m old ≡ task_at phase → SaysIn w count phase
-      → (step : DesummariseStep s m (index_view_at i w) (index_view_at i v) old new) → StatementSays (index_view_at at first) (index_view_at at v) range (count + desummarise_count step) new
-  goes_here w v count i m o old new phase same says step =
-      let i_is : i ≡ at = ap its_index same in
-      let m_is : m ≡ range = ap its_range same in
-      let old_is : phase ≡ old = cc in
-      subst (λ j. StatementSays (index_view_at j first) (index_view_at j v) range (count + desummarise_count step) new) i_is
-      (subst (λ k. StatementSays (index_view_at i first) (index_view_at i v) k (count + desummarise_count step) new) m_is
-      (clears s m count (index_view_at i first) (index_view_at i w) (index_view_at i v) old new step
-      (subst (λ k. PhaseSays (index_view_at i first) (index_view_at i w) k count old) (sym m_is)
-      (subst (λ j. PhaseSays (index_view_at j first) (index_view_at j w) range count old) (sym i_is) (subst (SaysIn w count) old_is says)))))
-
   pub does_clear : (w v : TableState) (a b : Accounts) (point : Point) (phase : Phase) (does : Does s w v) → does_point s w v does ≡ Some point → Adds s w v does a b → w.task s ≡ task_at phase
       → SaysIn w (a.of s).ranges phase → Comes v (b.of s).ranges
-  does_clear w v a b point phase (PutsRow c k r place turns takes) told adds is says = absurd (cc)
-  does_clear w v a b point phase (RefusesRow t refused turns fails) told adds is says = absurd (none-some _ told)
-  does_clear w v a b point phase (AsksSummary c k r i turns only) told adds is says = absurd (cc)
-  does_clear w v a b point phase (InsertGoes c k r i old new turns stepped step) told adds is says = absurd (cc)
-  does_clear w v a b point phase (InsertCompletes c k r i old turns stepped step) told adds is says = absurd (cc)
-  does_clear w v a b point phase (RefusesInsert c k r old refused turns fails) told adds is says = absurd (none-some _ told)
-  does_clear w v a b point phase (TakesLock first_task begins turns free held rows indexes) told adds is says = absurd (cc)
-  does_clear w v a b point phase (MaintainGoes (EachRange extent) i m old new turns stepped step) told adds is says = absurd (cc)
-  does_clear w v a b point phase (MaintainGoes (OneRange extent only) i m old new turns stepped step) told adds is says = absurd (cc)
-  does_clear w v a b point phase (MaintainGoes (WholeRanges extent) i m old new turns stepped step) told adds is says = absurd (cc)
-  does_clear w v a b point phase (MaintainGoes (Desummarising o) i m old new turns stepped step) told adds is says =
-      let same : Maintains (Desummarising o) i m old ≡ task_at phase = sym turns.was ∙ is in
-      let now : Maintains (Desummarising o) i m new ≡ task_at new = cc in
-      IsAtPhase new (turns.now ∙ now)
-      (subst (λ count. SaysIn v count new) (sym (ap (λ (x : accounts.Account). x.ranges) adds.account)) (goes_here w v (a.of s).ranges i m o old (Maintaining m new) phase same says step))
-  does_clear w v a b point phase (MaintainCompletes (EachRange extent) i m old turns stepped step) told adds is says = absurd (cc)
-  does_clear w v a b point phase (MaintainCompletes (OneRange extent only) i m old turns stepped step) told adds is says = absurd (cc)
-  does_clear w v a b point phase (MaintainCompletes (WholeRanges extent) i m old turns stepped step) told adds is says = absurd (cc)
-  does_clear w v a b point phase (MaintainCompletes (Desummarising o) i m old turns stepped step) told adds is says =
-      let same : Maintains (Desummarising o) i m old ≡ task_at phase = sym turns.was ∙ is in
-      let now : Considers (Desummarising o) i (suc m) ≡ Considers (Desummarising range) at (suc range) = cc in
-      IsPast (turns.now ∙ now)
-      (subst (λ count. IsCleared ((first.index at).entry range) ((v.index at).entry range) count) (sym (ap (λ (x : accounts.Account). x.ranges) adds.account))
-      (goes_here w v (a.of s).ranges i m o old Holding phase same says step))
-  does_clear w v a b point phase (RefusesMaintain job i m old refused turns stepped passes) told adds is says = absurd (none-some _ told)
-  does_clear w v a b point phase (RefusesVacuum old vacuuming turns given rows indexes) told adds is says = absurd (none-some _ told)
-  does_clear w v a b point phase (PrunesBlock extent next dropped inside spared turns drops) told adds is says = absurd (cc)
-  does_clear w v a b point phase (SweepsPage i page turns stepped sweeps) told adds is says = absurd (cc)
-  does_clear w v a b point phase (RestartsIndex i turns only) told adds is says = absurd (cc)
-  does_clear w v a b point phase (BeginsScan scan begins turns only) told adds is says = absurd (cc)
-  does_clear w v a b point phase (Judges old new inside low step turns only) told adds is says = absurd (cc)
-  does_clear w v a b point phase (ReadsBlock scan next found reads turns only) told adds is says = absurd (cc)
-  does_clear w v a b point phase (RefusesScan scan t turns how) told adds is says = absurd (none-some _ told)
-  does_clear w v a b point phase (MarksRow scan id rest turns only) told adds is says = absurd (cc)
-  does_clear w v a b point phase (Conflicts scan id rest t turns fails) told adds is says = absurd (none-some _ told)
-  does_clear w v a b point phase (Blocked task blocked turns only) told adds is says = absurd (none-some _ told)
-  does_clear w v a b point phase (Transacts counts resting few same) told adds is says = absurd (none-some _ told)
+  does_clear w v a b point phase does told adds is says =
+      by _ _ (at_range s w v a b (Desummarising range) at range phase does adds is) told
+    where
+      by : (named : Option Point) (refused : Option Refusal) → AtRange s w v a b (Desummarising range) at range phase named refused → named ≡ Some point → Comes v (b.of s).ranges
+      by _ _ (Goes new _ now below step account) told = IsAtPhase new now (subst (λ count. SaysIn v count new) (sym (ap (λ (x : Account). x.ranges) account))
+          (clears s range (a.of s).ranges (index_view_at at first) (index_view_at at w) (index_view_at at v) phase (Maintaining range new) step says))
+      by _ _ (Completes _ now below step account) told = IsPast now
+          (subst (λ count. IsCleared ((first.index at).entry range) ((v.index at).entry range) count) (sym (ap (λ (x : Account). x.ranges) account))
+          (clears s range (a.of s).ranges (index_view_at at first) (index_view_at at w) (index_view_at at v) phase Holding step says))
+      by _ _ (LacksPage number why full) told = absurd (none-some _ told)
+      by _ _ (FindsLocked blocked) told = absurd (none-some _ told)
 
 -- ---- where its step ends
 
@@ -139,54 +91,6 @@ phase_same range count first now next (NotBuilding (Held x)) same says = (says.0
 phase_same range count first now next (NotBuilding (Dropping x)) same says = (says.0, says.1, same ∙ says.2)
 phase_same range count first now next phase same says = absurd says
 
--- the statement goes over the range that it considers
-abbrev pub considers_one : TableState → Task → Type 0
-considers_one w (Considers job at range) = HasRange w job at range
-considers_one w task = Unit {0}
-
-abbrev pub has_none : TableState → Task → Type 0
-has_none w (Considers job at range) = HasRange w job at range → ⊥
-has_none w task = Unit {0}
-
-onward_range : (w : TableState) (old new : Task) → Onward w old new → (only at range : ℕ) → old ≡ Considers (Desummarising only) at range
-    → (range ≡ only) × (new ≡ Maintains (Desummarising only) at range (NotBuilding Empty))
-onward_range w _ _ (Stays task has) only at range is = absurd (subst (HasStep w) is has)
-onward_range w _ _ (ToAsk b k r i below asks) only at range is = absurd (cc)
-onward_range w _ _ (ToIndex b k r i below not) only at range is = absurd (cc)
-onward_range w _ _ (Inserted b k r i end) only at range is = absurd (cc)
-onward_range w _ _ (ToRange job i m has) only at range is = (subst (considers_one w) is has, cc)
-onward_range w _ _ (NextIndex extent i m none below) only at range is = absurd (cc)
-onward_range w _ _ (Pruned extent next new past more) only at range is = absurd (cc)
-onward_range w _ _ (ToPage i from m p first) only at range is = absurd (cc)
-onward_range w _ _ (Swept i from none some) only at range is = absurd (cc)
-onward_range w _ _ (JudgesNext scan new below low held more) only at range is = absurd (cc)
-onward_range w _ _ (Scanned scan read nothing) only at range is = absurd (cc)
-onward_range w _ _ (ToMarks scan id rest read reads deletes lists) only at range is = absurd (cc)
-onward_range w _ _ (Marked scan) only at range is = absurd (cc)
-
-pub onward_stays : (w : TableState) (old new : Task) → Onward w old new → (job : Job) (at range : ℕ) (phase : Phase) → old ≡ Maintains job at range phase → new ≡ Maintains job at range phase
-onward_stays w _ _ (Stays task has) job at range phase is = is
-onward_stays w _ _ (ToAsk b k r i below asks) job at range phase is = absurd (cc)
-onward_stays w _ _ (ToIndex b k r i below not) job at range phase is = absurd (cc)
-onward_stays w _ _ (Inserted b k r i end) job at range phase is = absurd (cc)
-onward_stays w _ _ (ToRange j i m has) job at range phase is = absurd (cc)
-onward_stays w _ _ (NextIndex extent i m none below) job at range phase is = absurd (cc)
-onward_stays w _ _ (Pruned extent next new past more) job at range phase is = absurd (cc)
-onward_stays w _ _ (ToPage i from m p first) job at range phase is = absurd (cc)
-onward_stays w _ _ (Swept i from none some) job at range phase is = absurd (cc)
-onward_stays w _ _ (JudgesNext scan new below low held more) job at range phase is = absurd (cc)
-onward_stays w _ _ (Scanned scan read nothing) job at range phase is = absurd (cc)
-onward_stays w _ _ (ToMarks scan id rest read reads deletes lists) job at range phase is = absurd (cc)
-onward_stays w _ _ (Marked scan) job at range phase is = absurd (cc)
-
-pub not_maintained : (w : TableState) (old : Task) → IsMaintained w old → (job : Job) (at range : ℕ) (phase : Phase) → old ≡ Maintains job at range phase → ⊥
-not_maintained w _ (RangesDone j i m none last) job at range phase is = cc
-not_maintained w _ (NothingToSweep extent next past none) job at range phase is = cc
-
-is_past : (w : TableState) (old : Task) → IsMaintained w old → (only at range : ℕ) → old ≡ Considers (Desummarising only) at range → range ≡ only → ⊥
-is_past w _ (RangesDone j i m none last) only at range is has = subst (has_none w) is none has
-is_past w _ (NothingToSweep extent next past none) only at range is has = cc
-
 module _ (first : TableState) (s at range : ℕ) where
   -- it is at its range still; or it is done
   pub data Ends (w : TableState) (count : ℕ) : Type 0 where
@@ -194,16 +98,14 @@ module _ (first : TableState) (s at range : ℕ) where
     IsDone : w.task s ≡ Resting → IsCleared ((first.index at).entry range) ((w.index at).entry range) count → Ends w count
 
   settles_in : (w v : TableState) (count : ℕ) → Comes first s at range w count → Settles s w v → Ends v count
-  settles_in w v count (IsAtPhase phase is says) (GoesOn old new onward turns only) =
-      StillAt phase (turns.now ∙ onward_stays w old new onward (Desummarising range) at range phase (sym turns.was ∙ is))
-      (phase_same range count (index_view_at at first) (index_view_at at w) (index_view_at at v) phase (ap (λ (x : Index). x.entry range) (only.indexes.index at)) says)
-  settles_in w v count (IsAtPhase phase is says) (GivesLock old maintained turns given rows indexes) =
-      absurd (not_maintained w old maintained (Desummarising range) at range phase (sym turns.was ∙ is))
-  settles_in w v count (IsPast is cleared) (GoesOn old new onward turns only) =
-      let past : suc range ≡ range = (onward_range w old new onward range at (suc range) (sym turns.was ∙ is)).0 in
-      absurd (omega (arith, past))
-  settles_in w v count (IsPast is cleared) (GivesLock old maintained turns given rows indexes) =
-      IsDone turns.now (subst (λ (x : Index). IsCleared ((first.index at).entry range) (x.entry range) count) (sym (indexes.index at)) cleared)
+  settles_in w v count (IsAtPhase phase is says) settles =
+      let so = subst (SettlesSo s w v) is (settles_so s w v settles) in
+      StillAt phase so.0 (phase_same range count (index_view_at at first) (index_view_at at w) (index_view_at at v) phase (ap (λ (x : Index). x.entry range) (so.1.index at)) says)
+  settles_in w v count (IsPast is cleared) settles = by (subst (SettlesSo s w v) is (settles_so s w v settles))
+    where
+      by : Ranged s w v (Desummarising range) at (suc range) → Ends v count
+      by (same, inl has) = absurd (omega (arith, has.0))
+      by (same, inr none) = IsDone none.1 (subst (λ (x : Index). IsCleared ((first.index at).entry range) (x.entry range) count) (sym (same.index at)) cleared)
 
   -- a step at its range
   pub steps_on : (w v : TableState) (a b : Accounts) (point : Point) (phase : Phase) (step : TableStep s w v) → does_point s w step.between step.does ≡ Some point
@@ -213,56 +115,24 @@ module _ (first : TableState) (s at range : ℕ) where
 
 -- ---- its first step
 
-first_at_lock : (s at range : ℕ) (w : TableState) (first_task : Task) (begins : BeginsWith w first_task) (a b : Accounts) → accounts.Begins s w first_task begins a b
-    → first_task ≡ Considers (Desummarising range) at range → (b.of s).ranges ≡ 0
-first_at_lock s at range w _ (Summarize i below) a b takes is = absurd (cc)
-first_at_lock s at range w _ (SummarizeOne i only below) a b takes is = absurd (cc)
-first_at_lock s at range w _ (Work i only below) a b takes is = absurd (cc)
-first_at_lock s at range w _ (Desummarize i only below) a b takes is = ap (λ (x : accounts.Account). x.ranges) takes.account
-first_at_lock s at range w _ Vacuum a b takes is = absurd (cc)
-
 module _ (s at range : ℕ) where
   abbrev begun : Task
   begun = Considers (Desummarising range) at range
 
-  first_does : (w v : TableState) (a b : Accounts) (point : Point) (does : Does s w v) → does_point s w v does ≡ Some point → Adds s w v does a b → w.task s ≡ Resting → v.task s ≡ begun
-      → (v.index at ≡ w.index at) × ((b.of s).ranges ≡ 0)
-  first_does w v a b point (PutsRow c k r place turns takes) told adds rests is = absurd (cc)
-  first_does w v a b point (RefusesRow t refused turns fails) told adds rests is = absurd (none-some _ told)
-  first_does w v a b point (AsksSummary c k r i turns only) told adds rests is = absurd (cc)
-  first_does w v a b point (InsertGoes c k r i old new turns stepped step) told adds rests is = absurd (cc)
-  first_does w v a b point (InsertCompletes c k r i old turns stepped step) told adds rests is = absurd (cc)
-  first_does w v a b point (RefusesInsert c k r old refused turns fails) told adds rests is = absurd (none-some _ told)
-  first_does w v a b point (TakesLock first_task begins turns free held rows indexes) told adds rests is =
-      (indexes.index at, first_at_lock s at range w first_task begins a b adds (sym turns.now ∙ is))
-  first_does w v a b point (MaintainGoes job i m old new turns stepped step) told adds rests is = absurd (cc)
-  first_does w v a b point (MaintainCompletes job i m old turns stepped step) told adds rests is = absurd (cc)
-  first_does w v a b point (RefusesMaintain job i m old refused turns stepped passes) told adds rests is = absurd (none-some _ told)
-  first_does w v a b point (RefusesVacuum old vacuuming turns given rows indexes) told adds rests is = absurd (none-some _ told)
-  first_does w v a b point (PrunesBlock extent next dropped inside spared turns drops) told adds rests is = absurd (cc)
-  first_does w v a b point (SweepsPage i page turns stepped sweeps) told adds rests is = absurd (cc)
-  first_does w v a b point (RestartsIndex i turns only) told adds rests is = absurd (cc)
-  first_does w v a b point (BeginsScan scan begins turns only) told adds rests is = absurd (cc)
-  first_does w v a b point (Judges old new inside low step turns only) told adds rests is = absurd (cc)
-  first_does w v a b point (ReadsBlock scan next found reads turns only) told adds rests is = absurd (cc)
-  first_does w v a b point (RefusesScan scan t turns how) told adds rests is = absurd (none-some _ told)
-  first_does w v a b point (MarksRow scan id rest turns only) told adds rests is = absurd (cc)
-  first_does w v a b point (Conflicts scan id rest t turns fails) told adds rests is = absurd (none-some _ told)
-  first_does w v a b point (Blocked task blocked turns only) told adds rests is = absurd (none-some _ told)
-  first_does w v a b point (Transacts counts resting few same) told adds rests is = absurd (none-some _ told)
-
   first_settles : (w u v : TableState) → u.index at ≡ w.index at → u.task s ≡ begun → Settles s u v
       → (v.task s ≡ Maintains (Desummarising range) at range (NotBuilding Empty)) × ((v.index at).entry range ≡ (w.index at).entry range)
-  first_settles w u v same is (GoesOn old new onward turns only) =
-      (turns.now ∙ (onward_range u old new onward range at range (sym turns.was ∙ is)).1, ap (λ (x : Index). x.entry range) (only.indexes.index at ∙ same))
-  first_settles w u v same is (GivesLock old maintained turns given rows indexes) = absurd (is_past u old maintained range at range (sym turns.was ∙ is) refl)
+  first_settles w u v same is settles = by (subst (SettlesSo s u v) is (settles_so s u v settles))
+    where
+      by : Ranged s u v (Desummarising range) at range → (v.task s ≡ Maintains (Desummarising range) at range (NotBuilding Empty)) × ((v.index at).entry range ≡ (w.index at).entry range)
+      by (on, inl has) = (has.1, ap (λ (x : Index). x.entry range) (on.index at ∙ same))
+      by (on, inr none) = absurd (none.0 refl)
 
   pub first_step : (w v : TableState) (a b : Accounts) (point : Point) (step : TableStep s w v) → does_point s w step.between step.does ≡ Some point
       → AccountsStep s w step.between step.does a b → w.task s ≡ Resting → step.between.task s ≡ begun → Ends w s at range v (b.of s).ranges
   first_step w v a b point step told accounts rests is =
-      let did = first_does w step.between a b point step.does told accounts.adds rests is in
-      let settled = first_settles w step.between v did.0 is step.settles in
-      StillAt (NotBuilding Empty) settled.0 (did.1, settled.1)
+      let did = at_first s w step.between a b (Desummarising range) at range step.does accounts.adds rests is in
+      let settled = first_settles w step.between v (did.0.index at) is step.settles in
+      StillAt (NotBuilding Empty) settled.0 (ap (λ (x : Account). x.ranges) did.1, settled.1)
 
 -- ---- over a finish
 

@@ -34,6 +34,7 @@ use Rattle.script_laws.specs.Answered.{IsAnswered}
 use Rattle.script_laws.specs.Finds.{IsCalm, IsNewWithIndex, IsUnderWay, LacksTuple}
 use Rattle.script_laws.specs.Words.{blocks_of, inserted_text, summary_words}
 use Rattle.script_laws.proofs.Places.{Run, RunEnds, RunGoes, run_finishes}
+use Rattle.script_laws.proofs.RoomInPlace.{empty_room}
 use Rattle.script_laws.proofs.RowSteps as row
 use Rattle.script_laws.proofs.RowSteps.{HasSeat, done_so, grown, has_index, is_taken, only, puts, turns}
 use Rattle.script_laws.proofs.Said.{said_inserted}
@@ -49,7 +50,7 @@ module _ (pages : Pages) (new : AreNewPages pages) (tuple : Spot → Option Inde
   no_regular (suc zero) is = differ 1 2 (ap kind_number (sym (new.map 1 (omega arith)) ∙ is)) (omega arith)
   no_regular (suc (suc q)) is = differ 0 2 (ap kind_number (sym (new.rest (suc (suc q)) (omega arith)) ∙ is)) (omega arith)
 
-  from_two : (q : ℕ) → pages.kind q ≡ Unstarted → 2 ≤ q
+  pub from_two : (q : ℕ) → pages.kind q ≡ Unstarted → 2 ≤ q
   from_two zero is = absurd (differ 0 1 (ap kind_number (sym is ∙ new.map 0 (omega arith))) (omega arith))
   from_two (suc zero) is = absurd (differ 0 1 (ap kind_number (sym is ∙ new.map 1 (omega arith))) (omega arith))
   from_two (suc (suc q)) is = omega arith
@@ -168,6 +169,7 @@ module _ (p : Place) (n t : ℕ) (x : OpenTransaction) (values : List Value) (wa
     mapped = first_entry (w.index 0).pages.map_pages (new.new.pages 0 below).one;
     place = record { block = 2; slot = 0 };
     target = target (w.index 0).pages (new.new.pages 0 below) (w.index 0).tuple (λ y. new.new.tuple 0 y) new.pages (length ((w.index 0).contents.empty 0).bytes);
+    roomy = empty_room (w.index 0).tuple 2 (w.index 0).contents.greatest (λ y. new.new.tuple 0 y) (new.new.lawful 0 below).greatest;
     lawful = new.new.lawful 0 below;
     slots = no_slot;
   }

@@ -5,8 +5,9 @@ use Rattle.block_model.specs.declared.place.Spot.{Spot}
 use Rattle.block_model.specs.declared.reply.Point.TheVariants as points
 use Rattle.coverage.specs.Changes.{OwnLocks, TouchesEntries, TouchesTuples, Frame}
 use Rattle.coverage.specs.IndexPart.{IndexPart, part_of, with_part, SummariseMakes, DesummariseMakes}
-use Rattle.coverage.specs.IndexView.{Building, IndexTuple, ExtentUnread, Passing, Regular, IndexView, IsPastMap, IsRangeOf, map_page_of, most_bytes, placeholder_length}
+use Rattle.coverage.specs.IndexView.{Building, IndexTuple, ExtentUnread, Passing, Regular, IndexView, IsPastMap, IsRangeOf, map_page_of, placeholder_length}
 use Rattle.coverage.specs.Knowing.{IsOneOf, LocksNone, LocksThese}
+use Rattle.coverage.specs.Rooms.{bytes_of, place_room}
 use Rattle.coverage.specs.Statements.{Empty, Held, Copied, Dropping, NotBuilding, Vacant, Placing, IsAt, Maintaining, Holding, HasNoMoreRows, rows_added}
 use Rattle.coverage.specs.Steps.{ReadsIndex, Stands, ReadNoEntry, LookMap, IsFinal, Put, Set, Extent, Pass, Unite, UniteCopies, SwapFinal}
 use Rattle.coverage.specs.Steps.{Maps, ClearMap, ClearNone, Clear, DropCleared}
@@ -112,7 +113,7 @@ module _ (s range : ℕ) (u : IndexView) (mine : AreOwn s u.lock) where
   put_part y t = record {
     entry = u.entry;
     tuple = placed y (Some t) u.tuple;
-    pages = record u.pages { kind = λ p. at_number p y.block Regular (u.pages.kind p); room_at = λ x. at_number x.block y.block most_bytes (u.pages.room_at x) };
+    pages = record u.pages { kind = λ p. at_number p y.block Regular (u.pages.kind p) };
     lock = locks_of s (y.block ∷ map_page_of range ∷ []);
     unnamed = u.unnamed;
   }
@@ -144,8 +145,6 @@ module _ (s range : ℕ) (u : IndexView) (mine : AreOwn s u.lock) where
       page = record {
         now = at_here y.block Regular (u.pages.kind y.block);
         kinds = λ p. at_other p y.block Regular (u.pages.kind p);
-        rooms = λ p. inr refl;
-        places = λ x. at_other x.block y.block most_bytes (u.pages.room_at x);
         map_pages = refl;
         limit = refl;
       };
@@ -187,13 +186,13 @@ module _ (s range : ℕ) (u : IndexView) (mine : AreOwn s u.lock) where
       (UniteCopies extent next result x old (u.contents.united old result) all stands refl (reads none building loose), refl, refl)
 
   pub makes_swap : (extent next : ℕ) (result : IndexTuple) (x : Spot) (old new : IndexTuple) → u.tuple x ≡ Some old → u.pages.kind x.block ≡ Regular
-      → length new.bytes ≤ u.pages.room_at x
+      → length new.bytes ≤ place_room (bytes_of u.tuple) x
       → SummariseMakes s range u (tuple_part x (Some new)) (IsAt (Passing extent next result) (Copied x old new)) Holding points.Swap 1
   makes_swap extent next result x old new stands regular fits building loose = (
     SwapFinal (Passing extent next result) x old new (SwapFits (λ m is. mine x.block m is) stands regular fits) (record {
       tuple = record { was = stands; now = placed_here x (Some new) u.tuple; others = placed_others x (Some new) u.tuple };
       free = λ m is. mine x.block m is;
-      page = record { now = regular; kinds = λ p. inr refl; rooms = λ p. inr refl; places = λ y. inr refl; map_pages = refl; limit = refl };
+      page = record { now = regular; kinds = λ p. inr refl; map_pages = refl; limit = refl };
       frame = tuples_frame (tuple_part x (Some new)) refl refl (none_own s) building loose;
       none = locks_none s;
     }),
@@ -226,7 +225,7 @@ module _ (s range : ℕ) (u : IndexView) (mine : AreOwn s u.lock) where
   clears_drop x building loose = (
     DropCleared x (record {
       tuple = record { now = placed_here x None u.tuple; others = placed_others x None u.tuple };
-      page = record { now = refl; kinds = λ p. inr refl; rooms = λ p. inr refl; places = λ y. inr refl; map_pages = refl; limit = refl };
+      page = record { now = refl; kinds = λ p. inr refl; map_pages = refl; limit = refl };
       frame = tuples_frame (tuple_part x None) refl refl (none_own s) building loose;
       none = locks_none s;
     }),

@@ -48,8 +48,8 @@ PutsFew most n p = puts p.journal + puts_owed (p.hands n) ≤ most
 
 refuses_tag : (p : Place) (table : ℕ) (statement : Statement) (why : causes.Refusal) (tag : Tag) (told : Refusal) → RefusesSo p table statement why tag told → tag ≡ tags.Ok → ⊥
 refuses_tag p table statement _ _ _ (ForMemory takes) is = cc
-refuses_tag p table statement _ _ _ (HeapIsFull number) is = cc
-refuses_tag p table statement _ _ _ (IndexIsFull at number) is = cc
+refuses_tag p table statement _ _ _ (HeapIsFull number insert) is = cc
+refuses_tag p table statement _ _ _ (IndexIsFull at number puts) is = cc
 
 no_memory_tag : tags.NoMemory ≡ tags.Ok → ⊥
 no_memory_tag is = cc

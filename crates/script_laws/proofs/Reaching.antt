@@ -1,19 +1,10 @@
--- What holds of a place that is orderly holds behind each step, and behind each line.
-use Rattle.std.proofs.Common.{◌≡◌, ◌≢◌, ◌⊎◌, inl, inr, ℕ, ◌<◌, eqb, true, false, List, [], ◌∷◌, length, Option, None, Some, Ok, if◌then◌else◌, refl, sym, ap, ◌∙◌, subst}
-use Rattle.std.specs.Prelude.{Result}
+-- What holds of a place that is orderly holds behind each step, and behind each statement that is submitted.
+use Rattle.std.proofs.Common.{◌≡◌, ◌≢◌, ◌⊎◌, inl, inr, ℕ, ◌<◌, eqb, true, false, List, length, Option, None, Some, if◌then◌else◌, refl, sym, ap, ◌∙◌, subst}
 use Rattle.std.proofs.lemmas.Bool.Decides.{eqb_tells}
 use Rattle.std.proofs.lemmas.List.Elements.{All-nil}
 use Rattle.std.proofs.lemmas.Option.{none-some, same_Some}
 use Rattle.block_model.specs.DatabaseState.{DatabaseState}
 use Rattle.block_model.specs.declared.reply.Refusal.{Refusal}
-use Rattle.query_words.specs.declared.line.Line.{Line}
-use Rattle.query_words.specs.declared.line.Line.TheVariants as lines
-use Rattle.query_words.specs.declared.line.LineFault.{LineFault}
-use Rattle.query_words.specs.declared.line.Order.{Order}
-use Rattle.query_words.specs.LineFits.{IsLineFor, IsOrderFor}
-use Rattle.query_words.specs.Lines.{line_of}
-use Rattle.query_words.proofs.FitLemmas.{KnowsValues}
-use Rattle.script_run.specs.Answers.{AreAnswers}
 use Rattle.store_layout.specs.declared.statement.Statement.{Statement}
 use Rattle.store_layout.specs.declared.statement.Statement.TheVariants as statements
 use Rattle.store_layout.specs.StatementFits.{IsStatementFor}
@@ -21,15 +12,13 @@ use Rattle.store_layout.specs.DiskLayout.{DiskLayout}
 use Rattle.store_layout.specs.FirstBrokenRule.{KeepsLimits}
 use Rattle.coverage.specs.Table.{Resting, TableState}
 use Rattle.coverage.specs.TableCovered.{IsNewTable, IsTableAtRest, IsTableCovered, IsTableKept}
-use Rattle.script_semantics.specs.LineTexts.{Answers, Does, Finishes, Further, IsFinished, IsLineText, IsNotRead, LastStep, NoFinish, NoStep, NotTaken, Orders, PastSessions, Plain, RefusesPlain, RefusesStart, SaysNothing, Starts, StepsOnce, Submits}
-use Rattle.script_semantics.specs.LineTexts.{Taken, WantsMemory, in_hand_refusal, named, or_else, with_statement}
+use Rattle.script_semantics.specs.LineTexts.{NotTaken, Submits, Taken, WantsMemory, in_hand_refusal, named, or_else, with_statement}
 use Rattle.script_semantics.specs.Place.{Hand, Place, new_hand}
 use Rattle.script_semantics.specs.Starts.{IsOpening, IsStart}
 use Rattle.script_semantics.specs.StatementSteps.{AtOnce, Begin, Commit, GoesOn, IsAtOnce, IsRefused, IsWaiting, LacksMemoryAtOnce, MeetsConflict, NoNumber, NothingAsked, Outcome, Replies, Rollback, Steps, StepsTo}
-use Rattle.script_semantics.specs.Stops.{Begun, ComesTo, LineComesTo, MovedTo, OfFinish, OfPlain, OfStep, OnTo, Still}
-use Rattle.script_laws.specs.Reached.{AtOpening, AtStart, BehindLine, IsReached, WithinLine}
+use Rattle.script_laws.specs.Reached.{AtOpening, AtStart, BehindName, BehindStep, BehindSubmit, IsReached}
 use Rattle.script_laws.proofs.Calm.{calm, calmed, rest_calm, covered_calm}
-use Rattle.script_laws.proofs.Fits.{AreOfTables, IsHome, IsOfTables, read_fits}
+use Rattle.script_laws.proofs.Fits.{AreOfTables, IsHome, IsOfTables}
 use Rattle.script_laws.proofs.Orderly.{AreKept, IsOrderly, goes, orderly_then, over, rests, rests_nowhere, rests_still, stays, step_refused}
 
 -- ---- steps
@@ -80,15 +69,7 @@ module _ (keeps : AreKept) (layout : DiskLayout) (limits : KeepsLimits layout.sc
   orderly_steps : (p : Place) (n : ℕ) (outcome : Outcome) (q : Place) → IsOrderly layout p → Steps p n outcome q → IsOrderly layout q
   orderly_steps p n outcome q o step = orderly_step p n step.hand outcome q o step.in_hand step.steps
 
-  orderly_finish : (n : ℕ) (p : Place) (outcome : Outcome) (q : Place) → IsOrderly layout p → Finishes n p outcome q → IsOrderly layout q
-  orderly_finish n _ _ _ o (LastStep p q outcome last step) = orderly_steps p n outcome q o step
-  orderly_finish n _ _ _ o (Further p q r point outcome step more) = orderly_finish n q outcome r (orderly_steps p n _ q o step) more
-
-  orderly_moved : (n : ℕ) (p q : Place) → IsOrderly layout p → MovedTo n p q → IsOrderly layout q
-  orderly_moved n _ _ o (Still p) = o
-  orderly_moved n _ _ o (OnTo p q r point step more) = orderly_moved n q r (orderly_steps p n _ q o step) more
-
-  -- ---- orders
+  -- ---- statements
 
   module _ (p : Place) (n : ℕ) (statement : Statement) (o : IsOrderly layout p) (fit : IsStatementFor layout.schema statement) (empty : p.hands n ≡ None) where
     hand_of : (m : ℕ) → ((m ≡ n) × ((with_statement p n statement).hands m ≡ Some (new_hand statement))) ⊎ ((with_statement p n statement).hands m ≡ p.hands m)
@@ -129,38 +110,10 @@ module _ (keeps : AreKept) (layout : DiskLayout) (limits : KeepsLimits layout.sc
   orderly_submit p n statement _ _ o fit (NotTaken refusal because) = o
   orderly_submit p n statement _ _ o fit (WantsMemory none may) = o
 
-  orderly_does : (p : Place) (n : ℕ) (name : List ℕ) (order : Order) (text : List ℕ) (q : Place) → IsOrderly layout p → IsOrderFor layout.schema order → Does p n name order text q → IsOrderly layout q
-  orderly_does p n name _ _ _ o fit (Starts statement q taken) = orderly_submit p n statement None q o fit taken
-  orderly_does p n name _ _ _ o fit (RefusesStart statement refusal q refused) = orderly_submit p n statement (Some refusal) q o fit refused
-  orderly_does p n name _ _ _ o fit (StepsOnce outcome q step) = orderly_steps p n outcome q o step
-  orderly_does p n name _ _ _ o fit (IsFinished outcome q finishes) = orderly_finish n p outcome q o finishes
-  orderly_does p n name _ _ _ o fit (NoStep none) = o
-  orderly_does p n name _ _ _ o fit (NoFinish none) = o
-  orderly_does p n name _ _ _ o fit (Plain statement outcome q r taken finishes) = orderly_finish n q outcome r (orderly_submit p n statement None q o fit taken) finishes
-  orderly_does p n name _ _ _ o fit (RefusesPlain statement refusal q refused) = orderly_submit p n statement (Some refusal) q o fit refused
-
-  orderly_comes : (p : Place) (n : ℕ) (order : Order) (q : Place) → IsOrderly layout p → IsOrderFor layout.schema order → ComesTo p n order q → IsOrderly layout q
-  orderly_comes p n _ _ o fit OfStep = o
-  orderly_comes p n _ _ o fit (OfFinish q moved) = orderly_moved n p q o moved
-  orderly_comes p n _ _ o fit (OfPlain statement q r taken moved) = orderly_moved n q r (orderly_submit p n statement None q o fit taken) moved
-
-  -- ---- lines
+  -- ---- names
 
   orderly_named : (p : Place) (name : List ℕ) → IsOrderly layout p → IsOrderly layout (named p name)
   orderly_named p name o = record { same = o.same; kept = o.kept; idle = o.idle; fits = o.fits; home = o.home; alone = o.alone; asked = o.asked }
-
-  -- what is read of a line fits
-  abbrev FitsRead : Result Line LineFault → Type 0
-  FitsRead said = (read : Line) → said ≡ Ok read → IsLineFor layout.schema read
-
-  orderly_answer : (p : Place) (said : Result Line LineFault) (text : List ℕ) (q : Place) → FitsRead said → IsOrderly layout p → Answers p said text q → IsOrderly layout q
-  orderly_answer p _ _ _ fit o (IsNotRead fault) = o
-  orderly_answer p _ _ _ fit o SaysNothing = o
-  orderly_answer p _ _ _ fit o (PastSessions name order past) = o
-  orderly_answer p _ _ _ fit o (Orders name order text q within does) = orderly_does (named p name) _ name order text q (orderly_named p name o) (fit (lines.Say name order) refl) does
-
-  orderly_within : (p : Place) (said : Result Line LineFault) (n : ℕ) (q : Place) → FitsRead said → IsOrderly layout p → LineComesTo p said n q → IsOrderly layout q
-  orderly_within p _ _ _ fit o (Begun name order q within comes) = orderly_comes (named p name) _ order q (orderly_named p name o) (fit (lines.Say name order) refl) comes
 
   -- ---- the first place
 
@@ -200,16 +153,9 @@ module _ (keeps : AreKept) (layout : DiskLayout) (limits : KeepsLimits layout.sc
     asked = subst (AreOfTables layout) (sym start.queue) (All-nil (IsOfTables layout));
   }
 
-  pub reached_is_orderly : BeginKept → KnowsValues → (p : Place) → IsReached layout p → IsOrderly layout p
-  reached_is_orderly kept knows _ (AtStart p start) = orderly_start kept.new p start
-  reached_is_orderly kept knows _ (AtOpening opening p start) = orderly_opening kept.opened opening p start
-  reached_is_orderly kept knows _ (BehindLine p q line text reached answers) =
-      orderly_answer p (line_of layout.schema line) text q (λ read is. read_fits knows layout.schema line read is) (reached_is_orderly kept knows p reached) answers
-  reached_is_orderly kept knows _ (WithinLine p q line n reached comes) =
-      orderly_within p (line_of layout.schema line) n q (λ read is. read_fits knows layout.schema line read is) (reached_is_orderly kept knows p reached) comes
-
-pub answered_lines_reach : (layout : DiskLayout) (p q : Place) (lines texts : List (List ℕ)) → IsReached layout p → AreAnswers (IsLineText layout.schema) p lines texts q → IsReached layout q
-answered_lines_reach layout p q [] [] reached e = subst (IsReached layout) (sym e) reached
-answered_lines_reach layout p q [] (text ∷ texts) reached e = absurd e
-answered_lines_reach layout p q (line ∷ more) [] reached e = absurd e
-answered_lines_reach layout p q (line ∷ more) (text ∷ texts) reached e = answered_lines_reach layout e.0 q more texts (BehindLine p e.0 line text reached e.1) e.2
+  pub reached_is_orderly : BeginKept → (p : Place) → IsReached layout p → IsOrderly layout p
+  reached_is_orderly kept _ (AtStart p start) = orderly_start kept.new p start
+  reached_is_orderly kept _ (AtOpening opening p start) = orderly_opening kept.opened opening p start
+  reached_is_orderly kept _ (BehindName p name reached) = orderly_named p name (reached_is_orderly kept p reached)
+  reached_is_orderly kept _ (BehindSubmit p q n statement told reached fits submits) = orderly_submit p n statement told q (reached_is_orderly kept p reached) fits submits
+  reached_is_orderly kept _ (BehindStep p q n outcome reached step) = orderly_steps p n outcome q (reached_is_orderly kept p reached) step

@@ -21,6 +21,13 @@ pub said_summarized : (name : List ℕ) → reply_text name (replies.Summarized 
 unfolding reply_text
 said_summarized name = ap (λ d. name ++ codes " summarized " ++ d ++ codes "\n") one_is ∙ joined name (codes " summarized ") (49 ∷ []) (codes "\n")
 
+pub said_count : (name : List ℕ) (count : ℕ) → reply_text name (replies.Summarized count) ≡ name ++ codes " summarized " ++ decimal count ++ codes "\n"
+unfolding reply_text
+said_count name count = refl
+
+pub said_three : (name : List ℕ) → name ++ codes " summarized " ++ decimal 3 ++ codes "\n" ≡ name ++ codes " summarized 3\n"
+said_three name = ap (λ d. name ++ codes " summarized " ++ d ++ codes "\n") (decimal_digit 3 (omega arith)) ∙ joined name (codes " summarized ") (51 ∷ []) (codes "\n")
+
 pub said_begun : (name : List ℕ) → reply_text name (replies.Begun 1) ≡ name ++ codes " begun 1\n"
 unfolding reply_text
 said_begun name = ap (λ d. name ++ codes " begun " ++ d ++ codes "\n") one_is ∙ joined name (codes " begun ") (49 ∷ []) (codes "\n")

@@ -9,10 +9,11 @@ use Rattle.block_model.specs.declared.reply.Point.TheVariants as points
 use Rattle.block_model.specs.declared.reply.Reply.{Reply}
 use Rattle.block_model.specs.declared.row.Row.{Row}
 use Rattle.coverage.specs.IndexPart.{IndexPart, SummariseMakes, part_of}
-use Rattle.coverage.specs.IndexView.{Contents, ExtentUnread, IndexTuple, IndexView, IsFormed, IsPastMap, Passing, Regular, map_page_of, most_bytes}
+use Rattle.coverage.specs.IndexView.{Contents, ExtentUnread, IndexTuple, IndexView, IsFormed, IsPastMap, Passing, Regular, map_page_of}
+use Rattle.coverage.specs.Rooms.{bytes_of, place_room}
 use Rattle.coverage.specs.Statements as statements
 use Rattle.coverage.specs.Statements.{AreLawful, Copied, Empty, Held, Holding, IsAt, Maintaining, NotBuilding, Phase, Placing, Vacant, row_added, rows_added}
-use Rattle.coverage.proofs.SmallIndex.{at_here}
+use Rattle.coverage.proofs.SmallIndex.{at_here, placed_others}
 use Rattle.script_semantics.specs.Place.{Place}
 use Rattle.script_semantics.specs.StatementSteps.{reply_after}
 use Rattle.store_layout.specs.declared.limits.TheConstants.{MAX_ENTRIES}
@@ -26,13 +27,14 @@ use Rattle.script_laws.specs.Words.{blocks_of, passes}
 use Rattle.script_laws.proofs.IndexMakes.{AreOwn, makes_copy, makes_extent, makes_map, makes_no_entry, makes_pass, makes_put, makes_set, makes_swap, own_locks, placed_here, put_part, set_part, tuple_part}
 use Rattle.script_laws.proofs.Maintained.{Suits, at_stage, counted, ends_at_range, stays_at_range}
 use Rattle.script_laws.proofs.Places.{Answer}
+use Rattle.script_laws.proofs.RoomInPlace.{room_in_place}
 use Rattle.script_laws.proofs.Stages.{Stage, shown}
 
 added_formed : (contents : Contents) → AreLawful contents → (o : Option Row) (t : IndexTuple) → IsFormed contents t → IsFormed contents (row_added contents o t)
 added_formed contents lawful None t is = is
 added_formed contents lawful (Some r) t is = (lawful.added r t is).0
 
-rows_formed : (contents : Contents) → AreLawful contents → (row : ℕ → Option Row) (slots : ℕ) (t : IndexTuple) → IsFormed contents t → IsFormed contents (rows_added contents row slots t)
+pub rows_formed : (contents : Contents) → AreLawful contents → (row : ℕ → Option Row) (slots : ℕ) (t : IndexTuple) → IsFormed contents t → IsFormed contents (rows_added contents row slots t)
 rows_formed contents lawful row zero t is = is
 rows_formed contents lawful row (suc n) t is = added_formed contents lawful (row n) (rows_added contents row n t) (rows_formed contents lawful row n t is)
 
@@ -45,8 +47,8 @@ one_left extent next left is = omega arith
 one_passed : (extent next left : ℕ) → extent ≡ next + suc left → extent ≡ (next + 1) + left
 one_passed extent next left is = omega arith
 
-within : (a b c d : ℕ) → a ≤ b → b ≤ c → d ≡ c → a ≤ d
-within a b c d one two is = omega arith
+within : (a b c : ℕ) → a ≤ b → b ≤ c → a ≤ c
+within a b c one two = omega arith
 
 to_pass : (blocks range per : ℕ) → range * per < blocks → min blocks ((range + 1) * per) ≡ range * per + (min blocks ((range + 1) * per) - range * per)
 to_pass blocks range per less = omega (arith, add-mul range 1 per)
@@ -72,14 +74,14 @@ module _ (p : Place) (n t at : ℕ) (st : Statement) (rows unnamed : ℕ) (suits
     pub no_range : (w : TableState) → (w.index at).pages_per_range ≡ its → HasRange w job at (suc range) → ⊥
     pub last : (w : TableState) → w.indexes ≡ w0.indexes → IsLastIndex w job at
 
-  -- the map names a tuple of the range, on a page that has room for the longest in its place
+  -- the map names a tuple of the range, in whose place the longest has room
   record IsNamed (x : Index) (y : Spot) (old : IndexTuple) : Type 0 where
     entry : x.entry range ≡ Some y
     stands : x.tuple y ≡ Some old
     of : old.range ≡ range
     formed : IsFormed x.contents old
     regular : x.pages.kind y.block ≡ Regular
-    room : x.pages.room_at y ≡ most_bytes
+    room : x.contents.greatest ≤ place_room (bytes_of x.tuple) y
     unlocked : (page : ℕ) → x.lock page ≡ None
     lawful : AreLawful x.contents
     few : range < x.contents.ranges
@@ -105,7 +107,7 @@ module _ (p : Place) (n t at : ℕ) (st : Statement) (rows unnamed : ℕ) (suits
       swaps extent next result formed stage =
           let new = x.contents.united old result in
           let size = (named.lawful.united old result named.formed formed).0.size in
-          let room = within (length new.bytes) x.contents.greatest most_bytes (x.pages.room_at y) size named.lawful.greatest named.room in
+          let room = within (length new.bytes) x.contents.greatest (place_room (bytes_of x.tuple) y) size named.room in
           ends_at_range p n t at st rows unnamed suits fits below job range x (tuple_part n range (seen x) mine y (Some new)) (IsAt (Passing extent next result) (Copied y old new))
           points.Swap 1 0 queue stage
           (λ building loose. ends.lift _ _ _ _ _ _ (makes_swap n range (shown w0 n at x building loose) mine extent next result y old new named.stands named.regular room))
@@ -183,7 +185,9 @@ module _ (p : Place) (n t at : ℕ) (st : Statement) (rows unnamed : ℕ) (suits
         of = (lacks.lawful.empty range lacks.few).1.of;
         formed = (lacks.lawful.empty range lacks.few).0;
         regular = at_here y.block Regular (x0.pages.kind y.block);
-        room = at_here y.block most_bytes (x0.pages.room_at y);
+        room = room_in_place x0.tuple x1.tuple y empty x0.contents.greatest lacks.target.1
+            (record { was = lacks.target.1.0; now = placed_here y (Some empty) x0.tuple; others = placed_others y (Some empty) x0.tuple })
+            (lacks.lawful.empty range lacks.few).0.size lacks.roomy;
         unlocked = λ page. refl;
         lawful = lacks.lawful;
         few = lacks.few;

@@ -14,7 +14,7 @@ use Rattle.coverage.specs.Knowing.{LocksNone}
 use Rattle.coverage.specs.Statements.{Empty, Held, NotBuilding}
 use Rattle.index_steps.specs.IndexTuples.{index_at}
 use Rattle.script_semantics.specs.Beginnings.{StandsAt, TakesUp}
-use Rattle.script_semantics.specs.LineTexts.{Submits, Taken, block_refusal, with_statement}
+use Rattle.script_semantics.specs.LineTexts.{Submits, Taken, block_refusal, submit_refusal, with_statement}
 use Rattle.script_semantics.specs.Names.{index_name}
 use Rattle.script_semantics.specs.Place.{Place, database_at}
 use Rattle.script_semantics.proofs.Bare.{not_behind}
@@ -38,14 +38,17 @@ use Rattle.script_laws.proofs.Said.{said_left, said_summarized, said_worked}
 use Rattle.script_laws.proofs.Stages.{Stage, shown}
 use Rattle.script_laws.proofs.Summaries.{EndsHere, summarises}
 
-summarize_taken : (p : Place) (n index : ℕ) (block : Option ℕ) → p.hands n ≡ None → block_refusal p.layout.sizes.heap_blocks (statements.Summarize index block) ≡ None
-    → Submits p n (statements.Summarize index block) None (with_statement p n (statements.Summarize index block))
-summarize_taken p n index block idle low =
-    Taken (refusal_by_block p n (statements.Summarize index block) None idle low ∙ allowed (map.get (database_at p).sessions n))
+pub summarize_allowed : (p : Place) (n index : ℕ) (block : Option ℕ) → p.hands n ≡ None → block_refusal p.layout.sizes.heap_blocks (statements.Summarize index block) ≡ None
+    → submit_refusal p n (statements.Summarize index block) ≡ None
+summarize_allowed p n index block idle low = refusal_by_block p n (statements.Summarize index block) None idle low ∙ allowed (map.get (database_at p).sessions n)
   where
     allowed : (transaction : Option OpenTransaction) → submission_refusal transaction (statements.Summarize index block) ≡ None
     allowed None = refl
     allowed (Some x) = refl
+
+summarize_taken : (p : Place) (n index : ℕ) (block : Option ℕ) → p.hands n ≡ None → block_refusal p.layout.sizes.heap_blocks (statements.Summarize index block) ≡ None
+    → Submits p n (statements.Summarize index block) None (with_statement p n (statements.Summarize index block))
+summarize_taken p n index block idle low = Taken (summarize_allowed p n index block idle low)
 
 work_taken : (p : Place) (n : ℕ) → p.hands n ≡ None → Submits p n statements.Work None (with_statement p n statements.Work)
 work_taken p n idle = Taken (refusal_by_block p n statements.Work None idle refl ∙ allowed (map.get (database_at p).sessions n))

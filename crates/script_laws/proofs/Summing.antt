@@ -16,14 +16,12 @@ use Rattle.coverage.proofs.FinalsElsewhere.{summarise_elsewhere}
 use Rattle.coverage.proofs.Numbers.{lt_or_ge}
 use Rattle.index_steps.specs.IndexTuples.{index_at}
 use Rattle.store_layout.specs.declared.statement.Statement.TheVariants as statements
-use Rattle.coverage.specs.Accounts as accounts
-use Rattle.coverage.specs.Accounts.{Accounts, AccountsStep, Adds}
-use Rattle.coverage.specs.Table.{Considers, Desummarising, EachRange, Index, Maintains, OneRange, Resting, TableState, Task, WholeRanges, index_view_at, seen_by}
+use Rattle.coverage.specs.Accounts.{Account, Accounts, AccountsStep, Adds}
+use Rattle.coverage.specs.Refusals.{Refusal}
+use Rattle.coverage.specs.Table.{Considers, EachRange, Index, Maintains, Resting, TableState, Task, index_view_at, seen_by}
 use Rattle.coverage.specs.TableCovered.{IsTableKept}
 use Rattle.coverage.specs.TablePoints.{does_point}
-use Rattle.coverage.specs.TableSteps.{AsksSummary, BeginsScan, BeginsWith, Blocked, Conflicts, Desummarize, Does, GivesLock, GoesOn, HasRange, HasStep, Inserted, InsertCompletes, InsertGoes, IsMaintained, Judges, JudgesNext}
-use Rattle.coverage.specs.TableSteps.{MaintainCompletes, MaintainGoes, Marked, MarksRow, NextIndex, NothingToSweep, Onward, Pruned, PrunesBlock, PutsRow, RangesDone, ReadsBlock, RefusesInsert, RefusesMaintain, RefusesRow}
-use Rattle.coverage.specs.TableSteps.{RefusesScan, RefusesVacuum, RestartsIndex, Scanned, Settles, Stays, Summarize, SummarizeOne, SweepsPage, Swept, TableStep, TakesLock, ToAsk, ToIndex, ToMarks, ToPage, ToRange, Transacts, Vacuum, Work}
+use Rattle.coverage.specs.TableSteps.{Does, Settles, TableStep}
 use Rattle.coverage.proofs.TableSeen.{table_step_kept}
 use Rattle.coverage.proofs.Views.{pick_same}
 use Rattle.script_semantics.specs.Beginnings.{Begins, StandsAt}
@@ -35,7 +33,7 @@ use Rattle.script_semantics.specs.StatementSteps.{AtOnce, Ended, IsRefused, IsWa
 use Rattle.script_semantics.specs.Turns.{Turn, point_of}
 use Rattle.script_laws.specs.TextLaws.{CountsItsRanges, HasFinal}
 use Rattle.script_laws.proofs.Calm.{calm, calmed, same_view, steps_calm}
-use Rattle.script_laws.proofs.Clears.{considers_one, has_none, not_maintained, onward_stays}
+use Rattle.script_laws.proofs.MaintainDoes.{AtRange, Completes, FindsLocked, Goes, LacksPage, Ranged, SettlesSo, at_first, at_range, settles_so}
 use Rattle.script_laws.proofs.SummaryStep.{IsOver, PhaseSays, StatementSays, elsewhere_on, own_on, own_says, step_per}
 
 -- what holds of the ranges where so many of those before this one are counted
@@ -85,26 +83,6 @@ next_range first now extent r c count stands has over = record {
 
 -- ---- the steps of the table
 
-onward_each : (w : TableState) (old new : Task) → Onward w old new → (extent at range : ℕ) → old ≡ Considers (EachRange extent) at range
-    → HasRange w (EachRange extent) at range × (new ≡ Maintains (EachRange extent) at range (NotBuilding Empty))
-onward_each w _ _ (Stays task has) extent at range is = absurd (subst (HasStep w) is has)
-onward_each w _ _ (ToAsk b k r i below asks) extent at range is = absurd (cc)
-onward_each w _ _ (ToIndex b k r i below not) extent at range is = absurd (cc)
-onward_each w _ _ (Inserted b k r i end) extent at range is = absurd (cc)
-onward_each w _ _ (ToRange job i m has) extent at range is = (subst (considers_one w) is has, cc)
-onward_each w _ _ (NextIndex e i m none below) extent at range is = absurd (cc)
-onward_each w _ _ (Pruned e next new past more) extent at range is = absurd (cc)
-onward_each w _ _ (ToPage i from m p first) extent at range is = absurd (cc)
-onward_each w _ _ (Swept i from none some) extent at range is = absurd (cc)
-onward_each w _ _ (JudgesNext scan new below low held more) extent at range is = absurd (cc)
-onward_each w _ _ (Scanned scan read nothing) extent at range is = absurd (cc)
-onward_each w _ _ (ToMarks scan id rest read reads deletes lists) extent at range is = absurd (cc)
-onward_each w _ _ (Marked scan) extent at range is = absurd (cc)
-
-done_each : (w : TableState) (old : Task) → IsMaintained w old → (extent at range : ℕ) → old ≡ Considers (EachRange extent) at range → HasRange w (EachRange extent) at range → ⊥
-done_each w _ (RangesDone j i m none last) extent at range is has = subst (has_none w) is none has
-done_each w _ (NothingToSweep e next past none) extent at range is has = cc
-
 module _ (first : Index) (s at extent : ℕ) where
   abbrev task_at : ℕ → Phase → Task
   task_at range phase = Maintains (EachRange extent) at range phase
@@ -123,20 +101,21 @@ module _ (first : Index) (s at extent : ℕ) where
     IsDone : (r : ℕ) → w.task s ≡ Resting → (r * first.pages_per_range < extent → ⊥) → Stands first (w.index at) extent r count → Ends w count
 
   settles_in : (w v : TableState) (count : ℕ) → Comes w count → Settles s w v → Ends v count
-  settles_in w v count (IsAtPhase r c phase is has stands says) (GoesOn old new onward turns only) =
-      StillAt r c phase (turns.now ∙ onward_stays w old new onward (EachRange extent) at r phase (sym turns.was ∙ is)) has
-      (subst (λ (x : Index). Stands first x extent r c) (sym (only.indexes.index at)) stands)
-      (subst (λ (x : Index). PhaseSays (HasFinal first r) (HasFinal x r) (x.entry r) c count phase) (sym (only.indexes.index at)) says)
-  settles_in w v count (IsAtPhase r c phase is has stands says) (GivesLock old maintained turns given rows indexes) =
-      absurd (not_maintained w old maintained (EachRange extent) at r phase (sym turns.was ∙ is))
-  settles_in w v count (IsBefore r is here stands) (GoesOn old new onward turns only) =
-      let to = onward_each w old new onward extent at r (sym turns.was ∙ is) in
-      StillAt r count (NotBuilding Empty) (turns.now ∙ to.1) (subst (λ p. r * p < extent) stands.per to.0)
-      (subst (λ (x : Index). Stands first x extent r count) (sym (only.indexes.index at)) stands)
-      (refl, subst (λ (x : Index). HasFinal x r → HasFinal first r) (sym (only.indexes.index at)) here)
-  settles_in w v count (IsBefore r is here stands) (GivesLock old maintained turns given rows indexes) =
-      IsDone r turns.now (λ has. done_each w old maintained extent at r (sym turns.was ∙ is) (subst (λ p. r * p < extent) (sym stands.per) has))
-      (subst (λ (x : Index). Stands first x extent r count) (sym (indexes.index at)) stands)
+  settles_in w v count (IsAtPhase r c phase is has stands says) settles =
+      let so = subst (SettlesSo s w v) is (settles_so s w v settles) in
+      StillAt r c phase so.0 has
+      (subst (λ (x : Index). Stands first x extent r c) (sym (so.1.index at)) stands)
+      (subst (λ (x : Index). PhaseSays (HasFinal first r) (HasFinal x r) (x.entry r) c count phase) (sym (so.1.index at)) says)
+  settles_in w v count (IsBefore r is here stands) settles = by (subst (SettlesSo s w v) is (settles_so s w v settles))
+    where
+      by : Ranged s w v (EachRange extent) at r → Ends v count
+      by (same, inl has) =
+          StillAt r count (NotBuilding Empty) has.1 (subst (λ p. r * p < extent) stands.per has.0)
+          (subst (λ (x : Index). Stands first x extent r count) (sym (same.index at)) stands)
+          (refl, subst (λ (x : Index). HasFinal x r → HasFinal first r) (sym (same.index at)) here)
+      by (same, inr none) =
+          IsDone r none.1 (λ has. none.0 (subst (λ p. r * p < extent) (sym stands.per) has))
+          (subst (λ (x : Index). Stands first x extent r count) (sym (same.index at)) stands)
 
   -- ---- what a step at its range does
   module _ (w v : TableState) (kept : IsTableKept (calm w)) (below : at < w.indexes) (before count r c : ℕ) (phase : Phase) (is : w.task s ≡ task_at r phase) where
@@ -174,76 +153,24 @@ module _ (first : Index) (s at extent : ℕ) where
         per = step_per s (index_view_at at w) (index_view_at at v) r phase new step ∙ stands.per;
       }
 
-  -- ---- the parts of its task
-  abbrev its_range : Task → ℕ
-  its_range (Maintains job i m phase) = m
-  its_range task = 0
-
-  abbrev its_index : Task → ℕ
-  its_index (Maintains job i m phase) = i
-  its_index task = 0
-
-  -- a step of a summariser at this range, and the count behind it
-  abbrev Stepped : (w v : TableState) → (before count i m : ℕ) → Phase → Statement → Type 0
-  Stepped w v before count i m old new = (step : SummariseStep s m (index_view_at i w) (index_view_at i v) old new) × (count ≡ before + summarise_count step)
-
   does_sum : (w v : TableState) (a b : Accounts) (point : Point) (r c : ℕ) (phase : Phase) (does : Does s w v) → does_point s w v does ≡ Some point → Adds s w v does a b → IsTableKept (calm w)
       → w.task s ≡ task_at r phase → r * first.pages_per_range < extent → Stands first (w.index at) extent r c → Says w c (a.of s).ranges r phase → Comes v (b.of s).ranges
-  does_sum w v a b point r c phase (PutsRow d k x place turns takes) told adds kept is has stands says = absurd (cc)
-  does_sum w v a b point r c phase (RefusesRow t refused turns fails) told adds kept is has stands says = absurd (none-some _ told)
-  does_sum w v a b point r c phase (AsksSummary d k x i turns only) told adds kept is has stands says = absurd (cc)
-  does_sum w v a b point r c phase (InsertGoes d k x i old new turns stepped step) told adds kept is has stands says = absurd (cc)
-  does_sum w v a b point r c phase (InsertCompletes d k x i old turns stepped step) told adds kept is has stands says = absurd (cc)
-  does_sum w v a b point r c phase (RefusesInsert d k x old refused turns fails) told adds kept is has stands says = absurd (none-some _ told)
-  does_sum w v a b point r c phase (TakesLock first_task begins turns free held rows indexes) told adds kept is has stands says = absurd (cc)
-  does_sum w v a b point r c phase (MaintainGoes (OneRange e only) i m old new turns stepped step) told adds kept is has stands says = absurd (cc)
-  does_sum w v a b point r c phase (MaintainGoes (WholeRanges e) i m old new turns stepped step) told adds kept is has stands says = absurd (cc)
-  does_sum w v a b point r c phase (MaintainGoes (Desummarising o) i m old new turns stepped step) told adds kept is has stands says = absurd (cc)
-  does_sum w v a b point r c phase (MaintainGoes (EachRange e) i m old new turns stepped step) told adds kept is has stands says =
-      let same : Maintains (EachRange e) i m old ≡ task_at r phase = sym turns.was ∙ is in
-      let i_is : i ≡ at = ap its_index same in
-      let m_is : m ≡ r = ap its_range same in
-      let old_is : old ≡ phase = cc in
-      let now : Maintains (EachRange e) i m new ≡ task_at r new = cc in
-      let moved : Stepped w v (a.of s).ranges (b.of s).ranges at r phase (Maintaining r new) =
-      subst (λ o. Stepped w v (a.of s).ranges (b.of s).ranges at r o (Maintaining r new)) old_is
-      (subst (λ k. Stepped w v (a.of s).ranges (b.of s).ranges at k old (Maintaining k new)) m_is
-      (subst (λ j. Stepped w v (a.of s).ranges (b.of s).ranges j m old (Maintaining m new)) i_is (step, ap (λ (x : accounts.Account). x.ranges) adds.account))) in
-      let below : at < w.indexes = subst (λ j. j < w.indexes) i_is stepped.below in
-      IsAtPhase r c new (turns.now ∙ now) has
-      (still w v kept below (a.of s).ranges (b.of s).ranges r c phase is stands says (Maintaining r new) moved.0 moved.1)
-      (now_says w v kept below (a.of s).ranges (b.of s).ranges r c phase is stands says (Maintaining r new) moved.0 moved.1)
-  does_sum w v a b point r c phase (MaintainCompletes (OneRange e only) i m old turns stepped step) told adds kept is has stands says = absurd (cc)
-  does_sum w v a b point r c phase (MaintainCompletes (WholeRanges e) i m old turns stepped step) told adds kept is has stands says = absurd (cc)
-  does_sum w v a b point r c phase (MaintainCompletes (Desummarising o) i m old turns stepped step) told adds kept is has stands says = absurd (cc)
-  does_sum w v a b point r c phase (MaintainCompletes (EachRange e) i m old turns stepped step) told adds kept is has stands says =
-      let same : Maintains (EachRange e) i m old ≡ task_at r phase = sym turns.was ∙ is in
-      let i_is : i ≡ at = ap its_index same in
-      let m_is : m ≡ r = ap its_range same in
-      let old_is : old ≡ phase = cc in
-      let now : Considers (EachRange e) i (suc m) ≡ Considers (EachRange extent) at (suc r) = cc in
-      let moved : Stepped w v (a.of s).ranges (b.of s).ranges at r phase Holding =
-      subst (λ o. Stepped w v (a.of s).ranges (b.of s).ranges at r o Holding) old_is
-      (subst (λ k. Stepped w v (a.of s).ranges (b.of s).ranges at k old Holding) m_is
-      (subst (λ j. Stepped w v (a.of s).ranges (b.of s).ranges j m old Holding) i_is (step, ap (λ (x : accounts.Account). x.ranges) adds.account))) in
-      let below : at < w.indexes = subst (λ j. j < w.indexes) i_is stepped.below in
-      let on = still w v kept below (a.of s).ranges (b.of s).ranges r c phase is stands says Holding moved.0 moved.1 in
-      IsBefore (suc r) (turns.now ∙ now) (on.ahead (suc r) (self_on r))
-      (next_range first (v.index at) extent r c (b.of s).ranges on has
-      (now_says w v kept below (a.of s).ranges (b.of s).ranges r c phase is stands says Holding moved.0 moved.1))
-  does_sum w v a b point r c phase (RefusesMaintain job i m old refused turns stepped passes) told adds kept is has stands says = absurd (none-some _ told)
-  does_sum w v a b point r c phase (RefusesVacuum old vacuuming turns given rows indexes) told adds kept is has stands says = absurd (none-some _ told)
-  does_sum w v a b point r c phase (PrunesBlock e next dropped inside spared turns drops) told adds kept is has stands says = absurd (cc)
-  does_sum w v a b point r c phase (SweepsPage i page turns stepped sweeps) told adds kept is has stands says = absurd (cc)
-  does_sum w v a b point r c phase (RestartsIndex i turns only) told adds kept is has stands says = absurd (cc)
-  does_sum w v a b point r c phase (BeginsScan scan begins turns only) told adds kept is has stands says = absurd (cc)
-  does_sum w v a b point r c phase (Judges old new inside low step turns only) told adds kept is has stands says = absurd (cc)
-  does_sum w v a b point r c phase (ReadsBlock scan next found reads turns only) told adds kept is has stands says = absurd (cc)
-  does_sum w v a b point r c phase (RefusesScan scan t turns how) told adds kept is has stands says = absurd (none-some _ told)
-  does_sum w v a b point r c phase (MarksRow scan id rest turns only) told adds kept is has stands says = absurd (cc)
-  does_sum w v a b point r c phase (Conflicts scan id rest t turns fails) told adds kept is has stands says = absurd (none-some _ told)
-  does_sum w v a b point r c phase (Blocked task blocked turns only) told adds kept is has stands says = absurd (none-some _ told)
-  does_sum w v a b point r c phase (Transacts counts resting few same) told adds kept is has stands says = absurd (none-some _ told)
+  does_sum w v a b point r c phase does told adds kept is has stands says = by _ _ (at_range s w v a b (EachRange extent) at r phase does adds is) told
+    where
+      by : (named : Option Point) (refused : Option Refusal) → AtRange s w v a b (EachRange extent) at r phase named refused → named ≡ Some point → Comes v (b.of s).ranges
+      by _ _ (Goes new _ now below step account) told =
+          let counted = ap (λ (x : Account). x.ranges) account in
+          IsAtPhase r c new now has
+          (still w v kept below (a.of s).ranges (b.of s).ranges r c phase is stands says (Maintaining r new) step counted)
+          (now_says w v kept below (a.of s).ranges (b.of s).ranges r c phase is stands says (Maintaining r new) step counted)
+      by _ _ (Completes _ now below step account) told =
+          let counted = ap (λ (x : Account). x.ranges) account in
+          let on = still w v kept below (a.of s).ranges (b.of s).ranges r c phase is stands says Holding step counted in
+          IsBefore (suc r) now (on.ahead (suc r) (self_on r))
+          (next_range first (v.index at) extent r c (b.of s).ranges on has
+          (now_says w v kept below (a.of s).ranges (b.of s).ranges r c phase is stands says Holding step counted))
+      by _ _ (LacksPage number why full) told = absurd (none-some _ told)
+      by _ _ (FindsLocked blocked) told = absurd (none-some _ told)
 
   -- a step at a range
   steps_on : (w v : TableState) (a b : Accounts) (point : Point) (step : TableStep s w v) → does_point s w step.between step.does ≡ Some point
@@ -254,14 +181,6 @@ module _ (first : Index) (s at extent : ℕ) where
 
 -- ---- its first step
 
-first_at_lock : (s at extent : ℕ) (w : TableState) (first_task : Task) (begins : BeginsWith w first_task) (a b : Accounts) → accounts.Begins s w first_task begins a b
-    → first_task ≡ Considers (EachRange extent) at 0 → (b.of s).ranges ≡ 0
-first_at_lock s at extent w _ (Summarize i below) a b takes is = ap (λ (x : accounts.Account). x.ranges) takes.account
-first_at_lock s at extent w _ (SummarizeOne i only below) a b takes is = absurd (cc)
-first_at_lock s at extent w _ (Work i only below) a b takes is = absurd (cc)
-first_at_lock s at extent w _ (Desummarize i only below) a b takes is = absurd (cc)
-first_at_lock s at extent w _ Vacuum a b takes is = absurd (cc)
-
 none_less : (m : ℕ) → m < 0 → ⊥
 none_less m less = omega arith
 
@@ -269,35 +188,9 @@ module _ (s at extent : ℕ) where
   abbrev begun : Task
   begun = Considers (EachRange extent) at 0
 
-  first_does : (w v : TableState) (a b : Accounts) (point : Point) (does : Does s w v) → does_point s w v does ≡ Some point → Adds s w v does a b → w.task s ≡ Resting → v.task s ≡ begun
-      → (v.index at ≡ w.index at) × ((b.of s).ranges ≡ 0)
-  first_does w v a b point (PutsRow c k r place turns takes) told adds rests is = absurd (cc)
-  first_does w v a b point (RefusesRow t refused turns fails) told adds rests is = absurd (none-some _ told)
-  first_does w v a b point (AsksSummary c k r i turns only) told adds rests is = absurd (cc)
-  first_does w v a b point (InsertGoes c k r i old new turns stepped step) told adds rests is = absurd (cc)
-  first_does w v a b point (InsertCompletes c k r i old turns stepped step) told adds rests is = absurd (cc)
-  first_does w v a b point (RefusesInsert c k r old refused turns fails) told adds rests is = absurd (none-some _ told)
-  first_does w v a b point (TakesLock first_task begins turns free held rows indexes) told adds rests is =
-      (indexes.index at, first_at_lock s at extent w first_task begins a b adds (sym turns.now ∙ is))
-  first_does w v a b point (MaintainGoes job i m old new turns stepped step) told adds rests is = absurd (cc)
-  first_does w v a b point (MaintainCompletes job i m old turns stepped step) told adds rests is = absurd (cc)
-  first_does w v a b point (RefusesMaintain job i m old refused turns stepped passes) told adds rests is = absurd (none-some _ told)
-  first_does w v a b point (RefusesVacuum old vacuuming turns given rows indexes) told adds rests is = absurd (none-some _ told)
-  first_does w v a b point (PrunesBlock e next dropped inside spared turns drops) told adds rests is = absurd (cc)
-  first_does w v a b point (SweepsPage i page turns stepped sweeps) told adds rests is = absurd (cc)
-  first_does w v a b point (RestartsIndex i turns only) told adds rests is = absurd (cc)
-  first_does w v a b point (BeginsScan scan begins turns only) told adds rests is = absurd (cc)
-  first_does w v a b point (Judges old new inside low step turns only) told adds rests is = absurd (cc)
-  first_does w v a b point (ReadsBlock scan next found reads turns only) told adds rests is = absurd (cc)
-  first_does w v a b point (RefusesScan scan t turns how) told adds rests is = absurd (none-some _ told)
-  first_does w v a b point (MarksRow scan id rest turns only) told adds rests is = absurd (cc)
-  first_does w v a b point (Conflicts scan id rest t turns fails) told adds rests is = absurd (none-some _ told)
-  first_does w v a b point (Blocked task blocked turns only) told adds rests is = absurd (none-some _ told)
-  first_does w v a b point (Transacts counts resting few same) told adds rests is = absurd (none-some _ told)
-
   -- no range is counted at first
-  at_first : (x : Index) → Stands x x extent 0 0
-  at_first x = record {
+  none_counted : (x : Index) → Stands x x extent 0 0
+  none_counted x = record {
     on = λ m had. had;
     ahead = λ m less had. had;
     behind = λ m less. absurd (none_less m less);
@@ -309,10 +202,11 @@ module _ (s at extent : ℕ) where
   first_step : (w v : TableState) (a b : Accounts) (point : Point) (step : TableStep s w v) → does_point s w step.between step.does ≡ Some point
       → AccountsStep s w step.between step.does a b → w.task s ≡ Resting → step.between.task s ≡ begun → Ends (w.index at) s at extent v (b.of s).ranges
   first_step w v a b point step told accounts rests is =
-      let did = first_does w step.between a b point step.does told accounts.adds rests is in
+      let did = at_first s w step.between a b (EachRange extent) at 0 step.does accounts.adds rests is in
       settles_in (w.index at) s at extent step.between v (b.of s).ranges
-      (IsBefore 0 is (subst (λ (x : Index). HasFinal x 0 → HasFinal (w.index at) 0) (sym did.0) (λ had. had))
-      (subst (λ (x : Index). Stands (w.index at) x extent 0 (b.of s).ranges) (sym did.0) (subst (Stands (w.index at) (w.index at) extent 0) (sym did.1) (at_first (w.index at)))))
+      (IsBefore 0 is (subst (λ (x : Index). HasFinal x 0 → HasFinal (w.index at) 0) (sym (did.0.index at)) (λ had. had))
+      (subst (λ (x : Index). Stands (w.index at) x extent 0 (b.of s).ranges) (sym (did.0.index at))
+      (subst (Stands (w.index at) (w.index at) extent 0) (sym (ap (λ (x : Account). x.ranges) did.1)) (none_counted (w.index at)))))
       step.settles
 
 -- ---- over a finish

@@ -85,7 +85,7 @@ module _ (s page c : ℕ) (u : IndexView) (mine : AreOwn s u.lock) (none : (p : 
     free = λ m is. mine page m is;
     gone = λ x is. (ap (λ d. kept_tuple d (u.tuple x)) (is_going x is.0 is.1), ap (λ d. kept_mark d (u.unnamed x)) (is_going x is.0 is.1));
     places = λ x. by x (goes_at x) refl;
-    page = record { now = refl; kinds = λ p. inr refl; rooms = λ p. inr refl; places = λ x. inr refl; map_pages = refl; limit = refl };
+    page = record { now = refl; kinds = λ p. inr refl; map_pages = refl; limit = refl };
     frame = record {
       heap = record { pages_per_range = refl; blocks = refl; row = λ b k. refl };
       map = record { entry = λ m. refl };

@@ -405,6 +405,7 @@ module _ (p : Place) (n t rows : ℕ) (calm : IsCalm p n t 0) (has : HasDeadRows
     mapped = lacks.mapped;
     place = lacks.place;
     target = lacks.target;
+    roomy = lacks.roomy;
     lawful = lacks.lawful;
     slots = λ c k le. none_left (p.tables t) (dead p n t rows calm has) c k (lacks.slots c k le);
   })

@@ -5,6 +5,7 @@ use Rattle.block_model.specs.declared.place.Spot.{Spot}
 use Rattle.block_model.specs.declared.row.Row.{Row}
 use Rattle.coverage.specs.Counts.{IsCountOf}
 use Rattle.coverage.specs.IndexView.{IndexTuple, map_page_of}
+use Rattle.coverage.specs.Rooms.{bytes_of, page_room}
 use Rattle.coverage.specs.Statements.{AreLawful}
 use Rattle.coverage.specs.Verdicts.{IsTargetPlace}
 use Rattle.script_semantics.specs.Beginnings.{IsIn}
@@ -26,7 +27,8 @@ pub record IsCalm (p : Place) (n table at : ℕ) : Type 0 where
   pub free : (p.tables table).summarise_lock ≡ None
   pub unlocked : (page : ℕ) → ((p.tables table).index at).lock page ≡ None
 
--- the range has a block of the table and no tuple, and there is a place for its placeholder and an entry of the map
+-- The range has a block of the table and no tuple; there is an entry of the map, and a place for its placeholder, on a page with room for the
+-- longest tuple.
 pub record LacksTuple (w : TableState) (at range : ℕ) : Type 0 where
   pub begins : first_block w at range < w.blocks
   pub few : range < (w.index at).contents.ranges
@@ -34,6 +36,7 @@ pub record LacksTuple (w : TableState) (at range : ℕ) : Type 0 where
   pub mapped : map_page_of range ≤ (w.index at).pages.map_pages
   pub place : Spot
   pub target : IsTargetPlace (w.index at).pages (w.index at).tuple (length ((w.index at).contents.empty range).bytes) place
+  pub roomy : (w.index at).contents.greatest ≤ page_room (bytes_of (w.index at).tuple) place.block
   pub lawful : AreLawful (w.index at).contents
   pub slots : (b k : ℕ) → w.rows_per_page ≤ k → w.row b k ≡ None
 

@@ -4,5 +4,6 @@ pub mod Answered
 pub mod Words
 pub mod Finds
 pub mod RowLaws
+pub mod FullIndexes
 pub mod RequestBounds
 pub mod LineVerbs

@@ -1,17 +1,21 @@
 -- the places to which a script comes
-use Rattle.std.specs.Prelude.{ℕ, List}
-use Rattle.query_words.specs.Lines.{line_of}
+use Rattle.std.specs.Prelude.{ℕ, List, Option}
+use Rattle.block_model.specs.declared.reply.Refusal.{Refusal}
 use Rattle.block_model.specs.DatabaseState.{DatabaseState}
+use Rattle.store_layout.specs.declared.statement.Statement.{Statement}
 use Rattle.store_layout.specs.DiskLayout.{DiskLayout}
-use Rattle.script_semantics.specs.LineTexts.{IsLineText}
+use Rattle.store_layout.specs.StatementFits.{IsStatementFor}
+use Rattle.script_semantics.specs.LineTexts.{Submits, named}
 use Rattle.script_semantics.specs.Place.{Place}
 use Rattle.script_semantics.specs.Starts.{IsOpening, IsStart}
-use Rattle.script_semantics.specs.Stops.{LineComesTo}
+use Rattle.script_semantics.specs.StatementSteps.{Outcome, Steps}
 
--- A script over tables of the layout comes to this place, whatever its lines are: it is the first one, over new tables or in a store that was opened; or it
--- lies behind a line that was answered, or between two steps of a line.
+-- Sessions over tables of the layout come to this place, whatever they do and however their steps interleave: it is the first one, over new tables or in a
+-- store that was opened; or it lies behind a session's name, behind a statement that fits the schema and was submitted, or behind a step.
 pub data IsReached (layout : DiskLayout) : Place → Type 0 where
   AtStart : (p : Place) → IsStart layout p → IsReached layout p
   AtOpening : (opening : DatabaseState) (p : Place) → IsOpening layout opening p → IsReached layout p
-  BehindLine : (p q : Place) (line text : List ℕ) → IsReached layout p → IsLineText layout.schema p line text q → IsReached layout q
-  WithinLine : (p q : Place) (line : List ℕ) (n : ℕ) → IsReached layout p → LineComesTo p (line_of layout.schema line) n q → IsReached layout q
+  BehindName : (p : Place) (name : List ℕ) → IsReached layout p → IsReached layout (named p name)
+  BehindSubmit : (p q : Place) (n : ℕ) (statement : Statement) (told : Option Refusal) → IsReached layout p → IsStatementFor layout.schema statement
+      → Submits p n statement told q → IsReached layout q
+  BehindStep : (p q : Place) (n : ℕ) (outcome : Outcome) → IsReached layout p → Steps p n outcome q → IsReached layout q

@@ -16,6 +16,7 @@ use Rattle.block_model.specs.declared.row.Query.{Query}
 use Rattle.block_model.specs.declared.row.Row.{Row}
 use Rattle.block_model.specs.DatabaseState.{OpenTransaction}
 use Rattle.block_model.specs.RequestEffect.{Answer, rows_found}
+use Rattle.query_words.specs.Lines.{line_of}
 use Rattle.script_run.specs.Answers.{AreAnswers}
 use Rattle.store_layout.specs.DiskLayout.{DiskLayout}
 use Rattle.store_layout.specs.FirstBrokenRule.{first_broken_rule}
@@ -24,6 +25,7 @@ use Rattle.script_semantics.specs.LineTexts.{Finishes, IsLineText}
 use Rattle.script_semantics.specs.Names.{name_of}
 use Rattle.script_semantics.specs.Place.{Hand, Place, database_at, new_hand}
 use Rattle.script_semantics.specs.StatementSteps.{Ended, StepsTo, Waits}
+use Rattle.script_semantics.specs.Stops.{LineComesTo}
 use Rattle.script_laws.specs.Reached.{IsReached}
 
 -- a refusal tells another session, which has a statement in hand
@@ -57,6 +59,13 @@ RestsWithoutStatement = (layout : DiskLayout) (p : Place) (n table : ℕ) → fi
 -- a place behind lines that were answered is one to which the script comes, where the one before them is
 abbrev pub AnsweredLinesReach : Type 0
 AnsweredLinesReach = (layout : DiskLayout) (start p : Place) (lines texts : List (List ℕ)) → IsReached layout start → AreAnswers (IsLineText layout.schema) start lines texts p → IsReached layout p
+
+-- so is a place behind one line, and one between two of its steps
+abbrev pub AnsweredLineReaches : Type 0
+AnsweredLineReaches = (layout : DiskLayout) (p q : Place) (line text : List ℕ) → IsReached layout p → IsLineText layout.schema p line text q → IsReached layout q
+
+abbrev pub BegunLineReaches : Type 0
+BegunLineReaches = (layout : DiskLayout) (p q : Place) (line : List ℕ) (n : ℕ) → IsReached layout p → LineComesTo p (line_of layout.schema line) n q → IsReached layout q
 
 -- a desummarize counted its range: one exactly where that had an entry, and it has none now
 pub record IsCleared (before after : Option Spot) (count : ℕ) : Type 0 where

@@ -5,6 +5,7 @@
 #![tactic(auto)]
 
 mod asking;
+mod fullness;
 mod lines_waiting;
 mod looking;
 mod maintaining;
@@ -15,6 +16,7 @@ mod waiting;
 mod working;
 
 pub use asking::an_ask_beyond_64_is_dropped;
+pub use fullness::an_index_with_room_is_never_full;
 pub use lines_waiting::{
     a_session_without_statement_rests, a_step_waits_for_a_statement_in_hand,
     answered_lines_lead_there,

@@ -1,6 +1,6 @@
 //! Whom a step waits for.
 
-ghost use Rattle.script_laws.specs.TextLaws.{AnsweredLinesReach, NoStepWaitsAlone, OnlyHandsAreWaitedFor, RestsWithoutStatement};
+ghost use Rattle.script_laws.specs.TextLaws.{AnsweredLineReaches, AnsweredLinesReach, BegunLineReaches, NoStepWaitsAlone, OnlyHandsAreWaitedFor, RestsWithoutStatement};
 
 use coverage::{blocked_statements_wait, table_stays_covered};
 use value_text::{denoted_is_of_kind, value_of_is_denoted};
@@ -11,8 +11,6 @@ pub fn a_step_waits_for_a_statement_in_hand()
     ensures hands { OnlyHandsAreWaitedFor }
     ensures alone { NoStepWaitsAlone }
 {
-    value_of_is_denoted();
-    denoted_is_of_kind();
     table_stays_covered();
     blocked_statements_wait();
 }
@@ -21,12 +19,16 @@ pub fn a_step_waits_for_a_statement_in_hand()
 pub fn a_session_without_statement_rests()
     ensures { RestsWithoutStatement }
 {
-    value_of_is_denoted();
-    denoted_is_of_kind();
     table_stays_covered();
 }
 
-/// A place behind lines that were answered, from a start on, is one to which the script comes. Does nothing.
+/// A place behind lines that were answered, from a start on, is one to which the script comes; and so is one between two steps of a line: what a line
+/// does are names, submissions and steps of its session. Does nothing.
 pub fn answered_lines_lead_there()
-    ensures { AnsweredLinesReach }
-{}
+    ensures lines { AnsweredLinesReach }
+    ensures behind { AnsweredLineReaches }
+    ensures within { BegunLineReaches }
+{
+    value_of_is_denoted();
+    denoted_is_of_kind();
+}

@@ -3,15 +3,12 @@
 ghost use Rattle.script_laws.specs.TextLaws.{DesummarizeAnswersItsRange, SummarizeCountsItsRanges};
 
 use coverage::table_stays_covered;
-use value_text::{denoted_is_of_kind, value_of_is_denoted};
 
 /// A summarize of a whole table whose steps no other session's come between answers how many of the ranges that begin below the table's
 /// blocks had no final tuple; and behind it each of them has one. Does nothing.
 pub fn a_summarize_leaves_no_range_out()
     ensures { SummarizeCountsItsRanges }
 {
-    value_of_is_denoted();
-    denoted_is_of_kind();
     table_stays_covered();
 }
 

@@ -19,7 +19,7 @@ use Rattle.store_layout.specs.StatementRequests.{insert_reply, look_entry, reque
 use Rattle.coverage.specs.Refusals as causes
 use Rattle.script_semantics.specs.Place.{Place, database_at}
 use Rattle.script_semantics.specs.Requests.{Course, MakesAll}
-use Rattle.script_semantics.specs.StatementSteps.{Ended, RefusesSo, ForMemory, HeapIsFull, IndexIsFull, StepsTo, Replies, MeetsConflict, IsRefused, AtOnce, LacksMemoryAtOnce, NoNumber}
+use Rattle.script_semantics.specs.StatementSteps.{Ended, IsInsert, RefusesSo, ForMemory, HeapIsFull, IndexIsFull, StepsTo, Replies, MeetsConflict, IsRefused, AtOnce, LacksMemoryAtOnce, NoNumber}
 use Rattle.script_semantics.specs.Laws.{EntersItsPut, ForWantOfMemory, ForWantOfRoom, HasOneAnswer, NoAnswer, ItsRow}
 use Rattle.script_semantics.proofs.Requests.{as_one_step, none_made}
 
@@ -48,12 +48,8 @@ enters_tag : (p : Place) (n table i : ℕ) (values : List Value) (q : Place) (wh
     → RefusesSo p i (statements.Insert table values) why tag told → q.journal ≡ p.journal ++ tagged_entry n table (requests.Put values) tag ∷ []
     → EntersItsPut p n table values told q
 enters_tag p n table i values q _ _ _ (ForMemory takes) journal = ForWantOfMemory journal
-enters_tag p n table i values q _ _ _ (HeapIsFull number) journal = ForWantOfRoom _ number journal
-enters_tag p n table i values q _ _ _ (IndexIsFull at number) journal = ForWantOfRoom _ number journal
-
-abbrev IsInsert : Statement → Type 0
-IsInsert (statements.Insert table values) = Unit {0}
-IsInsert statement = ⊥
+enters_tag p n table i values q _ _ _ (HeapIsFull number is) journal = ForWantOfRoom _ _ journal
+enters_tag p n table i values q _ _ _ (IndexIsFull at number puts) journal = ForWantOfRoom _ _ journal
 
 insert_enters : (p : Place) (n table : ℕ) (values : List Value) (answers : List Answer) → HasOneAnswer answers → (told : Refusal) (q : Place)
     → StepsTo p n (record { statement = statements.Insert table values; answers = answers }) (Ended (replies.Refused told)) q → EntersItsPut p n table values told q

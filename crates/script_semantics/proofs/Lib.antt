@@ -5,6 +5,8 @@ pub mod OneStep
 pub mod Answered
 pub mod Bare
 pub mod Entering
+pub mod RowTurns
+pub mod RequestSteps
 pub mod Counted
 pub mod Working
 pub mod Empty

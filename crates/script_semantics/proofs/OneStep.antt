@@ -65,7 +65,7 @@ data Made (p : Place) (n : ℕ) (hand : Hand) (outcome : Outcome) (q : Place) : 
       → Some reply ≡ reply_to_statement (full_table p.layout) hand.statement c.answers → outcome ≡ Ended reply → Made p n hand outcome q
   Wants : (refusal : Refusal) → IsWant refusal → (outcome ≡ Ended (replies.Refused refusal)) ⊎ (outcome ≡ Waits refusal) → Made p n hand outcome q
 
-reply_is : (layout : DiskLayout) (table : ℕ) (task : Task) (account : Account) (answers : List Answer) (statement : Statement) → IsTransactional statement
+pub reply_is : (layout : DiskLayout) (table : ℕ) (task : Task) (account : Account) (answers : List Answer) (statement : Statement) → IsTransactional statement
     → reply_after layout table task account answers statement ≡ reply_to_statement (full_table layout) statement answers
 reply_is layout table task account answers statements.Begin is = refl
 reply_is layout table task account answers statements.Commit is = refl
@@ -81,8 +81,8 @@ reply_is layout table task account answers statements.Work is = elim is [ ]
 
 wants_step : (p : Place) (table : ℕ) (statement : Statement) (why : causes.Refusal) (tag : Tag) (told : Refusal) → RefusesSo p table statement why tag told → IsWant told
 wants_step p table statement _ _ _ (ForMemory takes) = OfMemory
-wants_step p table statement _ _ _ (HeapIsFull number) = OfRoom _ _
-wants_step p table statement _ _ _ (IndexIsFull at number) = OfRoom _ _
+wants_step p table statement _ _ _ (HeapIsFull number is) = OfRoom _ _
+wants_step p table statement _ _ _ (IndexIsFull at number puts) = OfRoom _ _
 
 work_is_none : (hand : Hand) → hand.statement ≡ statements.Work → IsTransactional hand.statement → ⊥
 work_is_none hand is transactional = subst IsTransactional is transactional

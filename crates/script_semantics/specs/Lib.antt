@@ -9,6 +9,7 @@ pub mod LineTexts
 pub mod Stops
 pub mod Starts
 pub mod Laws
+pub mod RequestSteps
 pub mod Openings
 pub mod Numbers
 pub mod GoneRows

@@ -24,7 +24,7 @@ use Rattle.store_layout.specs.DiskLayout.{DiskLayout}
 use Rattle.coverage.specs.Accounts.{Account, Asked}
 use Rattle.coverage.specs.Refusals as causes
 use Rattle.coverage.specs.Refusals.{Heap, IndexNumber, LacksMemory, IsFull, HasConflict}
-use Rattle.coverage.specs.Table.{OneRange, Task, Resting, Considers, Scans}
+use Rattle.coverage.specs.Table.{OneRange, TableScan, Task, Resting, Considers, Scans}
 use Rattle.coverage.specs.TablePoints.{WaitedFor, SummariseLock, PageLock, waits_for, IsHeldBy}
 use Rattle.coverage.specs.TableSteps.{IsBlocked}
 use Rattle.script_semantics.specs.Place.{Hand, Place, database_at}
@@ -101,11 +101,28 @@ MayLackMemory p n (statements.Delete q) = Unit {0}
 MayLackMemory p n statements.Work = (asked : Asked) × IsAskedFirst p asked × ((m : ℕ) → (p.tables asked.table).summarise_lock ≡ Some m → m ≡ n)
 MayLackMemory p n statement = ⊥
 
--- why a step refuses its statement, with the tag of its request then, and what is told
+abbrev pub IsInsert : Statement → Type 0
+IsInsert (statements.Insert table values) = Unit {0}
+IsInsert statement = ⊥
+
+-- a statement that may put tuples into an index
+abbrev pub PutsTuples : Statement → Type 0
+PutsTuples (statements.Insert table values) = Unit {0}
+PutsTuples (statements.Summarize index block) = Unit {0}
+PutsTuples (statements.Vacuum table) = Unit {0}
+PutsTuples statements.Work = Unit {0}
+PutsTuples statement = ⊥
+
+-- a full index is told by its name, with the number of the pages that it may have
+abbrev pub full_index : DiskLayout → (table at : ℕ) → Refusal
+full_index layout table at = refusals.Full (index_name layout table at) layout.sizes.index_blocks
+
+-- Why a step refuses its statement, with the tag of its request then, and what is told: memory is short; no slot is left for an insert's row; or no page
+-- for a tuple that is put. What is full is told with the room that the layout gives it.
 pub data RefusesSo (p : Place) (table : ℕ) (statement : Statement) : causes.Refusal → Tag → Refusal → Type 0 where
   ForMemory : TakesMemory statement → RefusesSo p table statement LacksMemory tags.NoMemory refusals.Memory
-  HeapIsFull : (number : ℕ) → RefusesSo p table statement (IsFull Heap number) tags.Full (refusals.Full (table_name p.layout table) number)
-  IndexIsFull : (at number : ℕ) → RefusesSo p table statement (IsFull (IndexNumber at) number) tags.Full (refusals.Full (index_name p.layout table at) number)
+  HeapIsFull : (number : ℕ) → IsInsert statement → RefusesSo p table statement (IsFull Heap number) tags.Full (full_table p.layout table)
+  IndexIsFull : (at number : ℕ) → PutsTuples statement → RefusesSo p table statement (IsFull (IndexNumber at) number) tags.Full (full_index p.layout table at)
 
 -- what is waited for, by its names
 abbrev pub what_of : DiskLayout → (table : ℕ) → WaitedFor → What
@@ -153,7 +170,19 @@ pub record Steps (p : Place) (n : ℕ) (outcome : Outcome) (q : Place) : Type 0 
   pub steps : StepsTo p n hand outcome q
   pub fits : length q.journal ≤ MAX_ENTRIES
 
--- it hasn't: one of the outcomes that the step may have, want of memory among them, enters more than there is room for; nothing is changed
+-- a step of a select or a delete behind which its scan goes on
+pub record ScansOn (p : Place) (n : ℕ) (statement : Statement) : Type 0 where
+  pub looking : IsLooking statement
+  pub table : ℕ
+  pub on : IsIn p n statement table
+  pub point : Point
+  pub next : Place
+  pub steps : Steps p n (Moved point) next
+  pub scan : TableScan
+  pub scans : (next.tables table).task n ≡ Scans scan
+
+-- It hasn't: one of the outcomes that the step may have enters more than there is room for; nothing is changed. Memory may be short for each step of a
+-- scan, so want of it doesn't count where the scan has a step behind which it goes on.
 pub record LacksRoom (p : Place) (n : ℕ) : Type 0 where
   pub hand : Hand
   pub in_hand : p.hands n ≡ Some hand
@@ -161,3 +190,16 @@ pub record LacksRoom (p : Place) (n : ℕ) : Type 0 where
   pub further : Place
   pub steps : StepsTo p n hand outcome further
   pub past : MAX_ENTRIES < length further.journal
+  pub sure : ScansOn p n hand.statement → outcome ≢ Ended (replies.Refused refusals.Memory)
+
+-- or memory is short for the step, and the journal has no room for the request that would be refused for it
+pub record LacksBoth (p : Place) (n : ℕ) : Type 0 where
+  pub hand : Hand
+  pub in_hand : p.hands n ≡ Some hand
+  pub further : Place
+  pub steps : StepsTo p n hand (Ended (replies.Refused refusals.Memory)) further
+  pub past : MAX_ENTRIES < length further.journal
+
+-- the journal has no room for the step
+abbrev pub IsPastRoom : Place → ℕ → Type 0
+IsPastRoom p n = LacksRoom p n ⊎ LacksBoth p n

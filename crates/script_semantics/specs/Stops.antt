@@ -13,7 +13,7 @@ use Rattle.script_run.specs.declared.engine.AnswerFault.TheVariants.{Memory, Ful
 use Rattle.store_layout.specs.declared.statement.Statement.{Statement}
 use Rattle.store_layout.specs.SessionNumbers.{session_number, is_past_sessions}
 use Rattle.script_semantics.specs.Place.{Place}
-use Rattle.script_semantics.specs.StatementSteps.{Moved, Steps, LacksRoom}
+use Rattle.script_semantics.specs.StatementSteps.{Moved, Steps, IsPastRoom}
 use Rattle.script_semantics.specs.LineTexts.{Submits, IsLineText, named}
 
 -- steps of session n's statement, behind each of which it goes on
@@ -40,13 +40,12 @@ IsOfDisk Damaged = Unit
 IsOfDisk Memory = ⊥
 IsOfDisk Full = ⊥
 
--- For want of memory nothing is done, or the session is made, or some steps are made, or all that the line says, and its text is lost; or the
--- journal lacks room for the next step. Where the disk fails some steps are made, before the one that it failed in.
+-- For want of memory nothing is done, or the session is made, or all that the line says, and its text is lost. Where the journal has no room for a step, and
+-- where the disk fails in one, some steps are made before it.
 pub data IsLineStopped (schema : Schema) (p : Place) (line : List ℕ) : AnswerFault → Place → Type 0 where
   Undone : IsLineStopped schema p line Memory p
   Named : (name : List ℕ) (order : Order) → line_of schema line ≡ Ok (lines.Say name order) → is_past_sessions p.names name ≡ false
       → IsLineStopped schema p line Memory (named p name)
-  Amidst : (n : ℕ) (q : Place) → LineComesTo p (line_of schema line) n q → IsLineStopped schema p line Memory q
   Unprinted : (text : List ℕ) (q : Place) → IsLineText schema p line text q → IsLineStopped schema p line Memory q
-  PastRoom : (n : ℕ) (q : Place) → LineComesTo p (line_of schema line) n q → LacksRoom q n → IsLineStopped schema p line Full q
+  PastRoom : (n : ℕ) (q : Place) → LineComesTo p (line_of schema line) n q → IsPastRoom q n → IsLineStopped schema p line Full q
   OffDisk : (n : ℕ) (q : Place) (fault : AnswerFault) → LineComesTo p (line_of schema line) n q → IsOfDisk fault → IsLineStopped schema p line fault q

@@ -19,6 +19,7 @@ ghost use Rattle.script_semantics.specs.Laws.{AnEmptyTableIsSummarized, AnInsert
 ghost use Rattle.script_semantics.specs.LineTexts.{Answers, Does, Finishes, Submits, block_refusal, fault_text, refused_text, with_statement};
 ghost use Rattle.script_semantics.specs.Names.{name_of, table_name};
 ghost use Rattle.script_semantics.specs.Place.{Hand, Place, database_at, new_hand};
+ghost use Rattle.script_semantics.specs.RequestSteps.{StepsEnter};
 ghost use Rattle.script_semantics.specs.StatementSteps.{Ended, Moved, Outcome, StepsTo, Waits};
 ghost use Rattle.query_words.specs.declared.line.Line.TheVariants as lines;
 ghost use Rattle.query_words.specs.declared.line.LineFault.{LineFault};
@@ -34,7 +35,7 @@ ghost use Rattle.coverage.specs.Accounts.{Asked};
 ghost use Rattle.coverage.specs.Table.{Resting};
 ghost use Rattle.coverage.specs.TableCovered.{IsTableKept};
 
-use coverage::{accounts_are_exact, blocked_statements_wait};
+use coverage::{accounts_are_exact, blocked_statements_wait, refusals_have_their_cause};
 
 /// A plain line has the text of a start and a finish, or of a start and as many steps, and leads to the same place; and a finish of a
 /// statement that was taken is its plain line. Does nothing.
@@ -118,6 +119,14 @@ pub fn requests_are_entered_in_place()
     ensures own { (p q : Place) (n : ℕ) (hand : Hand) (outcome : Outcome) → StepsTo p n hand outcome q → EntersItsOwn p n q }
     ensures plain { PlainIsAsOneStep }
 {}
+
+/// Each step is told by what it enters into the journal and leaves in hand, without a table, where the answers of the statement in hand fit what it is at in
+/// its table. Does nothing.
+pub fn a_step_enters()
+    ensures { StepsEnter }
+{
+    refusals_have_their_cause();
+}
 
 /// A refused insert lacks memory or room, and enters its put with that tag: alone, or behind the put of its row. A select is answered
 /// exactly the rows of its session's copy that match, whatever the indexes and the other sessions did beside it. Does nothing.

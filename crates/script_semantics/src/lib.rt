@@ -17,7 +17,8 @@ pub use journal_fronts::{
     rows_are_of_commits, views_are_taken,
 };
 pub use laws::{
-    a_blocked_step_waits, a_plain_line_is_a_start_and_steps, a_summarize_counts_its_ranges,
+    a_blocked_step_waits, a_plain_line_is_a_start_and_steps, a_step_enters,
+    a_summarize_counts_its_ranges,
     answers_are_of_the_copy, lines_are_answered, maintenance_waits_for_the_summarise_lock,
     refusals_come_in_order, requests_are_entered_in_place, work_answers_the_queue,
 };

@@ -22,6 +22,7 @@ use Rattle.session_parts.specs.StoreStates.{StoreState, hand_at, hand_in, store_
 use Rattle.session_starts.specs.StopRule.{AllHaveTable, StepStopsWhole, StopsWhole}
 use Rattle.session_starts.specs.Stops.{StopsSo}
 use Rattle.session_transactions.proofs.Stopping.{passes_no_commit, passes_nothing}
+use Rattle.session_core.specs.Sessions.{TellsJournal}
 use Rattle.session_core.specs.StoreKept.{IsStoreKept}
 use Rattle.session_core.proofs.Lists.{inside}
 
@@ -42,6 +43,16 @@ stops_reopened told s n errors.Disk fault stays reopens is = absurd reopens
 stops_reopened told s n (errors.Damaged at) fault stays reopens is = absurd reopens
 stops_reopened told s n (errors.Reopen faults) fault stays reopens is =
     subst (λ (f : StoreFault). IfSome (hand_at s n) (λ hand. StopsSo told s.transactions n s.pages s.pages hand (Err f))) (sym is) (stops_of told s n stays faults (hand_at s n))
+
+-- nothing is told of its journal
+untold_journal : {D : Type 0} (s : StoreState D) (hand : Option Hand) (faults : ℕ) → TellsJournal s hand (stops.Reopen faults)
+untold_journal s None faults = tt
+untold_journal s (Some hand) faults = tt
+
+pub journal_reopened : {D : Type 0} (s : StoreState D) (hand : Option Hand) (error : StoreError) (fault : StoreFault) → IsReopen error → fault ≡ fault_of error → TellsJournal s hand fault
+journal_reopened s hand errors.Disk fault reopens is = absurd reopens
+journal_reopened s hand (errors.Damaged at) fault reopens is = absurd reopens
+journal_reopened s hand (errors.Reopen faults) fault reopens is = subst (λ (f : StoreFault). TellsJournal s hand f) (sym is) (untold_journal s hand faults)
 
 -- a session with a statement in hand is fit for its step
 pub fits_here : {D : Type 0} (told : D → Told) (parts : Parts D) (names : List (List ℕ)) (hands : List (Option Hand)) (spares : List (Option Insert)) (n : ℕ) → IsStoreKept told (store_of parts names hands) spares

@@ -23,7 +23,7 @@ use Rattle.session_parts.specs.UndoneLaws.{StepsSo}
 use Rattle.session_parts.specs.StoreStates.{StoreState, hand_at, hand_in, store_of, with_hand}
 use Rattle.session_core.specs.SessionLaws.{SessionLaws}
 use Rattle.session_core.specs.SessionLists.{spare_in}
-use Rattle.session_core.specs.Sessions.{IsInHandThen, IsSameStatement, LeavesTheRest, NamesASession, StaysStill}
+use Rattle.session_core.specs.Sessions.{IsInHandThen, IsSameStatement, LeavesTheRest, NamesASession, StaysStill, TellsJournal, WaitsForAnother}
 use Rattle.session_core.specs.StoreKept.{IsStoreKept}
 use Rattle.session_starts.specs.Stops.{StopsSo}
 use Rattle.session_core.proofs.Kept.{fits_now, nobody_now, promised_now, session_below}
@@ -34,6 +34,7 @@ pub record IsStepOf {D : Type 0} (told : D → Told) (old new : StoreState D) (n
   pub steps : LeadsOn told old new (λ p q. StepIs p n answer q)
   pub hand : IsInHandThen answer (hand_at new n)
   pub holder : IfOk answer (NamesASession (length old.names))
+  pub waits : IfOk answer (WaitsForAnother old n)
   pub names : new.names ≡ old.names
   pub others : LeavesTheRest told old new n
   pub statement : IsSameStatement (hand_at old n) (hand_at new n)
@@ -42,6 +43,7 @@ pub record IsStepOf {D : Type 0} (told : D → Told) (old new : StoreState D) (n
   pub journal : OnErr answer (new.journal.entries ≡ old.journal.entries)
   pub ready : OnOk answer (StaysReady old.pages new.pages)
   pub cause : IfErr answer (HasFaultCause told old.pages new.pages)
+  pub journal_told : IfErr answer (TellsJournal old (hand_at old n))
   pub survives : IfSome (hand_at old n) (λ hand. StopsSo told old.transactions n old.pages new.pages hand answer)
 
 -- ---- of each answer
@@ -108,6 +110,21 @@ module _ {D : Type 0} (told : D → Told) (old new : StoreState D) (n : ℕ) (ha
   holder_is (stepped.Blocked what holder now) session stays = session holder stays.2
   holder_is (stepped.Undone fault now) session stays = tt
 
+  waits_is : (answer : Stepped) → StaysWhereUndone told old new n hand answer → IfOk (answer_of answer) (WaitsForAnother old n)
+  waits_is (stepped.Moved point now) stays = tt
+  waits_is (stepped.Done reply) stays = tt
+  waits_is (stepped.Blocked what holder now) stays = stays.2
+  waits_is (stepped.Undone fault now) stays = tt
+
+  journal_is : (answer : Stepped) → StaysWhereUndone told old new n hand answer → IfErr (answer_of answer) (TellsJournal old (Some hand))
+  journal_is (stepped.Moved point now) stays = tt
+  journal_is (stepped.Done reply) stays = tt
+  journal_is (stepped.Blocked what holder now) stays = tt
+  journal_is (stepped.Undone (stops.Spent entries) now) stays = (stays.2, stays.3)
+  journal_is (stepped.Undone stops.Disk now) stays = tt
+  journal_is (stepped.Undone (stops.Reopen faults) now) stays = tt
+  journal_is (stepped.Undone (stops.Damaged at) now) stays = tt
+
 module _ {D : Type 0} (told : D → Told) (laws : SessionLaws told) (parts : Parts D) (names : List (List ℕ)) (hands : List (Option Hand)) (spares : List (Option Insert))
     (kept : IsStoreKept told (store_of parts names hands) spares) (new : Parts D) (n : ℕ) (hand : Hand) (is : hand_in hands n ≡ Some hand) (answer : Stepped)
     (so : StepsSo told parts new n hand answer) where
@@ -165,6 +182,7 @@ module _ {D : Type 0} (told : D → Told) (laws : SessionLaws told) (parts : Par
     steps = so.steps names hands is;
     hand = subst (λ (h : Option Hand). IsInHandThen (answer_of answer) h) (sym changes.own) (hand_then answer);
     holder = holder_is told before after n hand answer is_session (so.stays names hands is);
+    waits = waits_is told before after n hand answer (so.stays names hands is);
     names = refl;
     others = record { hands = changes.others; sessions = others };
     statement = subst (λ (h : Option Hand). IsSameStatement h (hand_in now n)) (sym is)
@@ -174,6 +192,7 @@ module _ {D : Type 0} (told : D → Told) (laws : SessionLaws told) (parts : Par
     journal = enters_nothing told before after n hand answer (so.stays names hands is);
     ready = stays_ready told before after n hand answer so.cause;
     cause = fault_cause told before after n hand answer so.cause;
+    journal_told = subst (λ (h : Option Hand). IfErr (answer_of answer) (TellsJournal before h)) (sym is) (journal_is told before after n hand answer (so.stays names hands is));
     survives = subst (λ (h : Option Hand). IfSome h (λ was. StopsSo told before.transactions n before.pages after.pages was (answer_of answer))) (sym is) stops;
   }
 

@@ -11,7 +11,7 @@ use Rattle.session_parts.specs.declared.faults.StoreFault.TheVariants as stops
 use Rattle.session_parts.specs.declared.hand.Hand.{Hand}
 use Rattle.session_parts.specs.declared.hand.Hand.TheVariants as hands
 use Rattle.session_parts.specs.Hands.{statement_of}
-use Rattle.session_parts.specs.StepAnswers.{LeavesSessions, StaysAsItWas}
+use Rattle.session_parts.specs.StepAnswers.{IsHolderOf, IsSpentFor, LeavesSessions, StaysAsItWas}
 use Rattle.session_parts.specs.StoreStates.{StoreState, hand_at}
 use Rattle.session_core.specs.declared.faults.SessionFault.{SessionFault}
 use Rattle.session_core.specs.declared.faults.SessionFault.TheVariants as faults
@@ -46,6 +46,16 @@ IsInHandThen (Err fault) hand = IsSome hand
 abbrev pub NamesASession : ℕ → Step → Type 0
 NamesASession sessions (steps.Blocked what holder) = holder < sessions
 NamesASession sessions step = Unit {0}
+
+-- and on any disk for another one than session n, which holds a lock
+abbrev pub WaitsForAnother : {D : Type 0} → StoreState D → (n : ℕ) → Step → Type 0
+WaitsForAnother s n (steps.Blocked what holder) = IsHolderOf s n holder
+WaitsForAnother s n step = Unit {0}
+
+-- what is told of the journal is so on any disk: how many entries it has, and that it has no room for what a step of the statement in hand may enter
+abbrev pub TellsJournal : {D : Type 0} → StoreState D → Option Hand → StoreFault → Type 0
+TellsJournal s (Some hand) (stops.Spent entries) = (entries ≡ length s.journal.entries) × IsSpentFor s (statement_of hand)
+TellsJournal s hand fault = Unit {0}
 
 -- of the other sessions each has in hand what it had, and keeps its transaction, its locks, and what it asked for in vain
 pub record LeavesTheRest {D : Type 0} (told : D → Told) (old new : StoreState D) (n : ℕ) : Type 0 where

@@ -19,7 +19,7 @@ ghost use Rattle.session_starts.specs.OpenedParts.{ShowsStart};
 ghost use Rattle.session_starts.specs.Started.{HoldsImage, ImagesStay, OpensTable};
 ghost use Rattle.session_starts.specs.StopRule.{AllHaveTable, StopsWhole};
 ghost use Rattle.session_core.specs.Ending.{EndsSoon};
-ghost use Rattle.session_core.specs.Sessions.{HasSession, IsInHandThen, IsSameStatement, LeavesTheRest, NamesASession, StaysStill, refusal_in};
+ghost use Rattle.session_core.specs.Sessions.{HasSession, IsInHandThen, IsSameStatement, LeavesTheRest, NamesASession, StaysStill, TellsJournal, WaitsForAnother, refusal_in};
 ghost use Rattle.session_starts.specs.Stops.{StopsSo};
 ghost use Rattle.session_core.specs.Submitting.{IsJudged, IsTakenUp, refusal_here};
 
@@ -166,13 +166,14 @@ impl<D: Disk + Drop> Store<D> {
     }
 
     /// Makes one step of the statement that the session has in hand. `Spent` comes exactly where the requests that it would enter don't
-    /// all fit into the journal; nothing is changed then, nor where it is blocked. Where a page is refused the statement stays in hand too. `Disk` comes where
+    /// all fit into the journal, that of a refusal for want of memory among them; nothing is changed then, nor where it is blocked. Where a page is refused the statement stays in hand too. `Disk` comes where
     /// the disk failed in this step; each step behind it is `Reopen`, changes nothing and makes no device call.
     pub fn step(&mut self, session: u32) -> Result<Step, StoreFault>
         requires { IsSome (hand_at self.old session) }
         ensures steps { LeadsOn D.told self.old self.new (λ p q. StepIs p session result q) }
         ensures hand { IsInHandThen result (hand_at self.new session) }
         ensures holder { IfOk result (NamesASession (length self.old.names)) }
+        ensures waits { IfOk result (WaitsForAnother self.old session) }
         ensures names { self.new.names ≡ self.old.names }
         ensures others { LeavesTheRest D.told self.old self.new session }
         ensures statement { IsSameStatement (hand_at self.old session) (hand_at self.new session) }
@@ -182,6 +183,7 @@ impl<D: Disk + Drop> Store<D> {
         ensures journal { OnErr result (self.new.journal.entries ≡ self.old.journal.entries) }
         ensures ready { OnOk result (StaysReady self.old.pages self.new.pages) }
         ensures cause { IfErr result (HasFaultCause D.told self.old.pages self.new.pages) }
+        ensures journal_told { IfErr result (TellsJournal self.old (hand_at self.old session)) }
         ensures reopen { IfSome self.old.pages.failed (λ faults. (result ≡ Err (StoreFault.Reopen faults)) × (self.new ≡ self.old)) }
         // At every moment each image has the table of the journal, or that with the commit in hand; once that is answered each has it.
         ensures stops { (p : Place) → ShowsPlace self.old p → AllHaveTable D.told self.old.pages p → StopsWhole D.told self.old self.new p session result }
@@ -200,6 +202,7 @@ impl<D: Disk + Drop> Store<D> {
         ensures steps { LeadsOn D.told self.old self.new (λ p q. StepIs p session result q) }
         ensures hand { IsInHandThen result (hand_at self.new session) }
         ensures holder { IfOk result (NamesASession (length self.old.names)) }
+        ensures waits { IfOk result (WaitsForAnother self.old session) }
         ensures names { self.new.names ≡ self.old.names }
         ensures others { LeavesTheRest D.told self.old self.new session }
         ensures statement { IsSameStatement (hand_at self.old session) (hand_at self.new session) }
@@ -209,6 +212,7 @@ impl<D: Disk + Drop> Store<D> {
         ensures journal { OnErr result (self.new.journal.entries ≡ self.old.journal.entries) }
         ensures ready { OnOk result (StaysReady self.old.pages self.new.pages) }
         ensures cause { IfErr result (HasFaultCause D.told self.old.pages self.new.pages) }
+        ensures journal_told { IfErr result (TellsJournal self.old (hand_at self.old session)) }
     {
         laws_of_sessions(&self.parts);
         few_locks_are_held(&self.parts.locks);

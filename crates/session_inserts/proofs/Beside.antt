@@ -1,5 +1,5 @@
 -- what a step is fit for then, and what it leaves to the other sessions, by what its session has in hand
-use Rattle.std.proofs.Common.{◌≡◌, ◌≢◌, ◌+◌, ℕ, List, Option, None, Some, refl, sym, ap, subst, ◌∙◌, false, inl, inr, ◌≤◌, arith}
+use Rattle.std.proofs.Common.{◌≡◌, ◌≢◌, ◌+◌, ℕ, List, Option, None, Some, refl, sym, ap, subst, ◌∙◌, false, inl, inr, ◌<◌, ◌≤◌, arith}
 use Rattle.std.specs.Prelude.{IsSome}
 use Rattle.std.proofs.lemmas.Bool.{cases_lt, false≢true}
 use Rattle.store_layout.specs.DiskLayout.{DiskLayout}
@@ -102,3 +102,6 @@ at_no_status layout insert left some same =
 -- where one more doesn't fit
 pub past_room : (n limit : ℕ) → (n + 1 ≤ limit → ⊥) → limit ≤ n
 past_room n limit none = elim (cases_lt n limit) [ inl below ↦ absurd (none (omega arith)) | inr past ↦ past ]
+
+pub past_one : (n limit : ℕ) → limit ≤ n → limit < n + 1
+past_one n limit past = omega (arith, past)

@@ -18,7 +18,7 @@ use Rattle.coverage.specs.TableSteps.{IndexFull, IsInsertRefused}
 use Rattle.index_steps.specs.ShownRows.{shown_by}
 use Rattle.script_semantics.specs.Names.{index_name}
 use Rattle.script_semantics.specs.Place.{Place}
-use Rattle.script_semantics.specs.StatementSteps.{Ended, IndexIsFull, LacksRoom, Steps}
+use Rattle.script_semantics.specs.StatementSteps.{Ended, LacksRoom, RefusesSo, Steps}
 use Rattle.brin_insert.specs.declared.insert.Insert.{Insert}
 use Rattle.brin_insert.specs.InsertAnswers.{IsInsertFull}
 use Rattle.brin_insert.specs.InsertHands.{InsertHand}
@@ -29,7 +29,8 @@ use Rattle.session_parts.specs.ShowsPlace.{IsPlaceOf}
 use Rattle.session_parts.specs.StepLaws.{TurnIsRefused}
 use Rattle.session_parts.specs.StoreStates.{ShownStore}
 use Rattle.session_parts.specs.TableLaws.{IsQuiet}
-use Rattle.session_inserts.proofs.AtIndex.{AtIndex, hand_here, insert_of, kept_here, on_there, put_of, shows_here, task_asking, task_before, task_here}
+use Rattle.session_parts.proofs.FullRooms.{index_refuses}
+use Rattle.session_inserts.proofs.AtIndex.{AtIndex, hand_here, insert_of, kept_here, number_here, on_there, put_of, shows_here, task_asking, task_before, task_here}
 use Rattle.session_inserts.proofs.Points.{is_at_index}
 use Rattle.session_inserts.proofs.Refused.{Refuses, is_refused, no_more, refusal_lacks_room, without}
 use Rattle.session_inserts.specs.TakenLaws.{RefusalLaws}
@@ -123,6 +124,10 @@ module _ (law : InsertIsRefused) (old : ShownStore) (n : ℕ) (before : Insert) 
   abbrev told : Refusal
   told = refusals.Full (index_name p.layout table before.at) number
 
+  so : (counts : ℕ → Bool) (turns : TurnsIn p n (insert_of before.row) table (refused_in n counts w) (p.accounts n)) → refusal_in turns ≡ Some (IsFull (IndexNumber before.at) number)
+      → RefusesSo p table (insert_of before.row) (IsFull (IndexNumber before.at) number) tags.Full told
+  so counts turns refused = index_refuses old p table shown at.made.table n before.at hand.index number (insert_of before.row) _ _ (number_here old n before hand x at) turns refused tt
+
   pub index_refused : (laws : RefusalLaws) (new : ShownStore) (o : Open) → Refuses old new n table before.row.values tags.Full o → before.row.id.t ≡ o.t
       → (q : Place) × IsPlaceOf new q × Steps p n (Ended (replies.Refused told)) q
   index_refused laws new o refuses own =
@@ -130,11 +135,11 @@ module _ (law : InsertIsRefused) (old : ShownStore) (n : ℕ) (before : Insert) 
       let it = turns (counts_of new.transactions shown.database.stored) (subst (λ (t : ℕ). CountsNoMore w (counts_of new.transactions shown.database.stored) t) (sym own) counted) in
       is_refused laws old new n table before.row.values tags.Full o refuses tt p shown (put_of before.row) (hand_here old n before hand x at p shown) refl (p.accounts n)
       refl (IsFull (IndexNumber before.at) number) told
-      it.0 it.1 (IndexIsFull before.at number) (subst IsQuiet (sym task_is) there.quiet)
+      it.0 it.1 (so _ it.0 it.1) (subst IsQuiet (sym task_is) there.quiet)
 
   pub index_lacks_room : TurnIsRefused → MAX_ENTRIES ≤ length p.journal → LacksRoom p n
   index_lacks_room refused full =
       let fewer = without w before.row.id.t in
       let it = turns fewer.counts fewer.no_more in
       refusal_lacks_room refused p n table before.row.values tags.Full (put_of before.row) (hand_here old n before hand x at p shown) refl (p.accounts n) fewer.counts (IsFull (IndexNumber before.at) number) told
-      (refused_in n fewer.counts w) it.0 it.1 (IndexIsFull before.at number) full
+      (refused_in n fewer.counts w) it.0 it.1 (so _ it.0 it.1) (λ looking. looking) full

@@ -58,7 +58,7 @@ use Rattle.session_parts.specs.StoreStates.{ShownStore, dropped_in, hand_in, sho
 use Rattle.session_parts.specs.UndoneLaws.{FitOfParts, FitOfStores, FitsParts, StepsSo}
 use Rattle.reply_texts.specs.declared.dropped.Dropped.{Dropped}
 use Rattle.session_inserts.proofs.AtIndex.{AtIndex, insert_of, number_here, shows_here}
-use Rattle.session_inserts.proofs.Beside.{AtWork, at_work_of, leaves_others, stays_fit}
+use Rattle.session_inserts.proofs.Beside.{AtWork, at_work_of, leaves_others, past_one, stays_fit}
 use Rattle.session_inserts.proofs.IndexStep.{InIndex, goes_on, is_done}
 use Rattle.session_inserts.proofs.StaysHere.{StaysHere, is_waiting, stays_shown}
 use Rattle.session_parts.specs.LeadLaws.{NoRequestLeads}
@@ -341,8 +341,8 @@ module _ {D : Type 0} (told : D → Told) (changes : HandChanges) (of_parts : Fi
           p,
           stays_shown (before_it names hand_list has) (after_it names hand_list has (Some (hands.Inserts after))) n before after work.hand work.x (stays_here same_queue kept same_dropped names hand_list has tells (place ∙ work.placed) task same_locks (keeps.pages tells)) p shown laws.stays laws.leads laws.alike,
           (
-            index_lacks_room refusals_laws.insert (before_it names hand_list has) n before work.hand work.x at p shown number (says.1 tells shows.blocks shows.has) refusals_laws.refused
-                (subst (λ (l : List Entry). MAX_ENTRIES ≤ length l) (sym shown.journal) full),
+            inl (index_lacks_room refusals_laws.insert (before_it names hand_list has) n before work.hand work.x at p shown number (says.1 tells shows.blocks shows.has) refusals_laws.refused
+                (subst (λ (l : List Entry). MAX_ENTRIES ≤ length l) (sym shown.journal) full)),
             entries_is ∙ ap (λ (l : List Entry). length l) (sym shown.journal),
             refl,
           ),
@@ -350,7 +350,8 @@ module _ {D : Type 0} (told : D → Told) (changes : HandChanges) (of_parts : Fi
     fit = stays_fit told changes of_stores parts new n (hands.Inserts before) (stepped.Undone (stops.Spent entries) (hands.Inserts after))
         (fits_then (Some (hands.Inserts after)) (in_hand_then step_left (subst (λ (o : Option Spot). IsSome o) (sym place) fits.in_hand.3)) own refl);
     others = others_so (stepped.Undone (stops.Spent entries) (hands.Inserts after)) refl;
-    stays = λ names hand_list has. (record { pages = keeps; transactions = refl; locks = same_locks; rights = refl; journal = refl; queue = same_queue; dropped = kept }, same_statement);
+    stays = λ names hand_list has.
+        (record { pages = keeps; transactions = refl; locks = same_locks; rights = refl; journal = refl; queue = same_queue; dropped = kept }, same_statement, entries_is, past_one (length parts.journal.entries) MAX_ENTRIES full);
     cause = left.ready;
   }
     where

@@ -42,11 +42,12 @@ use Rattle.coverage.specs.TableSteps.{HeapFull, IsHeapFull, RowLacksMemory}
 use Rattle.index_steps.specs.ShownRows.{shown_by}
 use Rattle.script_semantics.specs.Names.{table_name}
 use Rattle.script_semantics.specs.Place.{Place}
-use Rattle.script_semantics.specs.StatementSteps.{Ended, ForMemory, HeapIsFull, LacksRoom, RefusesSo, Steps}
+use Rattle.script_semantics.specs.StatementSteps.{Ended, ForMemory, LacksRoom, RefusesSo, Steps}
 use Rattle.brin_insert.specs.declared.insert.Insert.{Insert}
 use Rattle.brin_insert.specs.InsertAnswers.{InsertStepped, IsInsertFull, StandsPlaced, relation_at, relation_in}
 use Rattle.brin_insert.specs.InsertLocks.{held_by, stage_of}
 use Rattle.brin_insert.specs.Inserts.{HasStepLeft, task_at, task_of, work_of}
+use Rattle.session_parts.proofs.FullRooms.{heap_refuses}
 use Rattle.session_parts.specs.declared.hand.Hand.{Hand}
 use Rattle.session_parts.specs.declared.hand.Hand.TheVariants as hands
 use Rattle.session_parts.specs.declared.hand.Stepped.{Stepped}
@@ -310,7 +311,8 @@ module _ {D : Type 0} (told : D → Told) (changes : HandChanges) (of_stores : F
       let counted : (p.tables table).heap_limit * (p.tables table).rows_per_page ≡ number = ap (λ (w : TableState). w.heap_limit * w.rows_per_page) shows.shown ∙ sym there.0 in
       let it = row_refused laws (shown_of (store_of parts names hand_list)) (shown_of (store_of later names (with_hand hand_list n None))) n table values tag o (refuses names hand_list has tells) failing has p shown
       (HeapFull heap_full) (IsFull Heap number) (ap (IsFull Heap) counted) (refusals.Full (table_name p.layout table) number)
-      (subst (λ (t : Tag). RefusesSo p table (statements.Insert table values) (IsFull Heap number) t (refusals.Full (table_name p.layout table) number)) (sym is) (HeapIsFull number)) in
+      (subst (λ (t : Tag). RefusesSo p table (statements.Insert table values) (IsFull Heap number) t (refusals.Full (table_name p.layout table) number)) (sym is)
+      (heap_refuses (shown_of (store_of parts names hand_list)) p table shown left.fits.in_hand.1 values number counted)) in
       (it.0, it.1, subst (λ (r : Reply). Steps p n (Ended r) it.0) (sym (reply_is ∙ ap (λ (l : DiskLayout). replies.Refused (refusals.Full (table_name l table) number)) (sym shown.layout))) it.2))
 
 -- the machine may put its row

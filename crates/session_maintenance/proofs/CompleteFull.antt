@@ -33,7 +33,7 @@ use Rattle.summarise_core.specs.Summarises.{FullAt, SummariseState}
 use Rattle.summarise_core.specs.SummariseTable.{IsSummariseFull, task_of}
 use Rattle.script_semantics.specs.Names.{index_name}
 use Rattle.script_semantics.specs.Place.{Place, new_hand}
-use Rattle.script_semantics.specs.StatementSteps.{Ended, IndexIsFull, Steps, StepsTo}
+use Rattle.script_semantics.specs.StatementSteps.{Ended, Steps, StepsTo}
 use Rattle.session_parts.specs.declared.hand.Completing.{Completing}
 use Rattle.session_parts.specs.declared.hand.Hand.{Hand}
 use Rattle.session_parts.specs.declared.hand.Hand.TheVariants as hands
@@ -49,6 +49,7 @@ use Rattle.session_parts.specs.StepAnswers.{StaysReady}
 use Rattle.session_parts.specs.Stepping.{IsFit}
 use Rattle.session_parts.specs.StoreStates.{ShownStore, hand_in, shown_of, store_of}
 use Rattle.session_parts.specs.UndoneLaws.{StepsSo}
+use Rattle.session_parts.proofs.FullRooms.{index_refuses}
 use Rattle.session_parts.proofs.Maintenance.{maintenance_refusal_is_shown}
 use Rattle.session_parts.proofs.Steps.{turn_is_refused}
 use Rattle.session_maintenance.proofs.SummariseFull.{FullInTable, RefusedThere, refused_there}
@@ -65,7 +66,8 @@ use Rattle.session_maintenance.proofs.SummarySteps.{SummaryLeft, is_it, of_it, s
 -- its session gave its page locks and its table's summarise lock
 module _ (old new : ShownStore) (n : ℕ) (c : Completing) (a : SummariseState) (got : summary_now c ≡ Some a) (inside : a.index < length old.layout.schema.indexes) (is : IsAtWorkIn old.layout (hands.Completes c) (table_at old a.index) (IsCompletingAt old.layout c) (completed_by c))
     (left : IndexLeft old new n (hands.Completes c) a.index) (p : Place) (shown : IsPlaceOf old p) (alike : ShowAlike) (pages : (place : PagePlace) → page_at new.pages place ≡ page_at old.pages place)
-    (gives : GivesAll (holder old.locks) (holder new.locks) n) (free : right_of new.rights (table_at old a.index) ≡ None) (now : hand_in new.hands n ≡ None) (number : ℕ) (at_a_range : a.standing ≡ standings.AtRange) where
+    (gives : GivesAll (holder old.locks) (holder new.locks) n) (free : right_of new.rights (table_at old a.index) ≡ None) (now : hand_in new.hands n ≡ None) (number : ℕ) (at_a_range : a.standing ≡ standings.AtRange)
+    (at_it : slice_get (indexes_of old.layout (table_at old a.index)) c.next ≡ Some a.index) where
   abbrev its_table : ℕ
   its_table = table_at old a.index
 
@@ -116,7 +118,8 @@ module _ (old new : ShownStore) (n : ℕ) (c : Completing) (a : SummariseState) 
             (subst (λ (e : List Entry). StepsTo p n (new_hand statement) (Ended (replies.Refused (refusals.Full (index_name p.layout its_table c.next) number)))
             (place_after p n its_table None it.after (p.accounts n) (counts_of new.transactions shown.database.stored) e)) entries_are
             (turn_is_refused p n its_table (new_hand statement) it.after (p.accounts n) (counts_of new.transactions shown.database.stored) (IsFull (IndexNumber c.next) number) tags.Full
-            (refusals.Full (index_name p.layout its_table c.next) number) it.turns (it.refused ∙ told) (IndexIsFull c.next number)));
+            (refusals.Full (index_name p.layout its_table c.next) number) it.turns (it.refused ∙ told)
+            (index_refuses old p its_table shown is.below n c.next a.index number statement it.after (p.accounts n) at_it it.turns (it.refused ∙ told) tt)));
         fits = subst (λ (e : List Entry). length e ≤ MAX_ENTRIES) (sym left.step.entries) left.step.few;
       },
     )
@@ -155,6 +158,6 @@ module _ {D : Type 0} (told : D → Told) (parts : Parts D) (n : ℕ) (c : Compl
       let held : right_of parts.rights number ≡ Some n = holds_there old n c a got is_there so.step.had p shown at in
       let at_it = stands told parts n c a got fit same_table in
       let made = is_refused old _ n c a got below is_there so p shown alike (λ place. ap (λ (m : PageMap). page_at m place) (keeps.pages tells)) all_given
-      (gives_there number n parts.rights rights inside gave kept held) now room at
+      (gives_there number n parts.rights rights inside gave kept held) now room at at_it
       (law parts.pages.layout parts.pages.pages parts.locks shows.blocks n c.next room a at_it (full tells)) in
       (made.0, made.1, subst (λ (r : Reply). Steps p n (Ended r) made.0) (sym (named number c.next at_it)) made.2))

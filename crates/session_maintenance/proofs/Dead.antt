@@ -188,7 +188,7 @@ module _ (s : ShownStore) (p : Place) (shown : IsPlaceOf s p) (table : ℕ) (spo
       had_deleter : had_ended opened.0.snapshot row.deleter ≡ true
       had_deleter = (and_parts (is_committed gone) (had_ended opened.0.snapshot row.deleter) (each_snapshot t.opens (λ sn. in_snapshot sn row.deleter gone) so n opened.0 opened.1)).1
 
-    had_put : had_ended opened.0.snapshot row.id.t ≡ true
+      had_put : had_ended opened.0.snapshot row.id.t ≡ true
       had_put = stands.deleters table spot row below there (deleted_by_one is) n opened.0 opened.1 had_deleter
 
       deletion_done : has_done opened.0.snapshot opened.0.t row.deleter gone ≡ true
@@ -323,7 +323,7 @@ module _ (s : ShownStore) (p : Place) (shown : IsPlaceOf s p) (table : ℕ) (spo
   by_journal numbers unseen (Deleted before behind split ended absent all) = by_delete numbers before behind split ended all unseen (is_committed put) refl
 
   pub dead_is_dead_to_all : NumbersRise → DeadRowsAreUnseen → IsDead p row.id → IsTrue (is_dead by_all row)
-  dead_is_dead_to_all numbers unseen dead = by_journal laws numbers (unseen p stands.none_open stands.earlier shown.legal row.id dead) dead
+  dead_is_dead_to_all numbers unseen dead = by_journal numbers (unseen p stands.none_open stands.earlier shown.legal row.id dead) dead
 
 -- what the journal says, as the law needs it
 pub record JournalLaws : Type 0 where

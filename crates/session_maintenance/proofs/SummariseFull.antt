@@ -42,7 +42,7 @@ use Rattle.summarise_core.specs.SummariseTable.{IsSummariseFull, task_of}
 use Rattle.script_semantics.specs.Names.{index_name}
 use Rattle.script_semantics.specs.Place.{Place, new_hand}
 use Rattle.script_semantics.specs.Requests.{refused_request}
-use Rattle.script_semantics.specs.StatementSteps.{Ended, IndexIsFull, Steps, StepsTo}
+use Rattle.script_semantics.specs.StatementSteps.{Ended, Steps, StepsTo}
 use Rattle.session_parts.specs.declared.hand.Hand.{Hand}
 use Rattle.session_parts.specs.declared.hand.Stepped.TheVariants as stepped
 use Rattle.session_parts.specs.declared.parts.Parts.{Parts}
@@ -57,6 +57,7 @@ use Rattle.session_parts.specs.StepAnswers.{StaysReady}
 use Rattle.session_parts.specs.Stepping.{IsFit}
 use Rattle.session_parts.specs.StoreStates.{ShownStore, hand_in, shown_of, store_of}
 use Rattle.session_parts.specs.UndoneLaws.{StepsSo}
+use Rattle.session_parts.proofs.FullRooms.{index_refuses}
 use Rattle.session_parts.proofs.Maintenance.{maintenance_refusal_is_shown}
 use Rattle.session_parts.proofs.Steps.{turn_is_refused}
 use Rattle.session_maintenance.proofs.SummariseLocks.{gives_own, gives_stay, gives_there}
@@ -140,7 +141,8 @@ module _ (old new : ShownStore) (n : ℕ) (own : Option Open) (hand : SummariseS
             (subst (λ (e : List Entry). StepsTo p n (new_hand statement) (Ended (replies.Refused (refusals.Full (index_name p.layout its_table its_at.0) number)))
             (place_after p n its_table None it.after (p.accounts n) (counts_of new.transactions shown.database.stored) e)) entries_are
             (turn_is_refused p n its_table (new_hand statement) it.after (p.accounts n) (counts_of new.transactions shown.database.stored) (IsFull (IndexNumber its_at.0) number) tags.Full
-            (refusals.Full (index_name p.layout its_table its_at.0) number) it.turns (it.refused ∙ told) (IndexIsFull its_at.0 number)));
+            (refusals.Full (index_name p.layout its_table its_at.0) number) it.turns (it.refused ∙ told)
+            (index_refuses old p its_table shown is.below n its_at.0 a.index number statement it.after (p.accounts n) its_at.1 it.turns (it.refused ∙ told) (by.puts a))));
         fits = subst (λ (e : List Entry). length e ≤ MAX_ENTRIES) (sym left.entries) left.few;
       },
     )

@@ -37,6 +37,7 @@ use Rattle.brin_insert.specs.AskedFor.{AreRequestsOf}
 use Rattle.script_semantics.specs.Beginnings.{Begins, IsIn, StandsAt, TakesUp}
 use Rattle.script_semantics.specs.Place.{Place, accounts_at}
 use Rattle.script_semantics.specs.Requests.{refused_request}
+use Rattle.script_semantics.specs.StatementSteps.{PutsTuples}
 use Rattle.session_parts.specs.declared.hand.Hand.{Hand}
 use Rattle.session_parts.specs.declared.hand.Hand.TheVariants as hands
 use Rattle.session_parts.specs.Hands.{block_of, statement_of}
@@ -159,6 +160,7 @@ pub record IsBySummarise (layout : DiskLayout) (own : Option Open) (hand : Summa
   pub right : (a : SummariseState) → right_held layout (Some (hand a)) ≡ right_at (index_at layout a.index).table a.standing
   pub share : (a : SummariseState) → hand_share (Some (hand a)) ≡ 0
   pub enters : (a : SummariseState) (n : ℕ) (tag : Tag) → refused_request n tag (statement_of (hand a)) ≡ []
+  pub puts : (a : SummariseState) → PutsTuples (statement_of (hand a))
   pub begins : (a : SummariseState) → IsHandFor layout own (hand a) → a.standing ≡ standings.Begins → (pages : PageMap) (locks : LockState) (blocks : List (List Slot)) (u : Unseen) (p : Place) (n at : ℕ) → p.layout ≡ layout
       → StandsAt layout a.index at → Begins p n (table_state (shown_by layout pages locks (index_at layout a.index).table blocks) u) (statement_of (hand a)) (first_task layout at (length blocks) a)
   pub on : (a : SummariseState) → IsHandFor layout own (hand a) → (index_at layout a.index).table < length layout.schema.tables → (p : Place) (n at : ℕ) → p.layout ≡ layout
@@ -186,6 +188,7 @@ by_summarise layout own = record {
   right = λ a. refl;
   share = λ a. refl;
   enters = λ a n tag. refl;
+  puts = λ a. tt;
   begins = λ a fit begins pages locks blocks u p n at same stands. begins_there layout pages locks blocks u p n at a same fit.2 stands;
   on = λ a fit below p n at same is. ap (λ (l : DiskLayout). (index_at l a.index).table) (sym same);
   takes = λ a fit at queue. takes_none (statements.Summarize a.index (block_of a.wish)) (task_of layout at a) queue queue (omega arith) (not_work a.index (block_of a.wish));

@@ -104,6 +104,7 @@ by_work layout own range = record {
   right = λ a. refl;
   share = λ a. refl;
   enters = λ a n tag. refl;
+  puts = λ a. tt;
   begins = λ a fit begins pages locks blocks u p n at same stands. absurd (range_not_begins (sym fit.at ∙ begins));
   on = λ a fit below p n at same is. inl (
     subst (λ (l : DiskLayout). (index_at layout a.index).table < length l.schema.tables) (sym same) below,

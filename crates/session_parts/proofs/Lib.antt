@@ -9,6 +9,8 @@ pub mod Steps
 pub mod Asks
 pub mod Fronts
 pub mod Places
+pub mod FullRooms
+mod AnsweredHands
 pub mod Refusals
 pub mod Undone
 pub mod Leads

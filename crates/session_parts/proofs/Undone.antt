@@ -1,5 +1,5 @@
 -- Steps that aren't done, and steps behind a call that changes no page.
-use Rattle.std.proofs.Common.{◌≡◌, ◌⊎◌, ℕ, ◌+◌, ◌≤◌, List, length, Option, None, Some, refl, sym, ap, ◌∙◌, subst, arith}
+use Rattle.std.proofs.Common.{◌≡◌, ◌⊎◌, ℕ, ◌+◌, ◌≤◌, ◌<◌, List, length, Option, None, Some, refl, sym, ap, ◌∙◌, subst, arith}
 use Rattle.std.proofs.lemmas.List.{set-get_or}
 use Rattle.std.proofs.lemmas.Option.{none-some}
 use Rattle.block_model.specs.Causes.{rose_earlier}
@@ -14,11 +14,13 @@ use Rattle.page_map.specs.Outcome.{Refused}
 use Rattle.page_map.specs.PageMap.{View}
 use Rattle.reply_texts.specs.declared.dropped.Dropped.{Dropped}
 use Rattle.store_layout.specs.declared.limits.TheConstants.{MAX_ENTRIES}
+use Rattle.store_layout.specs.declared.statement.Statement.{Statement}
 use Rattle.store_layout.specs.DiskLayout.{DiskLayout}
 use Rattle.snapshot_core.specs.declared.sessions.Open.{Open}
 use Rattle.snapshot_core.specs.StoredVersions.{transaction_of}
 use Rattle.transactions.specs.TransactionsState.{TransactionsState}
 use Rattle.tx_table.specs.TxState.{IsOver}
+use Rattle.script_semantics.specs.Place.{Place}
 use Rattle.session_parts.specs.declared.faults.StoreFault.{StoreFault}
 use Rattle.session_parts.specs.declared.faults.StoreFault.TheVariants as stops
 use Rattle.session_parts.specs.declared.hand.Hand.{Hand}
@@ -26,10 +28,11 @@ use Rattle.session_parts.specs.declared.hand.Stepped.{Stepped}
 use Rattle.session_parts.specs.declared.hand.Stepped.TheVariants as stepped
 use Rattle.session_parts.specs.declared.parts.Parts.{Parts}
 use Rattle.session_parts.specs.HandFits.{FitsHand, FitsStore, locks_held, right_held}
+use Rattle.session_parts.specs.Hands.{statement_of}
 use Rattle.session_parts.specs.JournalState.{JournalState}
 use Rattle.session_parts.specs.Shares.{share_of}
 use Rattle.session_parts.specs.ShowsPlace.{IsPlaceOf, ShowsPlace}
-use Rattle.session_parts.specs.StepAnswers.{HasCause, IsHolderOf, LeavesSessions, StaysAsItWas, StaysWhereUndone}
+use Rattle.session_parts.specs.StepAnswers.{HasCause, IsHolderOf, LeavesSessions, StaysAsItWas, StaysWhereUndone, most_entered}
 use Rattle.session_parts.specs.StepIs.{hand_after}
 use Rattle.session_parts.specs.Stepping.{IsFit, LeavesTheOthers}
 use Rattle.session_parts.specs.StoreFaults.{fault_of}
@@ -144,21 +147,30 @@ module _ {D : Type 0} (told : D → Told) where
   no_leaves : (view : View D) → Leaves told view view
   no_leaves view = record { layout = refl; tells = refl; faults = omega arith }
 
+  module _ (parts : Parts D) (n : ℕ) (hand : Hand) (fits : IsFit told parts n hand) where
+    kept_fit : (names : List (List ℕ)) (hands : List (Option Hand)) → hand_in hands n ≡ Some hand → FitsStore told (store_of parts names (with_hand hands n (Some hand))) n
+    kept_fit names hands is = fit_of_stores told parts n (Some hand) names (with_hand hands n (Some hand)) (fit_of_parts told parts n hand fits) (kept_hand hands n hand is)
+
+    kept_others : (fault : StoreFault) → LeavesTheOthers told parts parts n hand (stepped.Undone fault hand)
+    kept_others fault = refused_others parts parts n hand fits (fit_of_parts told parts n hand fits).over (no_leaves parts.pages)
+        (record { transactions = refl; locks = refl; rights = refl; journal = refl; queue = refl; dropped = refl }) fault
+
+    kept_shown : (names : List (List ℕ)) (hands : List (Option Hand)) (p : Place) → hand_in hands n ≡ Some hand → ShowsPlace (store_of parts names hands) p
+        → ShowsPlace (store_of parts names (with_hand hands n (Some hand))) p
+    kept_shown names hands p is shown = subst (λ (l : List (Option Hand)). ShowsPlace (store_of parts names l) p) (sym (same_hands hands n hand is)) shown
+
+    as_it_is : (names : List (List ℕ)) (hands now : List (Option Hand)) → StaysAsItWas told (store_of parts names hands) (store_of parts names now)
+    as_it_is names hands now =
+        record { pages = record { leaves = no_leaves parts.pages; pages = λ tells. refl }; transactions = refl; locks = refl; rights = refl; journal = refl; queue = refl; dropped = refl }
+
   pub spent_is_undone : SpentIsUndone told
-  spent_is_undone parts n hand entries fits ready is_length lacks =
-      let unchanged : SameBesidePages parts parts = record { transactions = refl; locks = refl; rights = refl; journal = refl; queue = refl; dropped = refl } in
-      let was : FitsParts told parts n (Some hand) = fit_of_parts told parts n hand fits in
-      record {
-        steps = λ names hands is tells before after p shown. (
-          p,
-          subst (λ (l : List (Option Hand)). ShowsPlace (store_of parts names l) p) (sym (same_hands hands n hand is)) shown,
-          (lacks names hands p is tells shown, is_length ∙ ap length (sym shown.journal), refl),
-        );
-        fit = λ names hands is. fit_of_stores told parts n (Some hand) names (with_hand hands n (Some hand)) was (kept_hand hands n hand is);
-        others = refused_others parts parts n hand fits was.over (no_leaves parts.pages) unchanged (stops.Spent entries);
-        stays = λ names hands is. (record { pages = record { leaves = no_leaves parts.pages; pages = λ tells. refl }; transactions = refl; locks = refl; rights = refl; journal = refl; queue = refl; dropped = refl }, refl);
-        cause = (ready, ready);
-      }
+  spent_is_undone parts n hand entries fits ready is_length full lacks = record {
+    steps = λ names hands is tells before after p shown. (p, kept_shown parts n hand fits names hands p is shown, (lacks names hands p is tells shown, is_length ∙ ap length (sym shown.journal), refl));
+    fit = kept_fit parts n hand fits;
+    others = kept_others parts n hand fits (stops.Spent entries);
+    stays = λ names hands is. (as_it_is parts n hand fits names hands (with_hand hands n (Some hand)), refl, is_length, full);
+    cause = (ready, ready);
+  }
 
   -- ---- behind a call that changes no page
 
@@ -187,11 +199,25 @@ module _ {D : Type 0} (told : D → Told) where
     cause_behind new (stepped.Undone (stops.Reopen faults) hand) cause = absurd (none-some _ (sym still_ready ∙ cause.0))
     cause_behind new (stepped.Undone (stops.Damaged at) hand) cause = (ready, cause.1, omega (arith, keeps.leaves.faults, cause.2), λ tells. cause.3 (keeps.leaves.tells ∙ tells))
 
+    as_it_was : (names : List (List ℕ)) (hands : List (Option Hand)) (new : StoreState D) → StaysAsItWas told (store_of mid names hands) new → StaysAsItWas told (store_of old names hands) new
+    as_it_was names hands new w = record {
+      pages = keeps_on told old.pages mid.pages new.pages keeps w.pages;
+      transactions = w.transactions ∙ same.transactions;
+      locks = w.locks ∙ same.locks;
+      rights = w.rights ∙ same.rights;
+      journal = w.journal ∙ ap (λ (j : JournalState). j.entries) same.journal;
+      queue = w.queue ∙ same.queue;
+      dropped = w.dropped ∙ same.dropped;
+    }
+
+    spent_too : (statement : Statement) → MAX_ENTRIES < length mid.journal.entries + most_entered statement → MAX_ENTRIES < length old.journal.entries + most_entered statement
+    spent_too statement full = subst (λ (j : JournalState). MAX_ENTRIES < length j.entries + most_entered statement) same.journal full
+
     stays_behind : (names : List (List ℕ)) (hands : List (Option Hand)) (new : StoreState D) (hand : Hand) (answer : Stepped)
         → StaysWhereUndone told (store_of mid names hands) new n hand answer → StaysWhereUndone told (store_of old names hands) new n hand answer
     stays_behind names hands new hand (stepped.Moved point next) stays = stays
     stays_behind names hands new hand (stepped.Done reply) stays = stays
-    stays_behind names hands new hand (stepped.Blocked what holder next) stays = (as_it_was stays.0, stays.1, holds_too stays.2)
+    stays_behind names hands new hand (stepped.Blocked what holder next) stays = (as_it_was names hands new stays.0, stays.1, holds_too stays.2)
       where
         holds_too : IsHolderOf (store_of mid names hands) n holder → IsHolderOf (store_of old names hands) n holder
         holds_too it = (
@@ -199,29 +225,8 @@ module _ {D : Type 0} (told : D → Told) where
           subst (λ (r : List (Option ℕ)). (1 ≤ locks_of old.locks holder) ⊎ ((table : ℕ) × (right_of r table ≡ Some holder))) same.rights
               (subst (λ (l : LockState). (1 ≤ locks_of l holder) ⊎ ((table : ℕ) × (right_of mid.rights table ≡ Some holder))) same.locks it.1),
         )
-
-        as_it_was : StaysAsItWas told (store_of mid names hands) new → StaysAsItWas told (store_of old names hands) new
-        as_it_was w = record {
-          pages = keeps_on told old.pages mid.pages new.pages keeps w.pages;
-          transactions = w.transactions ∙ same.transactions;
-          locks = w.locks ∙ same.locks;
-          rights = w.rights ∙ same.rights;
-          journal = w.journal ∙ ap (λ (j : JournalState). j.entries) same.journal;
-          queue = w.queue ∙ same.queue;
-          dropped = w.dropped ∙ same.dropped;
-        }
-    stays_behind names hands new hand (stepped.Undone (stops.Spent entries) next) stays = (as_it_was stays.0, stays.1)
-      where
-        as_it_was : StaysAsItWas told (store_of mid names hands) new → StaysAsItWas told (store_of old names hands) new
-        as_it_was w = record {
-          pages = keeps_on told old.pages mid.pages new.pages keeps w.pages;
-          transactions = w.transactions ∙ same.transactions;
-          locks = w.locks ∙ same.locks;
-          rights = w.rights ∙ same.rights;
-          journal = w.journal ∙ ap (λ (j : JournalState). j.entries) same.journal;
-          queue = w.queue ∙ same.queue;
-          dropped = w.dropped ∙ same.dropped;
-        }
+    stays_behind names hands new hand (stepped.Undone (stops.Spent entries) next) stays =
+        (as_it_was names hands new stays.0, stays.1, stays.2 ∙ ap (λ (j : JournalState). length j.entries) same.journal, spent_too (statement_of hand) stays.3)
     stays_behind names hands new hand (stepped.Undone stops.Disk next) stays = (stays.0 ∙ ap (λ (j : JournalState). j.entries) same.journal, stays.1)
     stays_behind names hands new hand (stepped.Undone (stops.Reopen faults) next) stays = (stays.0 ∙ ap (λ (j : JournalState). j.entries) same.journal, stays.1)
     stays_behind names hands new hand (stepped.Undone (stops.Damaged at) next) stays = (stays.0 ∙ ap (λ (j : JournalState). j.entries) same.journal, stays.1)

@@ -14,6 +14,7 @@ pub mod Leaving
 pub mod PlacesAfter
 pub mod TableLaws
 pub mod PlaceLaws
+pub mod AnswerLaws
 pub mod StepLaws
 pub mod RefusalLaws
 pub mod RequestLaws

@@ -1,6 +1,9 @@
 -- what every step of a statement leaves on any disk, and when each fault comes
-use Rattle.std.specs.Prelude.{◌≡◌, ◌≢◌, ◌⊎◌, ℕ, ◌+◌, ◌≤◌, None, Some}
+use Rattle.std.specs.Prelude.{◌≡◌, ◌≢◌, ◌⊎◌, ℕ, ◌+◌, ◌≤◌, ◌<◌, length, None, Some}
 use Rattle.disk_trait.specs.Told.{Told}
+use Rattle.store_layout.specs.declared.limits.TheConstants.{MAX_ENTRIES}
+use Rattle.store_layout.specs.declared.statement.Statement.{Statement}
+use Rattle.store_layout.specs.declared.statement.Statement.TheVariants as statements
 use Rattle.store_layout.specs.DiskLayout.{DiskLayout, IsPlace, page_offset}
 use Rattle.block_model.specs.declared.place.Place.{Place}
 use Rattle.page_locks.specs.LockCounts.{locks_of}
@@ -64,10 +67,21 @@ pub record StaysAsItWas {D : Type 0} (told : D → Told) (old new : StoreState D
 abbrev pub IsHolderOf : {D : Type 0} → StoreState D → (n m : ℕ) → Type 0
 IsHolderOf s n m = (m ≢ n) × ((1 ≤ locks_of s.locks m) ⊎ ((table : ℕ) × (right_of s.rights table ≡ Some m)))
 
--- where it waits for what another session holds, and where the journal lacks room, nothing changes; and where the step isn't done it enters nothing
+-- how many requests a step of the statement may enter: with its first mark a delete enters its look
+abbrev pub most_entered : Statement → ℕ
+most_entered (statements.Delete q) = 2
+most_entered statement = 1
+
+-- the journal has no room for what a step of the statement may enter
+abbrev pub IsSpentFor : {D : Type 0} → StoreState D → Statement → Type 0
+IsSpentFor s statement = MAX_ENTRIES < length s.journal.entries + most_entered statement
+
+-- Where it waits for what another session holds, and where the journal lacks room, nothing changes; and where the step isn't done it enters nothing. What is
+-- told then is so on any disk: another session that holds a lock, and how many entries a full journal has.
 abbrev pub StaysWhereUndone : {D : Type 0} → (D → Told) → (old new : StoreState D) → (n : ℕ) → Hand → Stepped → Type 0
 StaysWhereUndone told old new n was (stepped.Moved point hand) = statement_of hand ≡ statement_of was
 StaysWhereUndone told old new n was (stepped.Done reply) = Unit {0}
 StaysWhereUndone told old new n was (stepped.Blocked what holder hand) = StaysAsItWas told old new × (statement_of hand ≡ statement_of was) × IsHolderOf old n holder
-StaysWhereUndone told old new n was (stepped.Undone (stops.Spent entries) hand) = StaysAsItWas told old new × (statement_of hand ≡ statement_of was)
+StaysWhereUndone told old new n was (stepped.Undone (stops.Spent entries) hand) =
+    StaysAsItWas told old new × (statement_of hand ≡ statement_of was) × (entries ≡ length old.journal.entries) × IsSpentFor old (statement_of was)
 StaysWhereUndone told old new n was (stepped.Undone fault hand) = (new.journal.entries ≡ old.journal.entries) × (statement_of hand ≡ statement_of was)

@@ -1,5 +1,5 @@
 -- steps that aren't done, and steps behind a call that changes no page
-use Rattle.std.specs.Prelude.{◌≡◌, ℕ, ◌<◌, ◌≤◌, List, length, Option, None, Some}
+use Rattle.std.specs.Prelude.{◌+◌, ◌≡◌, ℕ, ◌<◌, ◌≤◌, List, length, Option, None, Some}
 use Rattle.disk_trait.specs.Told.{Told}
 use Rattle.store_layout.specs.declared.limits.TheConstants.{MAX_ENTRIES, MAX_SESSIONS}
 use Rattle.page_locks.specs.LockCounts.{locks_of}
@@ -10,7 +10,7 @@ use Rattle.page_map.specs.Outcome.{Refused}
 use Rattle.snapshot_core.specs.StoredVersions.{transaction_of}
 use Rattle.tx_table.specs.TxState.{IsOver}
 use Rattle.script_semantics.specs.Place.{Place}
-use Rattle.script_semantics.specs.StatementSteps.{LacksRoom}
+use Rattle.script_semantics.specs.StatementSteps.{IsPastRoom}
 use Rattle.session_parts.specs.declared.faults.StoreFault.TheVariants as stops
 use Rattle.session_parts.specs.declared.hand.Hand.{Hand}
 use Rattle.session_parts.specs.declared.hand.Stepped.{Stepped}
@@ -20,7 +20,8 @@ use Rattle.session_parts.specs.declared.parts.Parts.{Parts}
 use Rattle.session_parts.specs.HandFits.{FitsHand, FitsStore, locks_held, right_held}
 use Rattle.session_parts.specs.Shares.{share_of}
 use Rattle.session_parts.specs.ShowsPlace.{ShowsPlace}
-use Rattle.session_parts.specs.StepAnswers.{HasCause}
+use Rattle.session_parts.specs.Hands.{statement_of}
+use Rattle.session_parts.specs.StepAnswers.{HasCause, most_entered}
 use Rattle.session_parts.specs.Stepping.{IsFit, LeavesTheOthers, MakesItsStep, StaysFit, StaysUndone}
 use Rattle.session_parts.specs.StoreFaults.{fault_of}
 use Rattle.session_parts.specs.StoreStates.{hand_in, store_of}
@@ -70,7 +71,8 @@ RefusedIsUndone {D} told = (old new : Parts D) (n : ℕ) (hand : Hand) (error : 
 -- the journal lacks room for its requests
 abbrev pub SpentIsUndone : {D : Type 0} → (D → Told) → Type 0
 SpentIsUndone {D} told = (parts : Parts D) (n : ℕ) (hand : Hand) (entries : ℕ) → IsFit told parts n hand → parts.pages.failed ≡ None → entries ≡ length parts.journal.entries
-    → ((names : List (List ℕ)) (hands : List (Option Hand)) (p : Place) → hand_in hands n ≡ Some hand → Tells told parts.pages → ShowsPlace (store_of parts names hands) p → LacksRoom p n)
+    → MAX_ENTRIES < length parts.journal.entries + most_entered (statement_of hand)
+    → ((names : List (List ℕ)) (hands : List (Option Hand)) (p : Place) → hand_in hands n ≡ Some hand → Tells told parts.pages → ShowsPlace (store_of parts names hands) p → IsPastRoom p n)
     → StepsSo told parts parts n hand (stepped.Undone (stops.Spent entries) hand)
 
 -- what is fit or shown stays so behind a call that changes no page, and the step may be made then

@@ -10,6 +10,7 @@ mod dropped_requests;
 mod faults;
 mod hand;
 mod journal;
+mod laws_answers;
 mod laws_leads;
 mod laws_opening;
 mod laws_places;
@@ -32,6 +33,7 @@ pub use dropped_requests::DroppedRequests;
 pub use faults::{Step, StoreFault, fault_of};
 pub use hand::{Cleaning, Completing, Hand, Hit, Marking, Requested, Stepped};
 pub use journal::Journal;
+pub use laws_answers::answers_are_in_place;
 pub use laws_leads::{
     a_request_leads, a_scan_saw_its_rows, few_rows_come_to_count, others_see_on, transactions_go_on,
 };

@@ -36,11 +36,11 @@ begins_later (stages.Map at range) shown u beside begun = tt
 begins_later (stages.Tuple at range spot) shown u beside begun = tt
 begins_later stages.Judged shown u beside begun = tt
 
-scans_rest : {scan : TableScan} → Scans scan ≡ Resting → ⊥
+pub scans_rest : {scan : TableScan} → Scans scan ≡ Resting → ⊥
 scans_rest is = cc
 
 -- a scan whose session was at nothing has begun
-has_begun : (s : ℕ) (w v : TableState) (scan : TableScan) → ScanComes s w v scan → w.task s ≡ Resting → ScanBegins w scan
+pub has_begun : (s : ℕ) (w v : TableState) (scan : TableScan) → ScanComes s w v scan → w.task s ≡ Resting → ScanBegins w scan
 has_begun s w v _ (ScanBegan scan begins only) rests = begins
 has_begun s w v _ (ScanJudged old new was inside step only) rests = absurd (scans_rest (sym was ∙ rests))
 has_begun s w v _ (ScanRead scan next found was reads only) rests = absurd (scans_rest (sym was ∙ rests))
@@ -57,7 +57,7 @@ module _ (n : ℕ) (shown : ShownTable) (u : Unseen) (busy : u.task n ≢ Restin
       goes.does.does ends.does.does goes.does.point_is ends.does.point_is).1
       ∙ pick_same n (Scans ends.done) (u.task n)
 
-  pub not_both : ScanHasStep (table_state shown u) one → IsScanRead (table_state shown u) two → two.deletes ≡ false → ⊥
+  not_both : ScanHasStep (table_state shown u) one → IsScanRead (table_state shown u) two → two.deletes ≡ false → ⊥
   not_both left read selects =
       let v : TableState = table_state shown (task_turned n (Scans goes.done) u) in
       let to_step : Onward v (Scans goes.done) (Scans one) = goes.onward (Scans one) (Stays (Scans one) left) in
@@ -67,8 +67,7 @@ module _ (n : ℕ) (shown : ShownTable) (u : Unseen) (busy : u.task n ≢ Restin
 
 -- ---- with its first step
 
-module _ (n : ℕ) (shown : ShownTable) (u : Unseen) (rests : u.task n ≡ Resting) (account more : Account → Account) (point other : Point) (one two : TableScan)
-    (goes : ScanGoes n shown u point account one) (ends : ScanGoes n shown u other more two) where
+module _ (n : ℕ) (shown : ShownTable) (u : Unseen) (rests : u.task n ≡ Resting) (point : Point) (one : TableScan) (account : Account → Account) (goes : ScanGoes n shown u point account one) where
   abbrev here : TableState
   here = table_state shown u
 
@@ -76,17 +75,13 @@ module _ (n : ℕ) (shown : ShownTable) (u : Unseen) (rests : u.task n ≡ Resti
   begun = has_begun n here (table_state shown (task_turned n (Scans goes.done) u)) goes.done
       (scan_comes n here (table_state shown (task_turned n (Scans goes.done) u)) goes.does.does goes.done (pick_same n (Scans goes.done) (u.task n))) rests
 
-  begun_too : ScanBegins here ends.done
-  begun_too = has_begun n here (table_state shown (task_turned n (Scans ends.done) u)) ends.done
-      (scan_comes n here (table_state shown (task_turned n (Scans ends.done) u)) ends.does.does ends.done (pick_same n (Scans ends.done) (u.task n))) rests
-
   -- where there is a block the scan has to read one
-  no_block : IsScanRead here two → two.explains ≡ false → 0 < here.blocks → ⊥
+  pub no_block : IsScanRead here one → one.explains ≡ false → 0 < here.blocks → ⊥
   no_block read reads some = elim read.1 [
     | inl explains ↦ false≢true (sym reads ∙ explains)
     | inr all ↦
-        let below : 0 < two.read = all 0 (ap (λ (x : TableScan). x.candidate 0) ends.same ∙ (begun_too.candidate 0).1 some) in
-        let unread : two.read ≡ 0 = ap (λ (x : TableScan). x.read) ends.same ∙ begun_too.read in
+        let below : 0 < one.read = all 0 (ap (λ (x : TableScan). x.candidate 0) goes.same ∙ (begun.candidate 0).1 some) in
+        let unread : one.read ≡ 0 = ap (λ (x : TableScan). x.read) goes.same ∙ begun.read in
         absurd (omega (arith, below, unread))
   ]
 
@@ -105,8 +100,10 @@ module _ (n : ℕ) (shown : ShownTable) (u : Unseen) (rests : u.task n ≡ Resti
       ends_extent : one ≡ record goes.done { at = one.at; range = one.range }
       ends_extent = goes.same
 
-  pub not_both_first : ScanHasStep here one → IsScanRead here two → two.explains ≡ false → ⊥
-  not_both_first left read reads = no_block read reads (some_block left)
+not_both_first : (n : ℕ) (shown : ShownTable) (u : Unseen) → u.task n ≡ Resting → (account more : Account → Account) (point other : Point) (one two : TableScan) → ScanGoes n shown u point account one
+    → ScanGoes n shown u other more two → ScanHasStep (table_state shown u) one → IsScanRead (table_state shown u) two → two.explains ≡ false → ⊥
+not_both_first n shown u rests account more point other one two goes ends left read reads =
+    no_block n shown u rests other two more ends read reads (some_block n shown u rests point one account goes left)
 
 -- ---- so it is of the session's scan
 

@@ -86,7 +86,7 @@ module _ {D : Type 0} (told : D → Told) (laws : LookLaws) (parts : Parts D) (p
       (scan_share before.judging.stage) parts.journal.promised (share_is looking before before.judging.stage) (promised_is before.judging.stage parts.journal.promised may.promised) refuses.promised)
   finished_so answer new (BeginsAnew full answer_is releases) =
       as_told answer (stepped.Undone (stops.Spent (length parts.journal.entries)) (first_hand_of looking after.judging.query)) new (record mid { journal = new.journal }) answer_is releases.rest
-      (anew_so told laws old pages n looking before may.fit may.find may.fresh o opened keeps new.journal releases.entries after point made (ahead full) (length parts.journal.entries)
+      (anew_so told laws old pages n looking before may.fit may.find may.fresh o opened keeps new.journal releases.entries after point made (ahead full) full
       (promised_then (Some (first_hand_of looking after.judging.query)) new.journal (omega (arith, releases.promised, first_shares looking after.judging.query))))
 
 -- and no page is changed

@@ -40,7 +40,7 @@ use Rattle.session_scans.specs.Looks.{hand_before, scan_hand_of}
 use Rattle.session_scans.specs.ScanSteps.{MayScan, ScanStepsSo, parts_before}
 use Rattle.session_scans.proofs.Frames.{promised_on}
 use Rattle.session_scans.proofs.Mays.{behind, may_still}
-use Rattle.session_scans.proofs.Short.{its_open, short_spent}
+use Rattle.session_scans.proofs.Short.{its_open, last_spent}
 use Rattle.session_scans.proofs.Standing.{LooksThere, scans_at}
 use Rattle.session_scans.proofs.Steps.{DidScan, NotDamaged, moved_so, there, undone_so}
 use Rattle.session_scans.proofs.Words.{promised_is, scan_share, scan_shares, share_is}
@@ -125,6 +125,14 @@ module _ {D : Type 0} (told : D → Told) (laws : LookLaws) (parts : Parts D) (n
         (promised_on (transaction_of parts.transactions.opens n) (Some was) (Some (scan_hand_of looking after)) parts.journal.promised old.journal.promised parts.journal.promised (scan_share scan.judging.stage)
         (share_is looking scan scan.judging.stage) (promised_is scan.judging.stage parts.journal.promised may.promised) (ap (λ (k : ℕ). parts.journal.promised + k) (sym (scan_shares looking after)))))
 
+    -- what the look found of its next step
+    pub next_then : (after : FindHand) → after ≡ scan → (does : Point → Did) → (Tells told parts.pages → NextIs parts.pages.layout parts.pages.pages scan does) → Tells told pages → NextIs pages.layout pages.pages after does
+    next_then after same does goes tells_then =
+        let tells : Tells told parts.pages = sym keeps.leaves.tells ∙ tells_then in
+        subst (λ (x : FindHand). NextIs pages.layout pages.pages x does) (sym same)
+        (subst (λ (l : DiskLayout). NextIs l pages.pages scan does) (sym keeps.leaves.layout)
+        (subst (λ (m : PageMap). NextIs parts.pages.layout m scan does) (sym (keeps.pages tells)) (goes tells)))
+
     -- ---- it isn't made
 
     module _ (after : FindHand) (same : after ≡ scan) (new : Parts D) (answer : Stepped) (fault : StoreFault) (answer_is : answer ≡ stepped.Undone fault (hand_before looking after after.judging.stage))
@@ -146,24 +154,19 @@ module _ {D : Type 0} (told : D → Told) (laws : LookLaws) (parts : Parts D) (n
           (undone_so told laws old pages n looking scan may.fit may.find may.fresh its.0 its.1 keeps law may.shown known error refused)
 
       -- the journal lacks room for what it may enter
-      pub spent_there : MAX_ENTRIES < length parts.journal.entries + 1 → pages.failed ≡ None → fault ≡ stops.Spent (length parts.journal.entries) → ScanStepsSo told parts new n looking scan answer
-      spent_there full still is =
+      pub spent_there : MAX_ENTRIES < length parts.journal.entries + 1 → pages.failed ≡ None → (Tells told parts.pages → NextIs parts.pages.layout parts.pages.pages scan did.Finished)
+          → fault ≡ stops.Spent (length parts.journal.entries) → ScanStepsSo told parts new n looking scan answer
+      spent_there full still last is =
           let its_may = may_still told parts pages n looking scan keeps ready may in
           behind told parts pages n looking scan keeps ready still new answer
-          (short_spent told laws (parts_before scan.judging.stage mid) n looking scan its_may.fit its_may.find its_may.fresh still full new answer (undone_is (stops.Spent (length parts.journal.entries)) is) parts_are)
+          (last_spent told laws (parts_before scan.judging.stage mid) n looking scan its_may.fit its_may.find its_may.fresh still full new answer (undone_is (stops.Spent (length parts.journal.entries)) is) parts_are
+          (next_then scan refl did.Finished last))
 
     -- ---- another call makes it
 
     module _ (after : FindHand) (same : after ≡ scan) where
       pub may_then : MayScan told mid n looking after
       may_then = subst (λ (x : FindHand). MayScan told mid n looking x) (sym same) (may_still told parts pages n looking scan keeps ready may)
-
-      pub ahead_then : (Tells told parts.pages → NextIs parts.pages.layout parts.pages.pages scan did.Moved) → Tells told pages → NextIs pages.layout pages.pages after did.Moved
-      ahead_then goes tells_then =
-          let tells : Tells told parts.pages = sym keeps.leaves.tells ∙ tells_then in
-          subst (λ (x : FindHand). NextIs pages.layout pages.pages x did.Moved) (sym same)
-          (subst (λ (l : DiskLayout). NextIs l pages.pages scan did.Moved) (sym keeps.leaves.layout)
-          (subst (λ (m : PageMap). NextIs parts.pages.layout m scan did.Moved) (sym (keeps.pages tells)) (goes tells)))
 
       pub made_behind : pages.failed ≡ None → (new : Parts D) (answer : Stepped) → ScanStepsSo told mid new n looking after answer → ScanStepsSo told parts new n looking scan answer
       made_behind still new answer so = behind told parts pages n looking scan keeps ready still new answer (subst (λ (x : FindHand). ScanStepsSo told mid new n looking x answer) same so)

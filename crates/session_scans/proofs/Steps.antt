@@ -1,5 +1,5 @@
 -- what a step of a scan promises, by what its calls ensure
-use Rattle.std.proofs.Common.{◌≡◌, ◌≢◌, ℕ, ◌+◌, ◌<◌, ◌≤◌, false, List, [], ◌∷◌, ◌++◌, length, length-append, Option, None, Some, All, refl, sym, ap, ◌∙◌, subst, arith}
+use Rattle.std.proofs.Common.{◌≡◌, ◌≢◌, inl, inr, ℕ, ◌+◌, ◌<◌, ◌≤◌, false, List, [], ◌∷◌, ◌++◌, length, length-append, Option, None, Some, All, refl, sym, ap, ◌∙◌, subst, arith}
 use Rattle.disk_trait.specs.Told.{Told}
 use Rattle.block_model.specs.declared.reply.Point.{Point}
 use Rattle.block_model.specs.declared.reply.Refusal.TheVariants as refusals
@@ -20,6 +20,7 @@ use Rattle.page_map.specs.PageMap.{PageMap, View}
 use Rattle.heap_rows.specs.HeapBlocks.{OfBlocks}
 use Rattle.index_steps.specs.ShownRows.{shown_by}
 use Rattle.store_layout.specs.declared.limits.TheConstants.{MAX_ENTRIES}
+use Rattle.store_layout.specs.declared.statement.Statement.{Statement}
 use Rattle.store_layout.specs.StatementRequests.{look_entry}
 use Rattle.store_layout.specs.DiskLayout.{DiskLayout}
 use Rattle.snapshot_core.specs.declared.sessions.Open.{Open}
@@ -45,10 +46,12 @@ use Rattle.session_parts.specs.declared.hand.Stepped.{Stepped}
 use Rattle.session_parts.specs.declared.hand.Stepped.TheVariants as stepped
 use Rattle.session_parts.specs.declared.parts.Parts.{Parts}
 use Rattle.session_parts.specs.HandFits.{FitsHand, locks_held}
+use Rattle.session_parts.specs.Hands.{statement_of}
 use Rattle.session_parts.specs.JournalState.{JournalState}
 use Rattle.session_parts.specs.Leaving.{LeavesOthers}
 use Rattle.session_parts.specs.Shares.{hand_share, share_of}
 use Rattle.session_parts.specs.ShowsPlace.{IsPlaceOf}
+use Rattle.session_parts.specs.StepAnswers.{most_entered}
 use Rattle.session_parts.specs.Stepping.{IsFit, IsShown}
 use Rattle.session_parts.specs.StoreFaults.{fault_of}
 use Rattle.session_parts.specs.StoreStates.{ShownStore, hand_in, shown_of, store_of, with_hand}
@@ -62,16 +65,17 @@ use Rattle.session_scans.specs.LookLaws.{LookLaws}
 use Rattle.session_scans.specs.Looks.{deletes_of, first_hand_of, hand_before, scan_hand_of, statement_for}
 use Rattle.session_scans.specs.ScanSteps.{IsFresh}
 use Rattle.session_scans.proofs.Ahead.{not_the_last}
+use Rattle.session_scans.proofs.Last.{lacks_room}
 use Rattle.session_scans.proofs.Frames.{LeavesParts, failed_apart, failed_here, leaves_others, over_still, promised_failed, stays_fit, under_way}
 use Rattle.session_scans.proofs.GoesOn.{scan_goes_on}
 use Rattle.session_scans.proofs.Stepped.{MakesStep}
 use Rattle.session_scans.proofs.Led.{ScanLeft}
-use Rattle.session_scans.proofs.Refusals.{lacks_room, refused_entry}
+use Rattle.session_scans.proofs.Refusals.{lacks_both, refused_entry}
 use Rattle.session_scans.proofs.Refused.{RefusedLeft, scan_refused}
 use Rattle.session_scans.proofs.Standing.{LooksThere, kept, scans_at, shows, sight}
 use Rattle.session_scans.proofs.Stands.{IsThere, all_stand}
 use Rattle.session_scans.proofs.Tells.{scan_tells}
-use Rattle.session_scans.proofs.Words.{FitsLook, first_holds, first_statement, fits_first, fits_look, fits_scan, holds_none, scan_holds, scan_statement, statement_is, holds_no_right}
+use Rattle.session_scans.proofs.Words.{FitsLook, first_holds, first_statement, fits_first, fits_look, fits_scan, full_for, holds_none, scan_holds, scan_statement, statement_is, holds_no_right}
 
 -- in a table that is kept a scan finds no damage
 abbrev pub NotDamaged : Type 0
@@ -165,6 +169,10 @@ module _ {D : Type 0} (told : D → Told) (laws : LookLaws) (old : Parts D) (pag
     opens = λ m apart. refl;
   }
 
+  -- a full journal has no room for what it may enter
+  full_then : MAX_ENTRIES < length old.journal.entries + 1 → MAX_ENTRIES < length old.journal.entries + most_entered (statement_of was)
+  full_then full = subst (λ (s : Statement). MAX_ENTRIES < length old.journal.entries + most_entered s) (sym (statement_is looking before stage)) (full_for looking query (length old.journal.entries) full)
+
   -- ---- it goes on
 
   module _ (j : JournalState) (same_entries : j.entries ≡ old.journal.entries) where
@@ -190,22 +198,25 @@ module _ {D : Type 0} (told : D → Told) (laws : LookLaws) (old : Parts D) (pag
       }
 
     -- at a full journal it isn't the last one; where the disk tells nothing it may begin anew
-    module _ (after : FindHand) (point : Point) (made : DidScan told old pages o before after (did.Finished point)) (ahead : Tells told old.pages → NextIs old.pages.layout old.pages.pages before did.Moved) (entries : ℕ)
+    module _ (after : FindHand) (point : Point) (made : DidScan told old pages o before after (did.Finished point)) (ahead : Tells told old.pages → NextIs old.pages.layout old.pages.pages before did.Moved)
+        (full : MAX_ENTRIES < length old.journal.entries + 1)
         (promised : j.promised + share_of (Some was) (transaction_of old.transactions.opens n) ≡ old.journal.promised + share_of (Some (first_hand_of looking after.judging.query)) (transaction_of old.transactions.opens n)) where
       anew_left : LeavesParts told old (then j) n was (Some (first_hand_of looking after.judging.query))
       anew_left = left_parts j (Some (first_hand_of looking after.judging.query))
           (fits_first old.pages.layout (transaction_of old.transactions.opens n) looking after.judging.query (look.0, made.find.judging.table))
           (first_holds looking after.judging.query) few promised
 
-      pub anew_so : StepsSo told old (then j) n was (stepped.Undone (stops.Spent entries) (first_hand_of looking after.judging.query))
+      pub anew_so : StepsSo told old (then j) n was (stepped.Undone (stops.Spent (length old.journal.entries)) (first_hand_of looking after.judging.query))
       anew_so = record {
         steps = λ names hands_ is tells first last p shown.
             absurd (not_the_last laws (store names hands_ is) n looking before after o (there names hands_ is) p shown (ahead tells) point (steps_there names hands_ is tells p shown after (did.Finished point) made));
-        fit = stays_fit told old (then j) n was (Some (first_hand_of looking after.judging.query)) anew_left (stepped.Undone (stops.Spent entries) (first_hand_of looking after.judging.query)) refl;
-        others = leaves_others told old (then j) n was (Some (first_hand_of looking after.judging.query)) anew_left (stepped.Undone (stops.Spent entries) (first_hand_of looking after.judging.query)) refl;
+        fit = stays_fit told old (then j) n was (Some (first_hand_of looking after.judging.query)) anew_left (stepped.Undone (stops.Spent (length old.journal.entries)) (first_hand_of looking after.judging.query)) refl;
+        others = leaves_others told old (then j) n was (Some (first_hand_of looking after.judging.query)) anew_left (stepped.Undone (stops.Spent (length old.journal.entries)) (first_hand_of looking after.judging.query)) refl;
         stays = λ names hands_ is. (
           record { pages = keeps; transactions = refl; locks = refl; rights = refl; journal = same_entries; queue = refl; dropped = refl },
           first_statement looking after.judging.query ∙ ap (statement_for looking) made.same ∙ sym (statement_is looking before stage),
+          refl,
+          full_then full,
         );
         cause = (made.ready, made.still);
       }
@@ -301,9 +312,15 @@ module _ {D : Type 0} (told : D → Told) (laws : LookLaws) (old : Parts D) (pag
 
   -- ---- the journal lacks room
 
-  pub spent_so : old.pages.failed ≡ None → MAX_ENTRIES < length old.journal.entries + 1 → StepsSo told old old n was (stepped.Undone (stops.Spent (length old.journal.entries)) was)
-  spent_so ready full = spent_is_undone told old n was (length old.journal.entries) fit ready refl
-      (λ names hands_ p is tells shown. lacks_room laws (store names hands_ is) n looking before o (there names hands_ is) p shown full)
+  module _ (ready : old.pages.failed ≡ None) (full : MAX_ENTRIES < length old.journal.entries + 1) where
+    pub spent_so : (Tells told old.pages → NextIs old.pages.layout old.pages.pages before did.Finished) → StepsSo told old old n was (stepped.Undone (stops.Spent (length old.journal.entries)) was)
+    spent_so last = spent_is_undone told old n was (length old.journal.entries) fit ready refl (full_then full)
+        (λ names hands_ p is tells shown. inl (lacks_room laws (store names hands_ is) n looking before o (there names hands_ is) p shown (last tells) full))
+
+    -- memory is short for it
+    pub short_so : StepsSo told old old n was (stepped.Undone (stops.Spent (length old.journal.entries)) was)
+    short_so = spent_is_undone told old n was (length old.journal.entries) fit ready refl (full_then full)
+        (λ names hands_ p is tells shown. inr (lacks_both laws (store names hands_ is) n looking before o (there names hands_ is) p shown full))
 
   -- ---- the pages refuse it
 

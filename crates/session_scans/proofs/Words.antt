@@ -5,6 +5,7 @@ use Rattle.block_model.specs.declared.request.Request.TheVariants as requests
 use Rattle.block_model.specs.declared.request.Tag.{Tag}
 use Rattle.block_model.specs.declared.row.Query.{Query}
 use Rattle.block_model.specs.DatabaseState.{OpenTransaction}
+use Rattle.store_layout.specs.declared.limits.TheConstants.{MAX_ENTRIES}
 use Rattle.store_layout.specs.DiskLayout.{DiskLayout}
 use Rattle.store_layout.specs.declared.statement.Statement.TheVariants as statements
 use Rattle.store_layout.specs.StatementRequests.{look_entry, tagged_entry}
@@ -24,6 +25,7 @@ use Rattle.session_parts.specs.Hands.{HandShows, statement_of}
 use Rattle.session_parts.specs.HandsInTables.{table_in}
 use Rattle.session_parts.specs.Shares.{hand_share}
 use Rattle.session_parts.specs.ShowsPlace.{IsOfTransaction}
+use Rattle.session_parts.specs.StepAnswers.{most_entered}
 use Rattle.session_scans.specs.declared.looking.Looking.{Looking}
 use Rattle.session_scans.specs.declared.looking.Looking.TheVariants as lookings
 use Rattle.session_scans.specs.Looks.{first_hand_of, hand_before, scan_hand_of, statement_for}
@@ -62,6 +64,10 @@ scan_statement lookings.Delete scan = refl
 pub statement_is : (looking : Looking) (scan : FindHand) (stage : Stage) → statement_of (hand_before looking scan stage) ≡ statement_for looking scan.judging.query
 statement_is looking scan stage =
     by_stage (λ (h : Hand). statement_of h ≡ statement_for looking scan.judging.query) looking scan (first_statement looking scan.judging.query) (scan_statement looking scan) stage
+
+pub full_for : (looking : Looking) (query : Query) (long : ℕ) → MAX_ENTRIES < long + 1 → MAX_ENTRIES < long + most_entered (statement_for looking query)
+full_for lookings.Select query long full = full
+full_for lookings.Delete query long full = omega (arith, full)
 
 pub not_work : (looking : Looking) (query : Query) → statement_for looking query ≢ statements.Work
 not_work lookings.Select query is = cc

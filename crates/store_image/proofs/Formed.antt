@@ -1,5 +1,5 @@
 -- Bytes of a tuple of an index, and what the protocol of coverage sees in them.
-use Rattle.std.proofs.Common.{◌≡◌, ℕ, ◌^◌, List, length, sym, ap, subst, ◌∙◌, arith}
+use Rattle.std.proofs.Common.{◌≡◌, ℕ, ◌<◌, ◌^◌, List, length, sym, ap, subst, ◌∙◌, arith}
 use Rattle.block_model.specs.TupleSize.{tuple_size}
 use Rattle.page_layout.specs.Fields.{field_at, number_of}
 use Rattle.range_tuple.specs.SoundTuples.{AreSoundTuples, IsTupleSpelt}

@@ -1,16 +1,17 @@
 -- The pages of an index in order, as the protocol of coverage sees them.
 use Rattle.std.proofs.Common.{◌≡◌, ◌≢◌, inl, inr, ℕ, zero, suc, ◌+◌, ◌<◌, ◌≤◌, Bool, true, false, List, [], None, Some, refl, sym, ap, ◌∙◌, arith}
-use Rattle.std.specs.Prelude.{◌⊎◌, drop, slice_index, slice_index_or, if◌then◌else◌}
+use Rattle.std.specs.Prelude.{◌⊎◌, drop, slice_index, slice_index_or, if◌then◌else◌, ◌==◌}
 use Rattle.std.proofs.lemmas.Bool.{cases_eq, cases_lt, eqb-true, lt-leb, or_cases}
 use Rattle.std.proofs.lemmas.Option.{none-some}
 use Rattle.block_model.specs.declared.place.Spot.{Spot}
-use Rattle.index_contents.specs.TheConstants.{EVACUATED, REGULAR}
+use Rattle.index_contents.specs.TheConstants.{EVACUATED, MAP, REGULAR, UNSTARTED}
 use Rattle.index_contents.specs.IndexReading.{is_regular, map_pages_of, number_at, slots_in, slots_of}
 use Rattle.recovery.specs.PageOrder.{IsIndexInOrder, IsOfTuples, kind_of, map_pages}
-use Rattle.coverage.specs.IndexView.{Emptying, Mapping, Unstarted, map_page_of, next_map_page}
+use Rattle.coverage.specs.IndexView.{Emptying, Mapping, PageKind, Regular, Unstarted, map_page_of, next_map_page}
 use Rattle.coverage.specs.PageOrder.{IsForTuples}
 use Rattle.index_contents.specs.IndexContents.{IndexContents, contents_in, entry_on, kind_at, map_kind, tuple_on}
 use Rattle.index_contents.specs.Kinds.{is_map_page, is_unstarted_page, regular_page, unstarted_page_kind}
+use Rattle.index_contents.specs.Reading.{map_byte}
 use Rattle.index_steps.proofs.Ordered.{count_read}
 
 -- the order of an index's pages, with its tuples and entries where they belong
@@ -37,13 +38,21 @@ has_tuples page slot bytes there = go (is_regular (kind_of page)) refl
     go false other = absurd (none-some bytes (sym (no_tuple_on page (kind_of page) slot refl other) ∙ there))
     go true is = elim (or_cases _ _ is) [ inl regular ↦ inl (eqb-true (kind_of page) REGULAR regular) | inr emptying ↦ inr (eqb-true (kind_of page) EVACUATED emptying) ]
 
+-- a page behind the metapage
+later : (block : ℕ) → map_kind (suc block) ≡ MAP
+later block = let next : suc block ≡ block + 1 = omega arith in ap map_kind next ∙ map_byte block
+
+-- the kind that a byte says, by that of the map's pages there
+abbrev kind_by : ℕ → ℕ → PageKind
+kind_by map kind = if kind == REGULAR then Regular else (if kind == UNSTARTED then Unstarted else (if kind == map then Mapping else Emptying))
+
 emptying_kind : (block kind : ℕ) → kind ≡ EVACUATED → kind_at block kind ≡ Emptying
 emptying_kind zero kind is = ap (kind_at zero) is
-emptying_kind (suc block) kind is = ap (kind_at (suc block)) is
+emptying_kind (suc block) kind is = ap (kind_at (suc block)) is ∙ ap (λ (map : ℕ). kind_by map EVACUATED) (later block)
 
 mapping_kind : (block kind : ℕ) → kind ≡ map_kind block → kind_at block kind ≡ Mapping
 mapping_kind zero kind is = ap (kind_at zero) is
-mapping_kind (suc block) kind is = ap (kind_at (suc block)) is
+mapping_kind (suc block) kind is = ap (kind_at (suc block)) (is ∙ later block) ∙ ap (λ (map : ℕ). kind_by map MAP) (later block)
 
 no_map : (page : List ℕ) → IsOfTuples page → kind_of page ≡ 4 → ⊥
 no_map page (inl five) is = omega (arith, sym five ∙ is)
@@ -56,12 +65,12 @@ module _ (limit : ℕ) (page : ℕ → List ℕ) (order : IsIndexInOrder limit p
 
   of_map : (p : ℕ) → p ≤ map_pages_of (page 0) → kind_at p (kind_of (page p)) ≡ Mapping
   of_map zero within = mapping_kind zero (kind_of (page zero)) order.metapage
-  of_map (suc p) within = mapping_kind (suc p) (kind_of (page (suc p))) (order.maps (suc p) (omega arith) (omega (arith, within, maps)))
+  of_map (suc p) within = mapping_kind (suc p) (kind_of (page (suc p))) (order.maps (suc p) (omega arith) (omega (arith, within, maps)) ∙ sym (later p))
 
   map_behind : (p : ℕ) → kind_at p (kind_of (page p)) ≡ Mapping → p ≤ map_pages_of (page 0) + 1
   map_behind zero is = omega arith
   map_behind (suc p) is =
-      let four : kind_of (page (suc p)) ≡ 4 = is_map_page (suc p) (kind_of (page (suc p))) is in
+      let four : kind_of (page (suc p)) ≡ 4 = is_map_page (suc p) (kind_of (page (suc p))) is ∙ later p in
       elim (cases_lt (map_pages_of (page 0) + 1) (suc p)) [
         | inl behind ↦ elim (cases_lt (suc p) limit) [
           | inl low ↦ absurd (no_map (page (suc p)) (order.others (suc p) (omega (arith, behind, maps)) low) four)

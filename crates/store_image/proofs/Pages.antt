@@ -1,5 +1,5 @@
 -- What pages have that pass their checks and stand in order: statuses with a next number, and the blocks of each table.
-use Rattle.std.proofs.Common.{◌≡◌, ◌≢◌, inl, inr, ℕ, zero, suc, ◌-◌, ◌<◌, ◌≤◌, List, [], length, map, refl, sym, ap, subst, ◌∙◌, arith}
+use Rattle.std.proofs.Common.{◌≡◌, ◌≢◌, inl, inr, ℕ, zero, suc, ◌-◌, ◌<◌, ◌≤◌, List, [], map, refl, sym, ap, subst, ◌∙◌, arith}
 use Rattle.std.specs.List.{range_with_len}
 use Rattle.std.proofs.lemmas.Bool.{cases_eq}
 use Rattle.std.proofs.lemmas.List.FromFn.{get_or-map-range_with_len, length-map-range_with_len}
@@ -48,7 +48,8 @@ module _ (layout : DiskLayout) (pages : PageMap) (sizes : HasBoundedSizes layout
   pub statuses_found : (next : ℕ) × (statuses : List Status) × HasStatuses layout pages statuses × IsNext statuses next
   statuses_found =
       let found = next_from (number_limit layout) (omega arith) (λ t from below. absurd (omega (arith, from, below))) in
-      (found.0, next_found layout pages layout.sizes.status_blocks found.0 refl found.1 found.2 found.3)
+      let shown = next_found layout pages layout.sizes.status_blocks found.0 refl found.1 found.2 found.3 in
+      (found.0, shown.0, shown.1, shown.2)
 
 -- ---- the blocks of a table
 

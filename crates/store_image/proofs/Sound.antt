@@ -1,5 +1,5 @@
 -- A sound store is an image, and an image is sound.
-use Rattle.std.proofs.Common.{◌≡◌, ◌≢◌, inl, inr, ℕ, ◌+◌, ◌*◌, ◌/◌, ◌<◌, ◌≤◌, Bool, false, List, length, map, Option, None, Some, refl, sym, ap, subst, ◌∙◌, arith}
+use Rattle.std.proofs.Common.{◌≡◌, ◌≢◌, inl, inr, ℕ, ◌+◌, ◌*◌, ◌/◌, ◌<◌, ◌≤◌, Bool, false, List, get_or, length, map, Option, None, Some, refl, sym, ap, subst, ◌∙◌, arith}
 use Rattle.std.specs.Prelude.{IsTrue, slice_get}
 use Rattle.std.specs.FinMap as finite
 use Rattle.std.specs.Option.{option_map}
@@ -55,11 +55,11 @@ use Rattle.index_contents.specs.IndexContents.{contents, index_page, relation_of
 use Rattle.index_contents.specs.OrderLaws.{order_of_index}
 use Rattle.index_contents.specs.Reading.{unstarted_kind}
 use Rattle.index_steps.specs.IndexTuples.{classes_of, contents_of, index_at, range_said, seen, shape_of}
-use Rattle.index_steps.specs.ShownIndex.{tuple_in_place}
+use Rattle.index_steps.specs.ShownIndex.{Shows, tuple_in_place}
 use Rattle.index_steps.specs.ShownRows.{row_in, rows_in, shown_by}
 use Rattle.index_steps.specs.ShownTable.{indexes_of, shown_at, shown_index}
 use Rattle.index_steps.proofs.Lawful.{its_pages, its_table}
-use Rattle.index_steps.proofs.Views.{StandsBy, seen_range, stands_in}
+use Rattle.index_steps.proofs.Views.{StandsBy, seen_range, stands_by}
 use Rattle.store_image.specs.SoundStore.{HasNumbers, IsSoundStore, NamesBytes, StandsInRange}
 use Rattle.store_image.specs.StoreImage.{IsRestingTable, IsStoreImage, IsUnlocked, database_with, opened_at, unseen_at_rest}
 use Rattle.store_image.proofs.Counted.{committed_counts, counted_is_committed}
@@ -117,6 +117,9 @@ module _ (layout : DiskLayout) (pages : PageMap) (limits : KeepsLimits layout.sc
       abbrev shape_state : IndexState
       shape_state = resting_state (shown_index layout pages locks n) (length blocks) (rows_in (index_at layout n).table blocks) (counts (opened_at next) ss) (loose_in (shown_index layout pages locks n))
 
+      shows : Shows (shape_of layout n) (contents layout pages n) shape_state.lock (index_view shape_state)
+      shows = record { contents = refl; entry = λ range. refl; tuple = λ x. refl; pages = refl; lock = λ p. refl }
+
       ordered : AreOrdered (index_view shape_state)
       ordered =
           let its = ordered_there n below in
@@ -126,7 +129,7 @@ module _ (layout : DiskLayout) (pages : PageMap) (limits : KeepsLimits layout.sc
             left_over = its.left_over;
             started = its.started;
             below = its.below;
-            tuples = λ x t here. let by = stands_in (shape_of layout n) ((contents layout pages n).bytes x) t here in its.tuples x by.bytes by.there;
+            tuples = λ x t here. let by = stands_by (shape_of layout n) (contents layout pages n) shape_state.lock (index_view shape_state) x t shows here in its.tuples x by.bytes by.there;
             entries = its.entries;
           }
 
@@ -140,8 +143,7 @@ module _ (layout : DiskLayout) (pages : PageMap) (limits : KeepsLimits layout.sc
             seen shape bytes.0,
             ap (option_map (seen shape)) bytes.1,
             own,
-            indexes.formed n bytes.0 spelt.0 below spelt.1,
-            subst (λ (r : ℕ). r * (index_at layout n).pages_per_range < length blocks) (sym own) (sound.ranges n range x blocks below is heap),
+            (indexes.formed n bytes.0 spelt.0 below spelt.1, subst (λ (r : ℕ). r * (index_at layout n).pages_per_range < length blocks) (sym own) (sound.ranges n range x blocks below is heap)),
           )
 
       included : (b k : ℕ) (r : Row) (x : Spot) (t : IndexTuple) → rows_in table blocks b k ≡ Some r → IsTrue (counted r.id.t) → (contents layout pages n).entry (b / (index_at layout n).pages_per_range) ≡ Some x
@@ -169,7 +171,7 @@ module _ (layout : DiskLayout) (pages : PageMap) (limits : KeepsLimits layout.sc
 
     -- what is known of an index of a table, at its place among these
     record RestsAt (table : ℕ) (blocks : List (List Slot)) (o : Option ℕ) : Type 0 where
-      sound : IsSoundIndex (shown_at layout pages locks o) (length blocks) (rows_in table blocks) (counts (opened_at next) ss)
+      its : IsSoundIndex (shown_at layout pages locks o) (length blocks) (rows_in table blocks) (counts (opened_at next) ss)
       rest : IsAtRest (resting_state (shown_at layout pages locks o) (length blocks) (rows_in table blocks) (counts (opened_at next) ss) (unnamed_at o))
       covers : IsCovered (resting_state (shown_at layout pages locks o) (length blocks) (rows_in table blocks) (counts (opened_at next) ss) (unnamed_at o))
       order : AreOrdered (index_view (resting_state (shown_at layout pages locks o) (length blocks) (rows_in table blocks) (counts (opened_at next) ss) (unnamed_at o)))
@@ -180,7 +182,7 @@ module _ (layout : DiskLayout) (pages : PageMap) (limits : KeepsLimits layout.sc
         let its = sound_index n below blocks heap in
         let c = shown_index layout pages locks n in
         record {
-          sound = its;
+          its = its;
           rest = at_rest c (length blocks) (rows_in (index_at layout n).table blocks) (counts (opened_at next) ss) its;
           covers = covered c (length blocks) (rows_in (index_at layout n).table blocks) (counts (opened_at next) ss) its;
           order = its.ordered;
@@ -189,10 +191,10 @@ module _ (layout : DiskLayout) (pages : PageMap) (limits : KeepsLimits layout.sc
     module _ (table : ℕ) (blocks : List (List Slot)) (heap : HasBlocks layout pages table blocks) where
       rests_at : (i : ℕ) → i < length (indexes_of layout table) → RestsAt table blocks (slice_get (indexes_of layout table) i)
       rests_at i low =
+          let n : ℕ = get_or (indexes_of layout table) i 0 in
           let is = slice_get-get_or (indexes_of layout table) i 0 low in
-          let own = indexes.only table i _ is in
-          subst (RestsAt table blocks) (sym is)
-          (subst (λ (k : ℕ). HasBlocks layout pages k blocks → RestsAt k blocks (Some _)) own.1 (rests_there _ own.0 blocks) heap)
+          let own = indexes.only table i n is in
+          subst (RestsAt table blocks) (sym is) (subst (λ (k : ℕ). HasBlocks layout pages k blocks → RestsAt k blocks (Some n)) own.1 (rests_there n own.0 blocks) heap)
 
       table_rests : IsTableAtRest (table_state (shown_by layout pages locks table blocks) (unseen_at_rest (counts (opened_at next) ss) (unnamed table)))
       table_rests = record {
@@ -200,8 +202,8 @@ module _ (layout : DiskLayout) (pages : PageMap) (limits : KeepsLimits layout.sc
         free = refl;
         rest = λ i low. (rests_at i low).rest;
         ordered = λ i low. (rests_at i low).order;
-        lawful = λ i low. (rests_at i low).sound.lawful;
-        ranged = λ i low. (rests_at i low).sound.ranged;
+        lawful = λ i low. (rests_at i low).its.lawful;
+        ranged = λ i low. (rests_at i low).its.ranged;
         rows_below = λ b k r here. let row = row_here table (slot_at blocks (record { block = b; slot = k })) r here in (slot_there blocks (record { block = b; slot = k }) row.0 row.1).0;
       }
 
@@ -245,19 +247,18 @@ module _ (layout : DiskLayout) (pages : PageMap) (limits : KeepsLimits layout.sc
     pub sound_image : (table : CommittedTable) × IsStoreImage layout pages table
     sound_image =
         let found = statuses_found layout pages sizes started in
-        let next = found.0 in
-        let ss = found.1 in
+        let database = rest_shown layout pages found.0 found.1 found.2 found.3 started blocks sound.ids (begun found.1 found.0 found.2) in
         (_, record {
-          next = next;
-          database = rest_shown layout pages next ss found.2 found.3 started blocks sound.ids (begun ss next found.2);
+          next = found.0;
+          database = database;
           tables = λ n below.
               let its = blocks n below in
               record {
                 blocks = its.0;
                 has = its.1;
                 unnamed = unnamed n;
-                rest = λ locks unlocked. table_rests sound whole next ss found.2 locks unlocked n its.0 its.1;
-                covered = λ locks unlocked. table_covered sound whole next ss found.2 locks unlocked n its.0 its.1;
+                rest = λ locks unlocked. table_rests sound whole found.0 database.stored database.has locks unlocked n its.0 its.1;
+                covered = λ locks unlocked. table_covered sound whole found.0 database.stored database.has locks unlocked n its.0 its.1;
               };
           order = sound.order;
         })
@@ -303,6 +304,9 @@ module _ (layout : DiskLayout) (pages : PageMap) (limits : KeepsLimits layout.sc
       keeps = subst (λ (o : Option ℕ). IsIndexKept (state_at o)) place.1
           ((table_opened (table_state (shown_by layout pages free its_own rests.blocks) (unseen_at_rest (counts (opened_at image.next) ss) rests.unnamed)) (rests.covered free nobody) (rests.rest free nobody)).indexes place.0 there)
 
+      shown : Shows (shape_of layout n) (contents layout pages n) state.lock (index_view state)
+      shown = record { contents = refl; entry = λ range. refl; tuple = λ x. refl; pages = refl; lock = λ p. refl }
+
       -- the blocks of its table are one list
       one : (blocks : List (List Slot)) → HasBlocks layout pages its_own blocks → blocks ≡ rests.blocks
       one blocks has = one_blocks layout pages its_own blocks rests.blocks has rests.has
@@ -312,7 +316,7 @@ module _ (layout : DiskLayout) (pages : PageMap) (limits : KeepsLimits layout.sc
           → (bytes : List ℕ) × ((contents layout pages n).bytes x ≡ Some bytes) × (range_said bytes ≡ range) × IsTupleOf (index_view state) (seen (shape_of layout n) bytes)
       is_named range x is =
           let its = covers.entries_name_tuples range x is in
-          let by : StandsBy (shape_of layout n) ((contents layout pages n).bytes x) its.0 = stands_in (shape_of layout n) ((contents layout pages n).bytes x) its.0 its.1 in
+          let by : StandsBy (shape_of layout n) ((contents layout pages n).bytes x) its.0 = stands_by (shape_of layout n) (contents layout pages n) state.lock (index_view state) x its.0 shown its.1 in
           (by.bytes, by.there, sym (seen_range (shape_of layout n) by.bytes) ∙ sym (ap (λ (t : IndexTuple). t.range) by.is) ∙ its.2, subst (IsTupleOf (index_view state)) by.is its.3)
 
       has_block : (range : ℕ) (x : Spot) (blocks : List (List Slot)) → (contents layout pages n).entry range ≡ Some x → HasBlocks layout pages its_own blocks → range * (index_at layout n).pages_per_range < length blocks

@@ -15,6 +15,7 @@ mod judge;
 mod kept;
 mod laws;
 mod listing;
+mod places;
 mod post;
 mod ranges;
 mod reader;

@@ -1,8 +1,9 @@
 //! The tuples of an index by range.
 
-ghost use Rattle.std.specs.Prelude.{◌≡◌, ◌-◌, ◌<◌, ◌≤◌, ◌^◌, ◌++◌, [], None, length, replicate, vec_capacity, vec_len, slice_index_or, MatchResult};
+ghost use Rattle.std.specs.Prelude.{◌≡◌, ◌<◌, [], None, length, slice_index_or, MatchResult};
 ghost use Rattle.summary_directory.specs.Places.{placed};
 
+use crate::places::{Blank, push_at, put_at};
 use crate::post::TupleBytes;
 use std::alloc::{AllocError, Global};
 use std::marker::Model;
@@ -19,6 +20,26 @@ impl Model for Ranges {
     ghost Value = { List (Option (List ℕ)) };
 
     ghost view = { λ r. r.cells.items };
+}
+
+impl Blank for Ranges {
+    ghost use Rattle.std.specs.Prelude.{[]};
+
+    ghost blank = { [] };
+
+    fn blank(alloc: Global) -> Ranges {
+        Ranges::new(alloc)
+    }
+}
+
+impl Blank for Option<TupleBytes> {
+    ghost use Rattle.std.specs.Prelude.{None};
+
+    ghost blank = { None };
+
+    fn blank(_alloc: Global) -> Option<TupleBytes> {
+        None
+    }
 }
 
 impl Ranges {
@@ -39,45 +60,15 @@ impl Ranges {
     }
 
     /// The range has this tuple, or none. After a refusal nothing is changed.
-    pub(crate) fn put(&mut self, range: u32, tuple: Option<TupleBytes>) -> Result<(), AllocError>
+    pub(crate) fn put(
+        &mut self,
+        alloc: Global,
+        range: u32,
+        tuple: Option<TupleBytes>,
+    ) -> Result<(), AllocError>
         ensures { MatchResult result (λ _. self.new ≡ placed None self.old range tuple) (λ _. self.new ≡ self.old) }
     {
-        put_cell(&mut self.cells, range as usize, tuple)
-    }
-}
-
-/// Puts the tuple at its place; places between the end and it have none.
-#[tactic(auto, using(crate::proofs::Placed::placed_inside, crate::proofs::Placed::placed_behind))]
-fn put_cell(
-    cells: &mut Vec<Option<TupleBytes>>,
-    at: usize,
-    tuple: Option<TupleBytes>,
-) -> Result<(), AllocError>
-    requires { at < 2 ^ 32 }
-    ensures { MatchResult result (λ _. cells.new.items ≡ placed None cells.old.items at tuple) (λ _. cells.new.items ≡ cells.old.items) }
-{
-    let count = cells.len();
-    if at < count {
-        cells[at] = tuple;
-        return Ok(());
-    }
-    cells.reserve(at - count + 1)?;
-    fill_cells(cells, at);
-    cells.push_reserved(tuple);
-    Ok(())
-}
-
-/// Adds places without a tuple until there are so many.
-#[tactic(auto, using(crate::proofs::Placed::more_blanks))]
-fn fill_cells(cells: &mut Vec<Option<TupleBytes>>, count: usize)
-    requires more { length cells.old.items ≤ count }
-    requires room { count ≤ vec_capacity cells.old }
-    ensures items { cells.new.items ≡ cells.old.items ++ replicate (count - length cells.old.items) None }
-    ensures reached { vec_len cells.new ≡ count }
-    ensures room { vec_capacity cells.new ≡ vec_capacity cells.old }
-{
-    'cells: for _at in cells.len()..count {
-        cells.push_reserved(None);
+        put_at(alloc, &mut self.cells, range as usize, tuple)
     }
 }
 
@@ -93,10 +84,10 @@ pub(crate) fn put_tuple(
 {
     let at = usize::from(index);
     if at < tuples.len() {
-        return put_there(tuples, at, range, tuple);
+        return put_there(alloc, tuples, at, range, tuple);
     }
     let mut ranges = Ranges::new(alloc);
-    ranges.put(range, tuple)?;
+    ranges.put(alloc, range, tuple)?;
     match push_at(alloc, tuples, at, ranges) {
         Ok(()) => Ok(()),
         Err(error) => Err(error),
@@ -106,6 +97,7 @@ pub(crate) fn put_tuple(
 /// The same where the index has a place.
 #[tactic(auto, using(crate::proofs::Placed::placed_inside))]
 fn put_there(
+    alloc: Global,
     tuples: &mut Vec<Ranges>,
     at: usize,
     range: u32,
@@ -114,40 +106,8 @@ fn put_there(
     requires { at < length tuples.old.items }
     ensures { MatchResult result (λ _. tuples.new.items ≡ placed [] tuples.old.items at (placed None (slice_index_or tuples.old.items at []) range tuple)) (λ _. tuples.new.items ≡ tuples.old.items) }
 {
-    match tuples[at].put(range, tuple) {
+    match tuples[at].put(alloc, range, tuple) {
         Ok(()) => Ok(()),
         Err(error) => Err(error),
-    }
-}
-
-/// Puts the ranges of an index behind the end, at their place; indexes before it have no tuple.
-#[tactic(auto, using(crate::proofs::Placed::placed_behind))]
-fn push_at(
-    alloc: Global,
-    tuples: &mut Vec<Ranges>,
-    at: usize,
-    ranges: Ranges,
-) -> Result<(), AllocError>
-    requires behind { length tuples.old.items ≤ at }
-    requires few { at < 256 }
-    ensures { MatchResult result (λ _. tuples.new.items ≡ placed [] tuples.old.items at ranges) (λ _. tuples.new.items ≡ tuples.old.items) }
-{
-    tuples.reserve(at - tuples.len() + 1)?;
-    fill_indexes(alloc, tuples, at);
-    tuples.push_reserved(ranges);
-    Ok(())
-}
-
-/// Adds indexes without a tuple until there are so many.
-#[tactic(auto, using(crate::proofs::Placed::more_blanks))]
-fn fill_indexes(alloc: Global, tuples: &mut Vec<Ranges>, count: usize)
-    requires more { length tuples.old.items ≤ count }
-    requires room { count ≤ vec_capacity tuples.old }
-    ensures items { tuples.new.items ≡ tuples.old.items ++ replicate (count - length tuples.old.items) [] }
-    ensures reached { vec_len tuples.new ≡ count }
-    ensures room { vec_capacity tuples.new ≡ vec_capacity tuples.old }
-{
-    'indexes: for _at in tuples.len()..count {
-        tuples.push_reserved(Ranges::new(alloc));
     }
 }

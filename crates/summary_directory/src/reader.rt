@@ -93,10 +93,11 @@ impl Told {
     }
 
     /// The blocks that are given for the query at the fold of the posts that it has seen then. These begin with all that it had seen, and with
-    /// all that it was told of. It waits for nobody.
+    /// all that it was told of. `Closed` comes where the directory was closed before it looked, `Memory` where it has looked and finds no room for
+    /// what it lists. What it had seen it has seen then too. It waits for nobody.
     pub fn given(&mut self, alloc: Global, query: &Query) -> Result<Blocks, GivenFault>
         ensures told { IfOk result (λ blocks. StartsWith self.new.seen self.old.told) }
-        ensures seen { IfOk result (λ blocks. StartsWith self.new.seen self.old.seen) }
+        ensures seen { StartsWith self.new.seen self.old.seen }
         ensures given { IfOk result (λ blocks. (layout : DiskLayout) → self.old.indexes ≡ scanned_indexes layout query.now.table → blocks ≡ given_blocks layout (shown_after self.new.seen) query.now) }
         ensures same { (self.new.told ≡ self.old.told) × (self.new.indexes ≡ self.old.indexes) }
     {
@@ -110,7 +111,8 @@ impl Told {
 fn look(seat: Seat, alloc: Global, query: &Query) -> (Seat, Result<Blocks, GivenFault>)
     ensures told { (view result.0.reader.place).told ≡ (view seat.reader.place).told }
     ensures indexes { boxed_slice_items result.0.judges ≡ boxed_slice_items seat.judges }
-    ensures begins { IfOk result.1 (λ blocks. StartsWith (view result.0.reader.place).seen (view seat.reader.place).told × StartsWith (view result.0.reader.place).seen (view seat.reader.place).seen) }
+    ensures begins { IfOk result.1 (λ blocks. StartsWith (view result.0.reader.place).seen (view seat.reader.place).told) }
+    ensures seen { StartsWith (view result.0.reader.place).seen (view seat.reader.place).seen }
     ensures given { IfOk result.1 (λ blocks. (layout : DiskLayout) → boxed_slice_items seat.judges ≡ scanned_indexes layout query.now.table → blocks ≡ given_blocks layout (shown_after (view result.0.reader.place).seen) query.now) }
 {
     let Seat { reader, mut judges } = seat;

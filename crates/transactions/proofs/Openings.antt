@@ -8,7 +8,7 @@ use Rattle.block_model.specs.declared.row.RowId.{RowId}
 use Rattle.block_model.specs.DatabaseState.{DatabaseState, initial_state}
 use Rattle.store_layout.specs.declared.limits.TheConstants.{MAX_SESSIONS}
 use Rattle.store_layout.specs.DiskLayout.{DiskLayout}
-use Rattle.page_layout.specs.PageContents.{IsUnstarted}
+use Rattle.page_layout.specs.PageContents.{IsUnstarted, Slot}
 use Rattle.page_map.specs.PageMap.{PageMap, block_at}
 use Rattle.heap_rows.specs.Heaps.{relation_of}
 use Rattle.heap_rows.specs.HeapBlocks.{HasBlocks}

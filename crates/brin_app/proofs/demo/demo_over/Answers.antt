@@ -11,7 +11,7 @@ returns-clause-known g c = same_status c.status.result _ c.status.ensures (exit_
 pub returns-clause-runs : goal.returns-clause-runs
 returns-clause-runs g c = λ start tells ready shown all.
     demo_run g.D.Disk.told c.args.store start c.args.numbers.seed c.args.numbers.rows _ c.sum_up-end.new.sessions c.sum_up-end.result _ _ c.sum_up-end.ensures.sums c.status.result c.into_disk.result refl
-    c.into_disk.ensures c.status.ensures (g.met.D.Disk.since_now_is_now c.args.store.pages.disk) tells ready shown all
+    c.into_disk.ensures c.status.ensures tells ready shown all
 
 pub returns-clause-write_fault : goal.returns-clause-write_fault
 returns-clause-write_fault g c = write_ended c.sum_up-end.result c.status.result _ c.status.ensures c.sum_up-end.ensures.cause

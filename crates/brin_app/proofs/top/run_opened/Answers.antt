@@ -25,7 +25,7 @@ returns-clause-known g c = same_status c.status.result _ c.status.ensures (exit_
 pub returns-clause-runs : goal.returns-clause-runs
 returns-clause-runs g c = λ start tells ready shown all.
     script_run g.D.Disk.told c.args.store start _ c.run-end.new.engine c.run-end.result _ _ _ _ c.run-end.ensures.ran c.status.result c.into_disk.result refl c.into_disk.ensures c.status.ensures
-    (g.met.D.Disk.since_now_is_now c.args.store.pages.disk) tells ready shown all
+    tells ready shown all
 
 pub returns-clause-others : goal.returns-clause-others
 returns-clause-others g c = no_other c.run-end.result c.status.result c.status.ensures

@@ -9,7 +9,7 @@ run_over-one-requires c = c.in_ok-disk.ensures.store.image
 pub run_over-two-requires : goal.run_over-two-requires
 run_over-two-requires c = c.run_over-one.ensures.image (c.in_ok-disk.ensures.store.store (λ e. omega (arith, e)))
 
-pub returns : goal.returns
-returns c = λ layout making running first second.
+pub returns-clause-in_turn : goal.returns-clause-in_turn
+returns-clause-in_turn c = λ layout making running first second.
     let one = c.run_over-one.ensures.ran running first layout initial_state.table (c.in_ok-disk.ensures.empty layout making) in
     record { made = _; between = _; one = one; two = c.run_over-two.ensures.ran running second layout (database_at one.run.after).table one.holds }

@@ -1,6 +1,5 @@
 use Rattle.std.proofs.Common.{None, refl}
 use Rattle.index_steps.specs.IndexTuples.{index_at}
-use Rattle.query_words.proofs.FitLemmas.{KnowsValues}
 use Rattle.store_layout.specs.declared.statement.Statement.TheVariants as statements
 use Rattle.store_layout.proofs.FirstBroken.{keeps_limits}
 use Rattle.script_laws.proofs.Fits.{in_below}
@@ -11,8 +10,7 @@ use Rattle.script_laws.proofs.maintenance_texts.a_summarize_leaves_no_range_out.
 pub returns : goal.returns
 returns c = λ layout p q n index count within reached has rests finishes.
     let limits = keeps_limits layout.schema layout.sizes within in
-    let knows : KnowsValues = record { denoted = c.value_of_is_denoted.ensures; of_kind = c.denoted_is_of_kind.ensures } in
-    let o = reached_is_orderly c.table_stays_covered.ensures.kept layout limits (record { new = c.table_stays_covered.ensures.new; opened = c.table_stays_covered.ensures.opened }) knows p reached in
+    let o = reached_is_orderly c.table_stays_covered.ensures.kept layout limits (record { new = c.table_stays_covered.ensures.new; opened = c.table_stays_covered.ensures.opened }) p reached in
     let fits = o.fits n _ has in
     let below = in_below layout p n (index_at p.layout index).table o.same limits o.asked (statements.Summarize index None) fits refl in
     summarize_counts p q n index count has rests (o.kept (index_at p.layout index).table below) finishes

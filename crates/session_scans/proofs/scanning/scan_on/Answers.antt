@@ -2,9 +2,10 @@ use Rattle.std.proofs.Common.{◌+◌, ◌<◌, ◌≤◌, length, sym, ◌∙�
 use Rattle.std.proofs.lemmas.Bool.{false≢true}
 use Rattle.page_map.specs.Keeps.{Tells}
 use Rattle.store_layout.specs.declared.limits.TheConstants.{MAX_ENTRIES}
+use Rattle.page_locks.specs.declared.did.Did.TheVariants as did
 use Rattle.tx_table.proofs.Parts.{before_then}
 use Rattle.bitmap_scan.specs.ScanAnswers.{IsDamagedAt}
-use Rattle.session_scans.proofs.Machine.{ahead_then, made_behind, may_then, refused_by_pages, refused_read, spent_there}
+use Rattle.session_scans.proofs.Machine.{made_behind, may_then, next_then, refused_by_pages, refused_read, spent_there}
 use Rattle.session_scans.proofs.scanning.scan_on.Goals as goal
 
 pub step_on-requires-in-Ok-false-clause-may : goal.step_on-requires-in-Ok-false-clause-may
@@ -13,7 +14,7 @@ step_on-requires-in-Ok-false-clause-may g c =
 
 pub step_on-requires-in-Ok-false-clause-ahead : goal.step_on-requires-in-Ok-false-clause-ahead
 step_on-requires-in-Ok-false-clause-ahead g c = λ full.
-    ahead_then g.D.Disk.told c.laws_of_looks.ensures c.args.parts.now c.args.session c.args.looking c.args.scan c.requires.may c.requires.ready c.peek.new.pages c.peek.ensures.kept c.peek.new.self c.peek.ensures.same
+    next_then g.D.Disk.told c.laws_of_looks.ensures c.args.parts.now c.args.session c.args.looking c.args.scan c.requires.may c.requires.ready c.peek.new.pages c.peek.ensures.kept c.peek.new.self c.peek.ensures.same did.Moved
     (c.in-Ok-false.ensures.goes c.in-Ok-false.field-0-test)
 
 pub returns-in-Ok-true-clause-so : goal.returns-in-Ok-true-clause-so
@@ -22,7 +23,7 @@ returns-in-Ok-true-clause-so g c =
     let within-not = λ (within : length parts.journal.entries + 1 ≤ MAX_ENTRIES). false≢true (sym c.if-fits.false ∙ c.fits.ensures.1 within) in
     let full : MAX_ENTRIES < length parts.journal.entries + 1 = omega (arith, within-not) in
     spent_there g.D.Disk.told c.laws_of_looks.ensures parts c.args.session c.args.looking c.args.scan c.requires.may c.requires.ready c.peek.new.pages c.peek.ensures.kept c.peek.new.self c.peek.ensures.same
-    c.undone.new.parts c.undone.result c.spent-fault.result c.undone.ensures.answer c.undone.ensures.parts full c.in-Ok-true.ensures.outcome.1 c.spent-fault.ensures
+    c.undone.new.parts c.undone.result c.spent-fault.result c.undone.ensures.answer c.undone.ensures.parts full c.in-Ok-true.ensures.outcome.1 (c.in-Ok-true.ensures.ends c.in-Ok-true.field-0-test) c.spent-fault.ensures
 
 pub returns-in-Ok-false-clause-so : goal.returns-in-Ok-false-clause-so
 returns-in-Ok-false-clause-so g c =

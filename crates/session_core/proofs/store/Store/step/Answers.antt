@@ -4,7 +4,7 @@ use Rattle.session_parts.specs.HandFits.{FitsStore}
 use Rattle.session_parts.specs.StoreStates.{StoreState, hand_at, hand_in, store_of}
 use Rattle.session_starts.specs.Stops.{StopsSo}
 use Rattle.session_core.specs.SessionLists.{hands_of, names_of, spares_of}
-use Rattle.session_core.proofs.Reopening.{fits_here, stops_reopened, stops_whole}
+use Rattle.session_core.proofs.Reopening.{fits_here, journal_reopened, stops_reopened, stops_whole}
 use Rattle.session_core.proofs.store.Store.step.Goals as goal
 
 pub returns-in-Err-clause-survives : goal.returns-in-Err-clause-survives
@@ -12,6 +12,9 @@ returns-in-Err-clause-survives g c =
     let items = c.self.inside.sessions.items in
     subst (λ (s : StoreState _). IfSome (hand_at s c.args.session) (λ hand. StopsSo g.D.Disk.told s.transactions c.args.session s.pages s.pages hand (Err c.fault_of.result))) c.self.view_is
     (stops_reopened g.D.Disk.told (store_of c.self.inside.parts (names_of items) (hands_of items)) c.args.session c.in-Err.error c.fault_of.result c.ready.ensures.stays c.in-Err.ensures.reopen c.fault_of.ensures)
+
+pub returns-in-Err-clause-journal_told : goal.returns-in-Err-clause-journal_told
+returns-in-Err-clause-journal_told g c = journal_reopened c.args.self.now (hand_at c.args.self.now c.args.session) c.in-Err.error c.fault_of.result c.in-Err.ensures.reopen c.fault_of.ensures
 
 pub returns-in-Err-clause-stops : goal.returns-in-Err-clause-stops
 returns-in-Err-clause-stops g c =

@@ -94,6 +94,7 @@ returns g c =
       steps = step.steps;
       hand = step.hand;
       holder = step.holder;
+      waits = step.waits;
       names = step.names;
       others = step.others;
       statement = step.statement;
@@ -103,4 +104,5 @@ returns g c =
       journal = step.journal;
       ready = step.ready;
       cause = step.cause;
+      journal_told = step.journal_told;
     }
