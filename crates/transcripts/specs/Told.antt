@@ -1,5 +1,5 @@
 -- What a transcript tells: whole statements, each at the place where its answer was kept, one after the other.
-use Rattle.std.specs.Prelude.{◌≡◌, ◌≢◌, ◌⊎◌, ◌<◌, ℕ, Bool, true, false, codes, List, [], ◌∷◌, ◌++◌, length, fold, All, Option, None, Some, if◌then◌else◌}
+use Rattle.std.specs.Prelude.{◌≡◌, ◌≢◌, ◌⊎◌, ◌<◌, ℕ, true, false, codes, List, ◌∷◌, ◌++◌, length, fold, All, Option, None, Some, if◌then◌else◌}
 use Rattle.std.specs.FinMap as map
 use Rattle.block_model.specs.declared.reply.Refusal.{Refusal}
 use Rattle.block_model.specs.declared.reply.Refusal.TheVariants as refusals
@@ -65,10 +65,10 @@ IsOutside (statements.Vacuum table) = Unit {0}
 IsOutside statements.Work = Unit {0}
 IsOutside statement = ⊥
 
--- what a full table, a full index of a table, and the end of the numbers are told as
+-- what a full table is told as, and a full index of a table, by its number there; and how many transactions have a number
 pub record Limits : Type 0 where
   pub table_full : ℕ → Refusal
-  pub is_index_full : ℕ → Refusal → Bool
+  pub index_full : ℕ → ℕ → Refusal
   pub numbers : ℕ
 
 -- A statement of session n is answered so, as one step on its session's copy, and leaves that database. Where a row of an insert can't be indexed it was put before. What
@@ -77,14 +77,15 @@ pub data Tells (limits : Limits) (next : ℕ → Option Statement) (s : Database
   NotTaken : (statement : Statement) (refusal : Refusal) → refusal_at s n statement ≡ Some refusal → Tells limits next s n statement (replies.Refused refusal) s
   Begins : map.get s.sessions n ≡ None → s.next < limits.numbers → Tells limits next s n statements.Begin (replies.Begun s.next) (after_begin s n)
   NoNumber : map.get s.sessions n ≡ None → s.next ≡ limits.numbers → Tells limits next s n statements.Begin (replies.Refused (refusals.Full (codes "status") limits.numbers)) s
+  BeginLacksMemory : map.get s.sessions n ≡ None → Tells limits next s n statements.Begin (replies.Refused refusals.Memory) s
   Commits : (x : OpenTransaction) → map.get s.sessions n ≡ Some x → Tells limits next s n statements.Commit (if x.failed then replies.RolledBack else replies.Committed) (after_commit s n x)
   RollsBack : (x : OpenTransaction) → map.get s.sessions n ≡ Some x → Tells limits next s n statements.Rollback replies.RolledBack (without_transaction s n)
   Inserts : (x : OpenTransaction) (table : ℕ) (values : List Value) → IsSound s n x
       → Tells limits next s n (statements.Insert table values) (replies.Inserted (next_row x table values).id) (with_transaction s n (after_put x table values))
   TableIsFull : (x : OpenTransaction) (table : ℕ) (values : List Value) → IsSound s n x
       → Tells limits next s n (statements.Insert table values) (replies.Refused (limits.table_full table)) (after_failure s n x)
-  IndexIsFull : (x : OpenTransaction) (table : ℕ) (values : List Value) (refusal : Refusal) → IsSound s n x → limits.is_index_full table refusal ≡ true
-      → Tells limits next s n (statements.Insert table values) (replies.Refused refusal) (after_failure s n (after_put x table values))
+  IndexIsFull : (x : OpenTransaction) (table at : ℕ) (values : List Value) → IsSound s n x
+      → Tells limits next s n (statements.Insert table values) (replies.Refused (limits.index_full table at)) (after_failure s n (after_put x table values))
   InsertLacksMemory : (x : OpenTransaction) (table : ℕ) (values : List Value) → IsSound s n x
       → Tells limits next s n (statements.Insert table values) (replies.Refused refusals.Memory) (after_failure s n x)
   Selects : (x : OpenTransaction) (q : Query) → IsSound s n x → Tells limits next s n (statements.Select q) (replies.Found (rows_found x q)) s

@@ -15,10 +15,12 @@ use Rattle.block_model.specs.RequestEffect.{after_mark, is_conflict, is_own, mar
 use Rattle.block_model.specs.TableState.{id_cmp, ids_exact, ids_total}
 use Rattle.std.specs.Cmp.{Equal-is}
 use Rattle.store_layout.specs.declared.statement.Statement.{Statement}
-use Rattle.transcripts.specs.Ahead.{AreMarksApart, Hand, IsAhead, IsCopyAhead, Idle, Fresh, HasPut, HasMarked}
-use Rattle.transcripts.specs.Laws.{ConflictsAreTold, MarkedRowsAreFree}
+use Rattle.model_laws.specs.MarksAreApart.{AreMarksApart}
+use Rattle.script_semantics.specs.Place.{Hand}
+use Rattle.transcript_laws.specs.Ahead.{IsAhead, IsCopyAhead, Idle, Fresh, HasPut, HasMarked}
+use Rattle.transcript_laws.specs.Laws.{ConflictsAreTold, MarkedRowsAreFree}
 use Rattle.transcripts.specs.Told.{AreFree, MayConflict, marked}
-use Rattle.transcripts.proofs.Maps.{any_entry, no_entry, some_entry}
+use Rattle.transcript_laws.proofs.Maps.{any_entry, no_entry, some_entry}
 
 -- ---- marks of a transaction
 
@@ -93,7 +95,7 @@ free_elsewhere next hands d s n y id ahead apart got has = no_entry (λ e. not (
         and_no false = refl
     by m z there true is (inr other) =
         let k = keeps_marks (map.get s.sessions m) (map.get d.sessions m) (hands m) z id (ahead.copies m) there is in
-        absurd (apart.apart n m y k.0 id (λ same. other (sym same)) got k.1 has k.2)
+        absurd (apart.apart n m y k.0 (λ same. other (sym same)) got k.1 id has k.2)
 
 -- not own, in the table and marked nowhere else
 no_conflict : (s : DatabaseState) (n : ℕ) (x : OpenTransaction) (id : RowId) → (is_own x id ≡ false → (map.contains_key s.table id ≡ true) × (marked_elsewhere s n id ≡ false)) → is_conflict s n x id ≡ false
@@ -105,7 +107,7 @@ no_conflict s n x id parts = by (is_own x id) parts
 
 pub marked_free : MarkedRowsAreFree
 marked_free next hands d s n x rows ahead apart got = All-weaker (HasMarks x rows) (λ (row : Row). is_conflict s n x row.id ≡ false) (λ row has. no_conflict s n x row.id (λ other.
-    (ap (λ t. map.contains_key t row.id) (sym ahead.table) ∙ apart.stand n (marked x rows) row.id got (has other), free_elsewhere next hands d s n (marked x rows) row.id ahead apart got (has other)))) rows (all_marked x rows)
+    (ap (λ t. map.contains_key t row.id) (sym ahead.table) ∙ apart.stand n (marked x rows) got row.id (has other), free_elsewhere next hands d s n (marked x rows) row.id ahead apart got (has other)))) rows (all_marked x rows)
 
 -- ---- a conflict by the journal
 

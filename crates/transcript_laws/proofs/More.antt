@@ -16,10 +16,11 @@ use Rattle.block_model.specs.RequestLaws.{effect_by, mark_effect, others_stay}
 use Rattle.store_layout.specs.declared.statement.Statement.{Statement}
 use Rattle.store_layout.specs.declared.statement.Statement.TheVariants as statements
 use Rattle.store_layout.specs.StatementRequests.{look_entry, mark_entry, refusal_at, request_entry, submission_refusal, tagged_entry}
-use Rattle.transcripts.specs.Ahead.{Hand, IsAhead, IsCopyAhead, Idle, Fresh, HasPut, HasMarked, answers_marked, updated}
-use Rattle.transcripts.specs.Laws.{BeginsAreTold, CommitsAreTold, FailuresStayAhead, LooksStayAhead, MarksStayAhead, NextStays, OthersStayAhead, RefusedInsertsAreTold, RollbacksAreTold, SelectsAreTold, StatementsAreTaken}
+use Rattle.script_semantics.specs.Place.{Hand, updated}
+use Rattle.transcript_laws.specs.Ahead.{IsAhead, IsCopyAhead, Idle, Fresh, HasPut, HasMarked, answers_marked}
+use Rattle.transcript_laws.specs.Laws.{BeginsAreTold, CommitsAreTold, FailuresStayAhead, LooksStayAhead, MarksStayAhead, NextStays, OthersStayAhead, RefusedInsertsAreTold, RollbacksAreTold, SelectsAreTold, StatementsAreTaken}
 use Rattle.transcripts.specs.Told.{Begins, Commits, IndexIsFull, IsSound, RollsBack, Selects, marked}
-use Rattle.transcripts.proofs.Events.{fresh_same, goes, taken_over}
+use Rattle.transcript_laws.proofs.Events.{fresh_same, goes, taken_over}
 
 no_hand : (hand : Hand) → None ≡ Some hand → ⊥
 no_hand hand e = none_Some hand e
@@ -30,13 +31,17 @@ idle_same before now _ (Fresh st same) e = same
 idle_same before now _ (HasPut x table values was whole puts) e = absurd (no_hand _ (sym e))
 idle_same before now _ (HasMarked x q rows left was whole finds marks) e = absurd (no_hand _ (sym e))
 
-marked_more : (x : OpenTransaction) (rows : List Row) (row : Row) → marked x (rows ++ row ∷ []) ≡ after_mark (marked x rows) row.id
+pub marked_more : (x : OpenTransaction) (rows : List Row) (row : Row) → marked x (rows ++ row ∷ []) ≡ after_mark (marked x rows) row.id
 marked_more x [] row = refl
 marked_more x (r ∷ rows) row = marked_more (after_mark x r.id) rows row
 
+-- a session with nothing in hand has the same transaction in both
+pub same_copy : (next : ℕ → Option Statement) (hands : ℕ → Option Hand) (d s : DatabaseState) (n : ℕ) → IsAhead next hands d s → hands n ≡ None → map.get d.sessions n ≡ map.get s.sessions n
+same_copy next hands d s n was idle = idle_same (map.get s.sessions n) (map.get d.sessions n) (hands n) (was.copies n) idle
+
 pub taken : StatementsAreTaken
 taken next hands d s n statement was idle =
-    let same : map.get d.sessions n ≡ map.get s.sessions n = idle_same (map.get s.sessions n) (map.get d.sessions n) (hands n) (was.copies n) idle in
+    let same = same_copy next hands d s n was idle in
     let alike : refusal_at s n statement ≡ refusal_at d n statement = ap (λ (o : Option OpenTransaction). submission_refusal o statement) (sym same) in (
       alike,
       λ free line. goes next next hands (Some (record { statement = statement; answers = [] })) d d s s n was was.number was.table (λ m apart. refl) (λ m apart. refl) (λ m apart. refl) (Fresh statement same)
@@ -115,11 +120,11 @@ selects limits next next' hands d s n q x was sound now nexts =
     )
 
 pub refused_inserts : RefusedInsertsAreTold
-refused_inserts limits next next' hands d s n table values x refusal was sound now full nexts =
+refused_inserts limits next next' hands d s n table values x at was sound now nexts =
     let e = tagged_entry n table (requests.Put values) tags.Full in
     let y = failed_transaction (after_put x table values) in
     let done : after_request d e ≡ after_failure d n (after_put x table values) = ap (λ (p : DatabaseState × Answer). p.0) (effect_by d e (Some (after_put x table values)) now) in (
-      IndexIsFull x table values refusal sound full,
+      IndexIsFull x table at values sound,
       taken_over next next' hands d s n y was nexts (after_request d e) (ap (λ (t : DatabaseState). t.next) done) (ap (λ (t : DatabaseState). t.table) done)
         (λ m other. others_stay d e m other) (ap (λ (t : DatabaseState). map.get t.sessions n) done ∙ get_put_here nat_cmp_total d.sessions n y),
     )

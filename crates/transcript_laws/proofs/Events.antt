@@ -18,15 +18,17 @@ use Rattle.block_model.specs.RequestLaws.{effect_by, mark_effect, others_stay}
 use Rattle.store_layout.specs.declared.statement.Statement.{Statement}
 use Rattle.store_layout.specs.declared.statement.Statement.TheVariants as statements
 use Rattle.store_layout.specs.StatementRequests.{mark_entry, refusal_at, request_entry, submission_refusal}
-use Rattle.transcripts.specs.Ahead.{AreMarksApart, Hand, IsAhead, IsCopyAhead, Idle, Fresh, HasPut, HasMarked, updated}
-use Rattle.transcripts.specs.Laws.{DeletesAreTold, FailedDeletesAreTold, InsertsAreTold, NextStays, PutsStayAhead}
+use Rattle.model_laws.specs.MarksAreApart.{AreMarksApart}
+use Rattle.script_semantics.specs.Place.{Hand, updated}
+use Rattle.transcript_laws.specs.Ahead.{IsAhead, IsCopyAhead, Idle, Fresh, HasPut, HasMarked}
+use Rattle.transcript_laws.specs.Laws.{DeletesAreTold, FailedDeletesAreTold, InsertsAreTold, NextStays, PutsStayAhead}
 use Rattle.transcripts.specs.Told.{IsSound, Limits, Tells, Deleting, Inserts, Deletes, FailsAt, MarksAll, marked}
-use Rattle.transcripts.proofs.Conflicts.{conflicts_told, marked_free, same_number}
+use Rattle.transcript_laws.proofs.Conflicts.{conflicts_told, marked_free, same_number}
 
-updated_here : {A : Type 0} (f : ℕ → A) (n : ℕ) (x : A) → updated f n x n ≡ x
+pub updated_here : {A : Type 0} (f : ℕ → A) (n : ℕ) (x : A) → updated f n x n ≡ x
 updated_here f n x = ap (λ b. cond b x (f n)) (eq-eqb n n refl)
 
-updated_there : {A : Type 0} (f : ℕ → A) (n m : ℕ) (x : A) → m ≢ n → updated f n x m ≡ f m
+pub updated_there : {A : Type 0} (f : ℕ → A) (n m : ℕ) (x : A) → m ≢ n → updated f n x m ≡ f m
 updated_there f n m x apart = ap (λ b. cond b x (f m)) (ne_eqb m n apart)
 
 -- One session changes what it has in hand and its own transaction; all others keep theirs in both databases. So what is ahead is to be shown of that session alone.

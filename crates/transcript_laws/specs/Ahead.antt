@@ -1,22 +1,16 @@
 -- How the journal of the steps stands to the transcript: it is ahead by the requests of statements in hand.
-use Rattle.std.specs.Prelude.{◌≡◌, ◌≢◌, ◌==◌, if◌then◌else◌, ℕ, true, false, List, [], ◌∷◌, ◌++◌, map, Option, None, Some}
+use Rattle.std.specs.Prelude.{◌≡◌, ℕ, false, List, [], ◌∷◌, ◌++◌, map, Option, None, Some}
 use Rattle.std.specs.FinMap as maps
-use Rattle.std.specs.FinSet as set
 use Rattle.block_model.specs.declared.row.Query.{Query}
 use Rattle.block_model.specs.declared.row.Row.{Row}
-use Rattle.block_model.specs.declared.row.RowId.{RowId}
 use Rattle.block_model.specs.declared.value.Value.{Value}
 use Rattle.block_model.specs.DatabaseState.{DatabaseState, OpenTransaction}
 use Rattle.block_model.specs.RequestEffect.{Answer, Found, Inserted, Marked, after_put, next_row, rows_found}
 use Rattle.store_layout.specs.declared.statement.Statement.{Statement}
 use Rattle.store_layout.specs.declared.statement.Statement.TheVariants as statements
 use Rattle.store_layout.specs.StatementRequests.{refusal_at}
+use Rattle.script_semantics.specs.Place.{Hand}
 use Rattle.transcripts.specs.Told.{marked}
-
--- a statement in hand, and what its requests so far were answered (line_texts' record)
-pub record Hand : Type 0 where
-  pub statement : Statement
-  pub answers : List Answer
 
 abbrev pub answers_marked : List Row → List Answer
 answers_marked rows = map (λ (row : Row). Marked) rows
@@ -38,14 +32,3 @@ pub record IsAhead (next : ℕ → Option Statement) (hands : ℕ → Option Han
   pub copies : (n : ℕ) → IsCopyAhead (maps.get s.sessions n) (maps.get d.sessions n) (hands n)
   pub lines : (n : ℕ) (hand : Hand) → hands n ≡ Some hand → next n ≡ Some hand.statement
   pub taken : (n : ℕ) (hand : Hand) → hands n ≡ Some hand → refusal_at s n hand.statement ≡ None
-
--- What holds of the database of every journal from an opening on (serial_model proves it on the way to "no row is removed twice", and doesn't tell it): the marks of open
--- transactions stand in the table, and no two have one row.
-pub record AreMarksApart (d : DatabaseState) : Type 0 where
-  pub stand : (n : ℕ) (x : OpenTransaction) (id : RowId) → maps.get d.sessions n ≡ Some x → set.contains x.marks id ≡ true → maps.contains_key d.table id ≡ true
-  pub apart : (n m : ℕ) (x y : OpenTransaction) (id : RowId) → n ≢ m → maps.get d.sessions n ≡ Some x → maps.get d.sessions m ≡ Some y → set.contains x.marks id ≡ true
-      → set.contains y.marks id ≡ true → ⊥
-
--- the same by number, but for one (line_texts' function)
-abbrev pub updated : {A : Type 0} → (ℕ → A) → ℕ → A → ℕ → A
-updated f n x m = if m == n then x else f m

@@ -1,0 +1,4 @@
+pub mod Ahead
+pub mod Laws
+pub mod StepLaws
+pub mod PlaceLaws
