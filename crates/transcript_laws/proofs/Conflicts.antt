@@ -1,6 +1,6 @@
 -- conflicts by the journal and by the transcript
-use Rattle.std.proofs.Common.{◌≡◌, ◌≢◌, ◌⊎◌, inl, inr, ℕ, Bool, true, false, cond, not, ◌&&◌, ◌||◌, List, [], ◌∷◌, ◌++◌, All, if◌then◌else◌, Option, None, Some, refl, sym, ap, subst, ◌∙◌, eqb, eq-eqb, eqb-true, ne_eqb}
-use Rattle.std.proofs.lemmas.Bool.{false≢true, true≢false, and_parts, cases_eq, or_left, or_right, or_cases, not-false}
+use Rattle.std.proofs.Common.{◌≡◌, ◌≢◌, ◌⊎◌, inl, inr, ℕ, Bool, true, false, not, ◌&&◌, ◌||◌, List, [], ◌∷◌, ◌++◌, All, if◌then◌else◌, Option, Some, refl, sym, ap, subst, ◌∙◌, eqb, eq-eqb, ne_eqb}
+use Rattle.std.proofs.lemmas.Bool.{false≢true, and_parts, cases_eq, or_left, or_right, or_cases}
 use Rattle.std.proofs.lemmas.List.{append_assoc}
 use Rattle.std.proofs.lemmas.List.Elements.{All-cons, All-nil, All-weaker}
 use Rattle.std.specs.FinMap as map
@@ -10,8 +10,8 @@ use Rattle.std.specs.Cmp.{eq_by_cmp_equiv}
 use Rattle.block_model.specs.declared.row.Row.{Row}
 use Rattle.block_model.specs.declared.row.RowId.{RowId}
 use Rattle.block_model.specs.DatabaseState.{DatabaseState, OpenTransaction}
-use Rattle.block_model.specs.NumberMaps.{none_Some, same_Some}
-use Rattle.block_model.specs.RequestEffect.{after_mark, is_conflict, is_own, marked_elsewhere, rows_found}
+use Rattle.block_model.specs.NumberMaps.{same_Some}
+use Rattle.block_model.specs.RequestEffect.{after_mark, is_conflict, is_own, marked_elsewhere}
 use Rattle.block_model.specs.TableState.{id_cmp, ids_exact, ids_total}
 use Rattle.std.specs.Cmp.{Equal-is}
 use Rattle.store_layout.specs.declared.statement.Statement.{Statement}
@@ -19,7 +19,7 @@ use Rattle.model_laws.specs.MarksAreApart.{AreMarksApart}
 use Rattle.script_semantics.specs.Place.{Hand}
 use Rattle.transcript_laws.specs.Ahead.{IsAhead, IsCopyAhead, Idle, Fresh, HasPut, HasMarked}
 use Rattle.transcript_laws.specs.Laws.{ConflictsAreTold, MarkedRowsAreFree}
-use Rattle.transcripts.specs.Told.{AreFree, MayConflict, marked}
+use Rattle.transcripts.specs.Told.{MayConflict, marked}
 use Rattle.transcript_laws.proofs.Maps.{any_entry, no_entry, some_entry}
 
 -- ---- marks of a transaction

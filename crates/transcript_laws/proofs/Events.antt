@@ -1,28 +1,24 @@
 -- how the journal stays ahead of the transcript
-use Rattle.std.proofs.Common.{◌≡◌, ◌≢◌, ◌⊎◌, inl, inr, ℕ, Bool, true, false, cond, ◌==◌, List, [], ◌∷◌, ◌++◌, length, Option, None, Some, refl, sym, ap, subst, ◌∙◌, eqb, eq-eqb, ne_eqb}
-use Rattle.std.proofs.lemmas.Bool.{false≢true, true≢false, cases_eq}
+use Rattle.std.proofs.Common.{◌≡◌, ◌≢◌, inl, inr, ℕ, Bool, true, false, cond, List, [], ◌∷◌, length, Option, None, Some, refl, sym, ap, subst, ◌∙◌, eq-eqb, ne_eqb}
+use Rattle.std.proofs.lemmas.Bool.{cases_eq}
 use Rattle.std.proofs.lemmas.Cmp.{nat_cmp_total}
 use Rattle.std.specs.FinMap as map
-use Rattle.std.specs.FinSet as set
 use Rattle.block_model.specs.declared.reply.Refusal.TheVariants as refusals
 use Rattle.block_model.specs.declared.reply.Reply.TheVariants as replies
-use Rattle.block_model.specs.declared.request.Entry.{Entry}
 use Rattle.block_model.specs.declared.request.Request.TheVariants as requests
-use Rattle.block_model.specs.declared.row.Query.{Query}
-use Rattle.block_model.specs.declared.row.Row.{Row}
 use Rattle.block_model.specs.declared.value.Value.{Value}
 use Rattle.block_model.specs.DatabaseState.{DatabaseState, OpenTransaction}
 use Rattle.block_model.specs.NumberMaps.{get_put_apart, get_put_here, none_Some, numbers_apart, same_Some}
-use Rattle.block_model.specs.RequestEffect.{Answer, Inserted, after_failure, after_put, after_request, effect, failed_transaction, is_conflict, next_row, reply_to, rows_found, with_transaction}
+use Rattle.block_model.specs.RequestEffect.{Answer, Inserted, after_failure, after_put, after_request, effect, failed_transaction, next_row, reply_to, rows_found, with_transaction}
 use Rattle.block_model.specs.RequestLaws.{effect_by, mark_effect, others_stay}
 use Rattle.store_layout.specs.declared.statement.Statement.{Statement}
 use Rattle.store_layout.specs.declared.statement.Statement.TheVariants as statements
 use Rattle.store_layout.specs.StatementRequests.{mark_entry, refusal_at, request_entry, submission_refusal}
-use Rattle.model_laws.specs.MarksAreApart.{AreMarksApart}
 use Rattle.script_semantics.specs.Place.{Hand, updated}
 use Rattle.transcript_laws.specs.Ahead.{IsAhead, IsCopyAhead, Idle, Fresh, HasPut, HasMarked}
+use Rattle.transcript_laws.specs.EntryLaws.{BeginsAhead}
 use Rattle.transcript_laws.specs.Laws.{DeletesAreTold, FailedDeletesAreTold, InsertsAreTold, NextStays, PutsStayAhead}
-use Rattle.transcripts.specs.Told.{IsSound, Limits, Tells, Deleting, Inserts, Deletes, FailsAt, MarksAll, marked}
+use Rattle.transcripts.specs.Told.{Deleting, Inserts, FailsAt, MarksAll, marked}
 use Rattle.transcript_laws.proofs.Conflicts.{conflicts_told, marked_free, same_number}
 
 pub updated_here : {A : Type 0} (f : ℕ → A) (n : ℕ) (x : A) → updated f n x n ≡ x
@@ -139,3 +135,12 @@ failed_deletes_told limits next next' hands d s n q x before row after was apart
       taken_over next next' hands d s n y was nexts (after_request d e) (ap (λ (t : DatabaseState). t.next) state) (ap (λ (t : DatabaseState). t.table) state)
         (λ m other. others_stay d e m other) (ap (λ (t : DatabaseState). map.get t.sessions n) state ∙ get_put_here nat_cmp_total d.sessions n y),
     )
+
+pub begins_ahead : BeginsAhead
+begins_ahead next hands s empty = record {
+  number = refl;
+  table = refl;
+  copies = λ n. subst (IsCopyAhead (map.get s.sessions n) (map.get s.sessions n)) (sym (empty n)) (Idle refl);
+  lines = λ n hand has. absurd (no_hand hand (sym (empty n) ∙ has));
+  taken = λ n hand has. absurd (no_hand hand (sym (empty n) ∙ has));
+}

@@ -1,5 +1,5 @@
 -- a delete at its marks: one more of them, and all that are left
-use Rattle.std.proofs.Common.{arith, ◌≡◌, ◌≢◌, ◌⊎◌, inl, inr, ℕ, ◌+◌, Bool, true, false, cond, List, [], ◌∷◌, ◌++◌, length, Option, None, Some, refl, sym, ap, subst, ◌∙◌}
+use Rattle.std.proofs.Common.{arith, ◌≡◌, ℕ, ◌+◌, Bool, true, false, List, [], ◌∷◌, ◌++◌, length, Option, None, Some, refl, sym, ap, subst, ◌∙◌}
 use Rattle.std.proofs.lemmas.Cmp.{nat_cmp_total}
 use Rattle.std.proofs.lemmas.List.{append_assoc, append-nil}
 use Rattle.std.proofs.lemmas.Option.{none-some, same_Some}
@@ -14,7 +14,7 @@ use Rattle.block_model.specs.declared.row.Row.{Row}
 use Rattle.block_model.specs.declared.row.RowId.{RowId}
 use Rattle.block_model.specs.DatabaseState.{DatabaseState, OpenTransaction}
 use Rattle.block_model.specs.NumberMaps.{get_put_here}
-use Rattle.block_model.specs.RequestEffect.{Answer, Conflict, Found, Marked, after_failure, after_mark, after_request, effect, failed_transaction, is_conflict, reply_to, rows_found, with_transaction}
+use Rattle.block_model.specs.RequestEffect.{Answer, Conflict, Found, Marked, after_mark, after_request, effect, failed_transaction, is_conflict, reply_to, rows_found, with_transaction}
 use Rattle.block_model.specs.RequestLaws.{effect_by, mark_effect}
 use Rattle.block_model.specs.SerialRun.{serial_run, serial_run-append}
 use Rattle.store_layout.specs.declared.statement.Statement.{Statement}
@@ -25,7 +25,7 @@ use Rattle.model_laws.proofs.Removals.{marks_are_apart}
 use Rattle.script_semantics.specs.Place.{Hand, updated}
 use Rattle.script_semantics.specs.Requests.{Course, Enters, MakesAll, MakesOne, NoneLeft, OneMore, entered, next_request, row_to_mark}
 use Rattle.script_semantics.specs.StatementSteps.{IsOneLeft}
-use Rattle.transcripts.specs.Told.{IsSound, Limits, Tells, marked}
+use Rattle.transcripts.specs.Told.{IsSound, Limits, marked}
 use Rattle.transcript_laws.specs.Ahead.{IsAhead, answers_marked}
 use Rattle.transcript_laws.specs.Laws.{NextStays}
 use Rattle.transcript_laws.specs.StepLaws.{IsAnswered}

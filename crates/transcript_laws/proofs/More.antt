@@ -1,25 +1,23 @@
 -- looks, marks, begins and ends
-use Rattle.std.proofs.Common.{◌≡◌, ◌≢◌, ℕ, Bool, true, false, cond, List, [], ◌∷◌, ◌++◌, Option, None, Some, refl, sym, ap, subst, ◌∙◌}
+use Rattle.std.proofs.Common.{◌≡◌, ℕ, false, List, [], ◌∷◌, ◌++◌, Option, None, Some, refl, sym, ap, subst, ◌∙◌}
 use Rattle.std.proofs.lemmas.Cmp.{nat_cmp_total}
-use Rattle.std.specs.Prelude.{if◌then◌else◌, ◌+◌}
+use Rattle.std.specs.Prelude.{◌+◌}
 use Rattle.std.specs.FinMap as map
 use Rattle.std.specs.FinSet as set
-use Rattle.block_model.specs.declared.request.Entry.{Entry}
 use Rattle.block_model.specs.declared.request.Request.TheVariants as requests
 use Rattle.block_model.specs.declared.request.Tag.TheVariants as tags
-use Rattle.block_model.specs.declared.row.Query.{Query}
 use Rattle.block_model.specs.declared.row.Row.{Row}
 use Rattle.block_model.specs.DatabaseState.{DatabaseState, OpenTransaction}
 use Rattle.block_model.specs.NumberMaps.{get_put_apart, get_put_here, get_removed_apart, get_removed_here, none_Some, numbers_apart, same_Some}
-use Rattle.block_model.specs.RequestEffect.{Answer, Found, Inserted, after_begin, after_commit, after_failure, after_mark, after_put, after_request, effect, failed_transaction, is_conflict, new_transaction, reply_to, rows_found, table_after_commit, with_transaction, without_transaction}
+use Rattle.block_model.specs.RequestEffect.{Answer, Found, after_begin, after_commit, after_failure, after_mark, after_put, after_request, effect, failed_transaction, new_transaction, reply_to, rows_found, table_after_commit, with_transaction, without_transaction}
 use Rattle.block_model.specs.RequestLaws.{effect_by, mark_effect, others_stay}
 use Rattle.store_layout.specs.declared.statement.Statement.{Statement}
 use Rattle.store_layout.specs.declared.statement.Statement.TheVariants as statements
 use Rattle.store_layout.specs.StatementRequests.{look_entry, mark_entry, refusal_at, request_entry, submission_refusal, tagged_entry}
 use Rattle.script_semantics.specs.Place.{Hand, updated}
 use Rattle.transcript_laws.specs.Ahead.{IsAhead, IsCopyAhead, Idle, Fresh, HasPut, HasMarked, answers_marked}
-use Rattle.transcript_laws.specs.Laws.{BeginsAreTold, CommitsAreTold, FailuresStayAhead, LooksStayAhead, MarksStayAhead, NextStays, OthersStayAhead, RefusedInsertsAreTold, RollbacksAreTold, SelectsAreTold, StatementsAreTaken}
-use Rattle.transcripts.specs.Told.{Begins, Commits, IndexIsFull, IsSound, RollsBack, Selects, marked}
+use Rattle.transcript_laws.specs.Laws.{BeginsAreTold, CommitsAreTold, FailuresStayAhead, LooksStayAhead, MarksStayAhead, OthersStayAhead, RefusedInsertsAreTold, RollbacksAreTold, SelectsAreTold, StatementsAreTaken}
+use Rattle.transcripts.specs.Told.{Begins, Commits, IndexIsFull, RollsBack, Selects, marked}
 use Rattle.transcript_laws.proofs.Events.{fresh_same, goes, taken_over}
 
 no_hand : (hand : Hand) → None ≡ Some hand → ⊥

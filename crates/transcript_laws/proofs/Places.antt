@@ -1,5 +1,5 @@
 -- steps and submissions at a place
-use Rattle.std.proofs.Common.{◌≡◌, ◌≢◌, ◌⊎◌, inl, inr, ℕ, Bool, true, false, Option, None, Some, refl, sym, ap, subst, ◌∙◌}
+use Rattle.std.proofs.Common.{◌≡◌, ◌⊎◌, inl, inr, ℕ, true, Option, None, Some, refl, sym, ap, subst, ◌∙◌}
 use Rattle.std.proofs.lemmas.Bool.{cases_eq, false≢true}
 use Rattle.std.proofs.lemmas.Option.{none-some}
 use Rattle.std.specs.FinMap as map
@@ -20,7 +20,7 @@ use Rattle.script_semantics.proofs.Entering.{enters_its_own}
 use Rattle.transcripts.specs.Told as told
 use Rattle.transcripts.specs.Told.{BeginLacksMemory, IsOutside, Outside, Tells}
 use Rattle.transcript_laws.specs.Ahead.{IsAhead}
-use Rattle.transcript_laws.specs.PlaceLaws.{PlacesAreTold, RefusedIsTold, TakenIsAhead}
+use Rattle.transcript_laws.specs.PlaceLaws.{RefusedIsTold, TakenIsAhead}
 use Rattle.transcript_laws.specs.StepLaws.{IsAnswered, IsTold, limits_of}
 use Rattle.transcript_laws.proofs.Events.{updated_here, updated_there}
 use Rattle.transcript_laws.proofs.More.{others_ahead, same_copy, taken}

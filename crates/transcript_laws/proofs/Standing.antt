@@ -1,5 +1,5 @@
 -- how a statement in hand stands, and what all its requests are
-use Rattle.std.proofs.Common.{◌≡◌, ℕ, Bool, true, false, cond, ◌==◌, List, [], ◌∷◌, ◌++◌, Option, None, Some, refl, sym, ap, subst, ◌∙◌}
+use Rattle.std.proofs.Common.{◌≡◌, ℕ, true, false, cond, ◌==◌, List, [], ◌∷◌, ◌++◌, Option, None, Some, refl, sym, ap, subst, ◌∙◌}
 use Rattle.std.proofs.lemmas.Option.{none-some, same_Some}
 use Rattle.block_model.specs.declared.request.Entry.{Entry}
 use Rattle.block_model.specs.declared.row.Query.{Query}
@@ -11,7 +11,7 @@ use Rattle.block_model.specs.SerialRun.{serial_run}
 use Rattle.store_layout.specs.declared.statement.Statement.{Statement}
 use Rattle.store_layout.specs.declared.statement.Statement.TheVariants as statements
 use Rattle.script_semantics.specs.Place.{Hand, updated}
-use Rattle.script_semantics.specs.Requests.{Course, Enters, MakesAll, MakesOne, NoneLeft, OneMore, entered, next_request}
+use Rattle.script_semantics.specs.Requests.{Course, Enters, MakesAll, NoneLeft, OneMore, entered, next_request}
 use Rattle.transcripts.specs.Told.{marked}
 use Rattle.transcript_laws.specs.Ahead.{IsCopyAhead, Idle, Fresh, HasPut, HasMarked, answers_marked}
 

@@ -1,12 +1,11 @@
 -- all steps, by what was answered before them
-use Rattle.std.proofs.Common.{◌≡◌, ◌≢◌, ◌⊎◌, inl, inr, ℕ, Bool, true, false, List, [], ◌∷◌, ◌++◌, Option, None, Some, refl, sym, ap, subst, ◌∙◌}
+use Rattle.std.proofs.Common.{◌≡◌, ◌⊎◌, inl, inr, ℕ, List, [], ◌∷◌, ◌++◌, Option, None, Some, refl, sym, ap, subst, ◌∙◌}
 use Rattle.std.specs.Prelude.{IsTrue}
 use Rattle.std.proofs.lemmas.Bool.{false≢true}
 use Rattle.std.proofs.lemmas.Cmp.{nat_cmp_total}
 use Rattle.std.proofs.lemmas.List.{append-nil}
 use Rattle.std.proofs.lemmas.Option.{none-some, same_Some}
 use Rattle.std.specs.FinMap as map
-use Rattle.block_model.specs.declared.reply.Point.{Point}
 use Rattle.block_model.specs.declared.reply.Refusal.{Refusal}
 use Rattle.block_model.specs.declared.reply.Refusal.TheVariants as refusals
 use Rattle.block_model.specs.declared.reply.Reply.{Reply}
@@ -44,7 +43,7 @@ use Rattle.transcript_laws.proofs.Events.{puts}
 use Rattle.transcript_laws.proofs.Marking.{AtMarks, all_marks, looked, mark_told}
 use Rattle.transcript_laws.proofs.More.{refused_inserts}
 use Rattle.transcript_laws.proofs.Standing.{IsMarked, IsNew, IsPut, Stands, all_none, all_one, stands, updated_twice}
-use Rattle.transcript_laws.proofs.Steps.{After, at_course, begin_all, begin_allowed, behind, commit_all, delete_allowed, fails, insert_allowed, others, outside_all, put_told, rollback_all, select_all, select_allowed, sound_at, stays}
+use Rattle.transcript_laws.proofs.Steps.{begin_all, begin_allowed, behind, commit_all, delete_allowed, fails, insert_allowed, others, outside_all, put_told, rollback_all, select_all, select_allowed, sound_at, stays}
 
 no_answers : (a : Answer) (more : List Answer) → a ∷ more ≡ [] → ⊥
 no_answers a more e = cc

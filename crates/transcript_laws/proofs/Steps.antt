@@ -1,48 +1,34 @@
 -- each step of a statement in hand
-use Rattle.std.proofs.Common.{◌≡◌, ◌≢◌, ◌⊎◌, inl, inr, ℕ, ◌<◌, Bool, true, false, cond, List, [], ◌∷◌, ◌++◌, Option, None, Some, refl, sym, ap, subst, ◌∙◌}
-use Rattle.std.specs.Prelude.{codes, if◌then◌else◌}
-use Rattle.std.proofs.lemmas.Bool.{false≢true, true≢false}
-use Rattle.std.proofs.lemmas.Cmp.{nat_cmp_total}
-use Rattle.std.proofs.lemmas.List.{append-nil}
+use Rattle.std.proofs.Common.{◌≡◌, ℕ, ◌<◌, Bool, true, false, cond, List, [], ◌∷◌, ◌++◌, Option, None, Some, refl, sym, ap, subst, ◌∙◌}
+use Rattle.std.specs.Prelude.{if◌then◌else◌}
 use Rattle.std.proofs.lemmas.Option.{none-some, same_Some}
 use Rattle.std.specs.FinMap as map
-use Rattle.block_model.specs.declared.reply.Point.{Point}
-use Rattle.block_model.specs.declared.reply.Refusal.{Refusal}
 use Rattle.block_model.specs.declared.reply.Refusal.TheVariants as refusals
 use Rattle.block_model.specs.declared.reply.Reply.{Reply}
 use Rattle.block_model.specs.declared.reply.Reply.TheVariants as replies
 use Rattle.block_model.specs.declared.request.Entry.{Entry}
 use Rattle.block_model.specs.declared.request.Request.TheVariants as requests
-use Rattle.block_model.specs.declared.request.Tag.{Tag}
-use Rattle.block_model.specs.declared.request.Tag.TheVariants as tags
 use Rattle.block_model.specs.declared.row.Query.{Query}
-use Rattle.block_model.specs.declared.row.Row.{Row}
 use Rattle.block_model.specs.declared.value.Value.{Value}
 use Rattle.block_model.specs.DatabaseState.{DatabaseState, OpenTransaction}
-use Rattle.block_model.specs.NumberMaps.{get_put_here}
-use Rattle.block_model.specs.RequestEffect.{Answer, Begun, Committed, Found, Inserted, RolledBack, after_begin, after_commit, after_failure, after_put, after_request, effect, effect_at, failed_transaction, next_row, reply_to, rows_found, with_transaction, without_transaction}
+use Rattle.block_model.specs.RequestEffect.{Answer, Begun, Committed, Found, RolledBack, after_begin, after_commit, after_failure, after_put, after_request, effect, next_row, rows_found, with_transaction, without_transaction}
 use Rattle.block_model.specs.RequestLaws.{effect_by}
 use Rattle.block_model.specs.SerialRun.{serial_run, serial_run-append}
 use Rattle.store_layout.specs.declared.statement.Statement.{Statement}
 use Rattle.store_layout.specs.declared.statement.Statement.TheVariants as statements
 use Rattle.store_layout.specs.DiskLayout.{DiskLayout}
-use Rattle.store_layout.specs.HeapRoom.{full_table}
-use Rattle.store_layout.specs.StatementRequests.{begin_reply, end_reply, insert_reply, look_entry, refusal_at, reply_to_statement, request_entry, select_reply, submission_refusal, tagged_entry}
+use Rattle.store_layout.specs.StatementRequests.{begin_reply, end_reply, look_entry, refusal_at, request_entry, select_reply, submission_refusal}
 use Rattle.model_laws.specs.NoRowRemovedTwice.{IsOpening}
-use Rattle.script_semantics.specs.Laws.{IsTransactional}
 use Rattle.script_semantics.specs.Place.{Hand, updated}
-use Rattle.script_semantics.specs.Requests.{Course, Enters, First, Further, MakesAll, MakesMark, MakesOne, entered, next_request, refused_request}
-use Rattle.script_semantics.specs.RequestSteps.{EndsBare, EndsWithout, EntersAll, EntersMark, EntersNone, EntersPut, EntersRefused, FailsSo, IsRepliedSo, ItsIndexIsFull, MaintenanceWants, MemoryIsShort, NoneAsked, NoneLeft, RequestStep, StaysWaiting, TableIsFull, course_in}
-use Rattle.script_semantics.specs.StatementSteps.{Ended, IsInsert, IsOneLeft, Moved, Outcome, Waits, full_index, numbers_of}
-use Rattle.transcripts.specs.Told as told
-use Rattle.transcripts.specs.Told.{BeginLacksMemory, Deleting, InsertLacksMemory, IsOutside, IsSound, LacksMemory, Limits, NoNumber, Outside, SelectLacksMemory, Tells, marked}
-use Rattle.transcript_laws.specs.Ahead.{IsAhead, IsCopyAhead, answers_marked}
+use Rattle.script_semantics.specs.Requests.{Course, MakesAll, entered, next_request}
+use Rattle.script_semantics.specs.StatementSteps.{numbers_of}
+use Rattle.transcripts.specs.Told.{IsOutside, IsSound, Limits, Outside, Tells}
+use Rattle.transcript_laws.specs.Ahead.{IsAhead, IsCopyAhead}
 use Rattle.transcript_laws.specs.Laws.{NextStays}
-use Rattle.transcript_laws.specs.StepLaws.{IsAnswered, IsTold, StepsAreTold, limits_of}
-use Rattle.transcript_laws.proofs.Events.{goes, inserts_told, puts, updated_here}
-use Rattle.transcript_laws.proofs.Marking.{AtMarks, HasMark, Marks, Meets, all_marks, none_behind, one_mark}
-use Rattle.transcript_laws.proofs.More.{begins, commits, failures, looks, others_ahead, refused_inserts, rollbacks, selects}
-use Rattle.transcript_laws.proofs.Standing.{IsMarked, IsNew, IsPut, Stands, all_none, all_one, stands, updated_twice}
+use Rattle.transcript_laws.specs.StepLaws.{IsAnswered, limits_of}
+use Rattle.transcript_laws.proofs.Events.{goes, inserts_told}
+use Rattle.transcript_laws.proofs.More.{begins, commits, failures, others_ahead, rollbacks, selects}
+use Rattle.transcript_laws.proofs.Standing.{all_none, all_one}
 
 -- ---- what is taken has its transaction
 

@@ -1,8 +1,6 @@
 -- Each step of a statement in hand keeps the journal ahead of the transcript, or tells the transcript its next entry.
-use Rattle.std.specs.Prelude.{◌≡◌, ◌≢◌, ℕ, List, Option, None, Some}
-use Rattle.block_model.specs.declared.reply.Refusal.{Refusal}
+use Rattle.std.specs.Prelude.{◌≡◌, ℕ, List, Option, Some}
 use Rattle.block_model.specs.declared.reply.Reply.{Reply}
-use Rattle.block_model.specs.declared.reply.Reply.TheVariants as replies
 use Rattle.block_model.specs.declared.request.Entry.{Entry}
 use Rattle.block_model.specs.DatabaseState.{DatabaseState}
 use Rattle.block_model.specs.SerialRun.{serial_run}
@@ -10,10 +8,9 @@ use Rattle.store_layout.specs.declared.statement.Statement.{Statement}
 use Rattle.store_layout.specs.HeapRoom.{full_table}
 use Rattle.store_layout.specs.DiskLayout.{DiskLayout}
 use Rattle.model_laws.specs.NoRowRemovedTwice.{IsOpening}
-use Rattle.script_semantics.specs.LineTexts.{Submits}
-use Rattle.script_semantics.specs.Place.{Hand, Place, database_at, updated}
-use Rattle.script_semantics.specs.RequestSteps.{IsAnsweredInPlace, RequestStep}
-use Rattle.script_semantics.specs.StatementSteps.{Outcome, Moved, Ended, Waits, StepsTo, full_index, numbers_of}
+use Rattle.script_semantics.specs.Place.{Hand, updated}
+use Rattle.script_semantics.specs.RequestSteps.{RequestStep}
+use Rattle.script_semantics.specs.StatementSteps.{Outcome, Moved, Ended, Waits, full_index, numbers_of}
 use Rattle.transcripts.specs.Told.{Limits, Tells}
 use Rattle.transcript_laws.specs.Ahead.{IsAhead}
 use Rattle.transcript_laws.specs.Laws.{NextStays}

@@ -3,6 +3,7 @@
 #![tactic(auto)]
 
 ghost use Rattle.transcript_laws.specs.Laws.{BeginsAreTold, CommitsAreTold, ConflictsAreTold, DeletesAreTold, FailedDeletesAreTold, FailuresStayAhead, InsertsAreTold, LooksStayAhead, MarkedRowsAreFree, MarksStayAhead, OthersStayAhead, PutsStayAhead, RefusedInsertsAreTold, RollbacksAreTold, SelectsAreTold, StatementsAreTaken};
+ghost use Rattle.transcript_laws.specs.EntryLaws.{AnswersAreEntries, BeginsAhead};
 ghost use Rattle.transcript_laws.specs.PlaceLaws.{PlacesAreTold, RefusedIsTold, TakenIsAhead};
 ghost use Rattle.transcript_laws.specs.StepLaws.{StepsAreTold};
 
@@ -54,4 +55,10 @@ pub fn a_step_is_told()
 pub fn a_submission_is_told()
     ensures taken { TakenIsAhead }
     ensures refused { RefusedIsTold }
+{}
+
+/// With nothing in hand each database is ahead of itself; and the answer to a session's next line makes one entry more of a right transcript. Does nothing.
+pub fn an_answer_is_an_entry()
+    ensures begins { BeginsAhead }
+    ensures entry { AnswersAreEntries }
 {}
