@@ -20,7 +20,7 @@ use Rattle.script_semantics.specs.Place.{Hand}
 use Rattle.transcript_laws.specs.Ahead.{IsAhead, IsCopyAhead, Idle, Fresh, HasPut, HasMarked}
 use Rattle.transcript_laws.specs.Laws.{ConflictsAreTold, MarkedRowsAreFree}
 use Rattle.transcripts.specs.Told.{MayConflict, marked}
-use Rattle.transcript_laws.proofs.Maps.{any_entry, no_entry, some_entry}
+use Rattle.transcripts.proofs.Maps.{any_entry, no_entry, some_entry}
 
 -- ---- marks of a transaction
 

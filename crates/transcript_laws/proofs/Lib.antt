@@ -1,4 +1,3 @@
-pub mod Maps
 pub mod Conflicts
 pub mod Events
 pub mod More

@@ -1,5 +1,5 @@
 -- what one entry tells, against the requests of its statement
-use Rattle.std.proofs.Common.{◌≡◌, ◌⊎◌, inl, inr, ℕ, Bool, true, false, [], ◌∷◌, Option, None, Some, refl, sym, ap, subst, ◌∙◌}
+use Rattle.std.proofs.Common.{◌≡◌, ◌≢◌, ◌⊎◌, inl, inr, ℕ, Bool, true, false, [], ◌∷◌, Option, None, Some, refl, sym, ap, subst, ◌∙◌}
 use Rattle.std.specs.Prelude.{if◌then◌else◌}
 use Rattle.std.proofs.lemmas.Option.{none-some}
 use Rattle.block_model.specs.declared.reply.Refusal.TheVariants as refusals
@@ -14,9 +14,10 @@ use Rattle.block_model.specs.RequestLaws.{effect_by}
 use Rattle.store_layout.specs.declared.statement.Statement.{Statement}
 use Rattle.store_layout.specs.declared.statement.Statement.TheVariants as statements
 use Rattle.store_layout.specs.StatementRequests.{begin_reply, end_reply, insert_reply, look_entry, refusal_at, request_entry, select_reply}
-use Rattle.transcripts.specs.Laws.{ConflictHasCause, ConflictsHaveCauses, IsAsRequested, IsOneRequest, IsWanting, OfIndex, OfMemory, OfNumbers, OfTable, OneRequestIsTold}
+use Rattle.transcripts.specs.Laws.{ConflictHasCause, ConflictsHaveCauses, DeleteAloneIsTold, IsAsRequested, IsOneRequest, IsWanting, OfIndex, OfMemory, OfNumbers, OfTable, OneRequestIsTold}
 use Rattle.transcripts.specs.Told.{BeginLacksMemory, Begins, Commits, Deletes, Deleting, FailsAt, IndexIsFull, InsertLacksMemory, Inserts, IsOutside, IsSound, LacksMemory, Limits, MarksAll, NoNumber, NotTaken, Outside}
 use Rattle.transcripts.specs.Told.{RollsBack, SelectLacksMemory, Selects, TableIsFull, Tells}
+use Rattle.transcripts.proofs.Alone.{delete_told}
 
 not_both : (statement : Statement) → IsOneRequest statement → IsOutside statement → ⊥
 not_both statements.Begin one out = out
@@ -91,3 +92,15 @@ one_request_told limits next s after n statement reply one free tells = one_told
 
 pub conflicts_have_causes : ConflictsHaveCauses
 conflicts_have_causes limits next s after n q id free tells = cause_of limits next s n q id (statements.Delete q) (replies.Refused (refusals.Conflict id)) after free tells refl refl
+
+-- the same by the statement
+alone_told : (limits : Limits) (next : ℕ → Option Statement) (s : DatabaseState) (n : ℕ) (q : Query) (statement : Statement) (reply : Reply) (after : DatabaseState) → refusal_at s n statement ≡ None
+    → ((m : ℕ) (other : Query) → m ≢ n → next m ≢ Some (statements.Delete other)) → Tells limits next s n statement reply after → statement ≡ statements.Delete q
+    → IsAsRequested limits s n statement reply after ⊎ IsWanting limits reply
+alone_told limits next s n q _ _ _ free alone (NotTaken statement refusal taken) is = absurd (none-some refusal (sym free ∙ taken))
+alone_told limits next s n q _ _ _ free alone (Deleting x y own reply sound deletes) is = delete_told limits next s n own x sound alone reply y deletes
+alone_told limits next s n q _ _ _ free alone (Outside statement reply out) is = absurd (subst IsOutside is out)
+alone_told limits next s n q _ _ _ free alone tells is = absurd (cc)
+
+pub delete_alone_told : DeleteAloneIsTold
+delete_alone_told limits next s after n q reply free alone tells = alone_told limits next s n q (statements.Delete q) reply after free alone tells refl

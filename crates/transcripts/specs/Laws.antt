@@ -56,6 +56,12 @@ abbrev pub OneRequestIsTold : Type 0
 OneRequestIsTold = (limits : Limits) (next : ℕ → Option Statement) (s after : DatabaseState) (n : ℕ) (statement : Statement) (reply : Reply) → IsOneRequest statement → refusal_at s n statement ≡ None
     → Tells limits next s n statement reply after → IsAsRequested limits s n statement reply after ⊎ IsWanting limits reply
 
+-- so is a delete that is taken where no other session's next statement is one
+abbrev pub DeleteAloneIsTold : Type 0
+DeleteAloneIsTold = (limits : Limits) (next : ℕ → Option Statement) (s after : DatabaseState) (n : ℕ) (q : Query) (reply : Reply) → refusal_at s n (statements.Delete q) ≡ None
+    → ((m : ℕ) (other : Query) → m ≢ n → next m ≢ Some (statements.Delete other)) → Tells limits next s n (statements.Delete q) reply after
+    → IsAsRequested limits s n (statements.Delete q) reply after ⊎ IsWanting limits reply
+
 -- a row that the transaction finds and that isn't its own, and it must conflict, or may
 pub record ConflictHasCause (next : ℕ → Option Statement) (s : DatabaseState) (n : ℕ) (q : Query) (id : RowId) : Type 0 where
   pub transaction : OpenTransaction
