@@ -147,9 +147,19 @@ its_mark next s n m now _ z id apart (HasMarked x q rows left was whole finds ma
     elim (marks_from x rows id (subst (λ (t : OpenTransaction). set.contains t.marks id ≡ true) (sym (same_Some (marked x rows) z (sym marks ∙ is))) has)) [
       | inl old ↦ inl (held_by s n m x id apart was old)
       | inr mark ↦ inr (record {
-          other = m; apart = apart; query = q; is_delete = lines _ refl; transaction = x; under_way = was; sound = whole; before = mark.0; row = mark.1; after = mark.2 ++ left;
-          finds = finds ∙ ap (λ (l : List Row). l ++ left) mark.3 ∙ append_assoc mark.0 (mark.1 ∷ mark.2) left; is = mark.4;
-        })
+        other = m;
+        apart = apart;
+        query = q;
+        is_delete = lines _ refl;
+        transaction = x;
+        under_way = was;
+        sound = whole;
+        before = mark.0;
+        row = mark.1;
+        after = mark.2 ++ left;
+        finds = finds ∙ ap (λ (l : List Row). l ++ left) mark.3 ∙ append_assoc mark.0 (mark.1 ∷ mark.2) left;
+        is = mark.4;
+      })
     ]
 
 pub conflicts_told : ConflictsAreTold

@@ -131,9 +131,9 @@ failed_deletes_told limits next next' hands d s n q x before row after was apart
     let done : effect d e ≡ mark_effect d n (marked x before) row.id true = effect_by d e (Some (marked x before)) got ∙ ap (λ b. mark_effect d n (marked x before) row.id b) conflict in
     let state : after_request d e ≡ after_failure d n (marked x before) = ap (λ (p : _). p.0) done in (
       Deleting x y q (replies.Refused (refusals.Conflict row.id)) sound
-        (FailsAt before row after finds (marked_free next hands d s n x before was apart got) (conflicts_told next hands d s n x (marked x before) row.id was (same_number x before) conflict)),
+          (FailsAt before row after finds (marked_free next hands d s n x before was apart got) (conflicts_told next hands d s n x (marked x before) row.id was (same_number x before) conflict)),
       taken_over next next' hands d s n y was nexts (after_request d e) (ap (λ (t : DatabaseState). t.next) state) (ap (λ (t : DatabaseState). t.table) state)
-        (λ m other. others_stay d e m other) (ap (λ (t : DatabaseState). map.get t.sessions n) state ∙ get_put_here nat_cmp_total d.sessions n y),
+          (λ m other. others_stay d e m other) (ap (λ (t : DatabaseState). map.get t.sessions n) state ∙ get_put_here nat_cmp_total d.sessions n y),
     )
 
 pub begins_ahead : BeginsAhead

@@ -102,7 +102,7 @@ module _ (limits : Limits) (opening s : DatabaseState) (next : ℕ → Option St
   by_row hands c rows left row rest at is true conflict =
       let d = serial_run opening c.journal in
       let done : effect d (mark_entry n q.table row) ≡ mark_effect d n (marked x rows) row.id true =
-        effect_by d (mark_entry n q.table row) (Some (marked x rows)) at.now ∙ ap (λ b. mark_effect d n (marked x rows) row.id b) conflict in
+      effect_by d (mark_entry n q.table row) (Some (marked x rows)) at.now ∙ ap (λ b. mark_effect d n (marked x rows) row.id b) conflict in
       Meets row rest is conflict refl (ap (λ (l : List Answer). l ++ reply_to d (mark_entry n q.table row) ∷ []) at.answers ∙ ap (λ (p : DatabaseState × Answer). answers_behind rows ++ p.1 ∷ []) done)
   by_row hands c rows left row rest at is false free =
       let d = serial_run opening c.journal in
@@ -114,10 +114,10 @@ module _ (limits : Limits) (opening s : DatabaseState) (next : ℕ → Option St
         ahead = subst (λ (t : DatabaseState). IsAhead next (updated hands n (Some (hand_behind (rows ++ row ∷ [])))) t s) (sym run) (marks next hands d s n q x rows row rest at.ahead sound at.in_hand at.now finds free);
         in_hand = updated_here hands n (Some (hand_behind (rows ++ row ∷ [])));
         answers = ap (λ (l : List Answer). l ++ reply_to d e ∷ []) at.answers ∙ ap (λ (p : DatabaseState × Answer). answers_behind rows ++ p.1 ∷ []) done
-          ∙ ap (λ (l : List Answer). Found (rows_found x q) ∷ l) (one_more_marked rows row);
+            ∙ ap (λ (l : List Answer). Found (rows_found x q) ∷ l) (one_more_marked rows row);
         finds = finds ∙ sym (append_assoc rows (row ∷ []) rest);
         now = ap (λ (t : DatabaseState). map.get t.sessions n) (run ∙ ap (λ (p : DatabaseState × Answer). p.0) done) ∙ get_put_here nat_cmp_total d.sessions n (after_mark (marked x rows) row.id)
-          ∙ ap (λ (t : OpenTransaction). Some t) (sym (marked_more x rows row));
+            ∙ ap (λ (t : OpenTransaction). Some t) (sym (marked_more x rows row));
       })
 
   by_left : (hands : ℕ → Option Hand) (c : Course) (rows left : List Row) (e : Entry) → AtMarks hands c rows left → (l : List Row) → left ≡ l → option_map (mark_entry n q.table) (first_of l) ≡ Some e
@@ -159,7 +159,7 @@ module _ (limits : Limits) (opening s : DatabaseState) (next : ℕ → Option St
       let run : serial_run opening f.journal ≡ after_request d e = ap (serial_run opening) behind ∙ serial_run-append opening c.journal (e ∷ []) in
       let told : replies.Refused (refusals.Conflict row.id) ≡ reply = sym (same_Some _ _ (replied ∙ ap deleted_reply are ∙ one_conflicts 0 rows row.id)) in
       let tell = λ (next' : ℕ → Option Statement) (nexts : NextStays next next' n). failed_deletes_told limits next next' hands d s n q x rows row rest at.ahead (marks_are_apart opening c.journal opens) sound
-        (at.finds ∙ ap (λ (l : List Row). rows ++ l) is) at.now conflict nexts in
+      (at.finds ∙ ap (λ (l : List Row). rows ++ l) is) at.now conflict nexts in
       subst (Answer_at hands f) told (
         with_transaction s n (failed_transaction (marked x rows)),
         (tell next (λ m other. refl)).0,
@@ -202,8 +202,8 @@ module _ (limits : Limits) (opening s : DatabaseState) (next : ℕ → Option St
       let run : serial_run opening (journal ++ e ∷ []) ≡ after_request d e = serial_run-append opening journal (e ∷ []) in
       record {
         ahead = subst (λ (t : DatabaseState). IsAhead next (updated hands n (Some (hand_behind []))) t s) (sym run)
-          (subst (λ (a : Answer). IsAhead next (updated hands n (Some (record { statement = statements.Delete q; answers = a ∷ [] }))) (after_request d e) s) (ap (λ (p : DatabaseState × Answer). p.1) done)
-          (looks next hands d s n q x was sound has));
+            (subst (λ (a : Answer). IsAhead next (updated hands n (Some (record { statement = statements.Delete q; answers = a ∷ [] }))) (after_request d e) s) (ap (λ (p : DatabaseState × Answer). p.1) done)
+            (looks next hands d s n q x was sound has));
         in_hand = updated_here hands n (Some (hand_behind []));
         answers = ap (λ (p : DatabaseState × Answer). p.1 ∷ []) done;
         finds = refl;

@@ -43,7 +43,7 @@ taken next hands d s n statement was idle =
     let alike : refusal_at s n statement ≡ refusal_at d n statement = ap (λ (o : Option OpenTransaction). submission_refusal o statement) (sym same) in (
       alike,
       λ free line. goes next next hands (Some (record { statement = statement; answers = [] })) d d s s n was was.number was.table (λ m apart. refl) (λ m apart. refl) (λ m apart. refl) (Fresh statement same)
-        (λ hand is. (line ∙ ap (λ (g : Hand). Some g.statement) (same_Some _ _ is), ap (λ (g : Hand). refusal_at s n g.statement) (sym (same_Some _ _ is)) ∙ alike ∙ free)),
+          (λ hand is. (line ∙ ap (λ (g : Hand). Some g.statement) (same_Some _ _ is), ap (λ (g : Hand). refusal_at s n g.statement) (sym (same_Some _ _ is)) ∙ alike ∙ free)),
     )
 
 pub looks : LooksStayAhead
@@ -80,10 +80,10 @@ begins limits next next' hands d s n was none now room nexts =
     let same : new_transaction d ≡ new_transaction s = (λ i. record { t = was.number i; next_k = 0; view = was.table i; marks = set.empty; failed = false }) in (
       Begins none room,
       subst (λ (t : DatabaseState). IsAhead next' (updated hands n None) t (after_begin s n)) (sym done)
-        (goes next next' hands None d (after_begin d n) s (after_begin s n) n was (ap (λ (k : ℕ). k + 1) was.number) was.table
-        (λ m apart. get_put_apart nat_cmp_total d.sessions n m (new_transaction d) (numbers_apart m n apart)) (λ m apart. get_put_apart nat_cmp_total s.sessions n m (new_transaction s) (numbers_apart m n apart)) nexts
-        (Idle (get_put_here nat_cmp_total d.sessions n (new_transaction d) ∙ ap (λ (t : OpenTransaction). Some t) same ∙ sym (get_put_here nat_cmp_total s.sessions n (new_transaction s))))
-        (λ hand no. absurd (no_hand hand no))),
+          (goes next next' hands None d (after_begin d n) s (after_begin s n) n was (ap (λ (k : ℕ). k + 1) was.number) was.table
+          (λ m apart. get_put_apart nat_cmp_total d.sessions n m (new_transaction d) (numbers_apart m n apart)) (λ m apart. get_put_apart nat_cmp_total s.sessions n m (new_transaction s) (numbers_apart m n apart)) nexts
+          (Idle (get_put_here nat_cmp_total d.sessions n (new_transaction d) ∙ ap (λ (t : OpenTransaction). Some t) same ∙ sym (get_put_here nat_cmp_total s.sessions n (new_transaction s))))
+          (λ hand no. absurd (no_hand hand no))),
     )
 
 pub commits : CommitsAreTold
@@ -92,9 +92,9 @@ commits limits next next' hands d s n x was before now nexts =
     let done : after_request d e ≡ after_commit d n x = ap (λ (p : DatabaseState × Answer). p.0) (effect_by d e (Some x) now) in (
       Commits x before,
       subst (λ (t : DatabaseState). IsAhead next' (updated hands n None) t (after_commit s n x)) (sym done)
-        (goes next next' hands None d (after_commit d n x) s (after_commit s n x) n was was.number (ap (λ t. table_after_commit t x) was.table)
-        (λ m apart. get_removed_apart nat_cmp_total d.sessions n m (numbers_apart m n apart)) (λ m apart. get_removed_apart nat_cmp_total s.sessions n m (numbers_apart m n apart)) nexts
-        (Idle (get_removed_here nat_cmp_total d.sessions n ∙ sym (get_removed_here nat_cmp_total s.sessions n))) (λ hand no. absurd (no_hand hand no))),
+          (goes next next' hands None d (after_commit d n x) s (after_commit s n x) n was was.number (ap (λ t. table_after_commit t x) was.table)
+          (λ m apart. get_removed_apart nat_cmp_total d.sessions n m (numbers_apart m n apart)) (λ m apart. get_removed_apart nat_cmp_total s.sessions n m (numbers_apart m n apart)) nexts
+          (Idle (get_removed_here nat_cmp_total d.sessions n ∙ sym (get_removed_here nat_cmp_total s.sessions n))) (λ hand no. absurd (no_hand hand no))),
     )
 
 pub rollbacks : RollbacksAreTold
@@ -103,9 +103,9 @@ rollbacks limits next next' hands d s n x was before now nexts =
     let done : after_request d e ≡ without_transaction d n = ap (λ (p : DatabaseState × Answer). p.0) (effect_by d e (Some x) now) in (
       RollsBack x before,
       subst (λ (t : DatabaseState). IsAhead next' (updated hands n None) t (without_transaction s n)) (sym done)
-        (goes next next' hands None d (without_transaction d n) s (without_transaction s n) n was was.number was.table
-        (λ m apart. get_removed_apart nat_cmp_total d.sessions n m (numbers_apart m n apart)) (λ m apart. get_removed_apart nat_cmp_total s.sessions n m (numbers_apart m n apart)) nexts
-        (Idle (get_removed_here nat_cmp_total d.sessions n ∙ sym (get_removed_here nat_cmp_total s.sessions n))) (λ hand no. absurd (no_hand hand no))),
+          (goes next next' hands None d (without_transaction d n) s (without_transaction s n) n was was.number was.table
+          (λ m apart. get_removed_apart nat_cmp_total d.sessions n m (numbers_apart m n apart)) (λ m apart. get_removed_apart nat_cmp_total s.sessions n m (numbers_apart m n apart)) nexts
+          (Idle (get_removed_here nat_cmp_total d.sessions n ∙ sym (get_removed_here nat_cmp_total s.sessions n))) (λ hand no. absurd (no_hand hand no))),
     )
 
 pub selects : SelectsAreTold
@@ -114,7 +114,7 @@ selects limits next next' hands d s n q x was sound now nexts =
     let done : after_request d e ≡ d = ap (λ (p : DatabaseState × Answer). p.0) (effect_by d e (Some x) now) in (
       Selects x q sound,
       subst (λ (t : DatabaseState). IsAhead next' (updated hands n None) t s) (sym done)
-        (goes next next' hands None d d s s n was was.number was.table (λ m apart. refl) (λ m apart. refl) nexts (Idle (now ∙ sym sound.under_way)) (λ hand no. absurd (no_hand hand no))),
+          (goes next next' hands None d d s s n was was.number was.table (λ m apart. refl) (λ m apart. refl) nexts (Idle (now ∙ sym sound.under_way)) (λ hand no. absurd (no_hand hand no))),
     )
 
 pub refused_inserts : RefusedInsertsAreTold
@@ -124,7 +124,7 @@ refused_inserts limits next next' hands d s n table values x at was sound now ne
     let done : after_request d e ≡ after_failure d n (after_put x table values) = ap (λ (p : DatabaseState × Answer). p.0) (effect_by d e (Some (after_put x table values)) now) in (
       IndexIsFull x table at values sound,
       taken_over next next' hands d s n y was nexts (after_request d e) (ap (λ (t : DatabaseState). t.next) done) (ap (λ (t : DatabaseState). t.table) done)
-        (λ m other. others_stay d e m other) (ap (λ (t : DatabaseState). map.get t.sessions n) done ∙ get_put_here nat_cmp_total d.sessions n y),
+          (λ m other. others_stay d e m other) (ap (λ (t : DatabaseState). map.get t.sessions n) done ∙ get_put_here nat_cmp_total d.sessions n y),
     )
 
 pub failures : FailuresStayAhead

@@ -107,7 +107,7 @@ module _ (p : Place) (s : DatabaseState) (next : ℕ → Option Statement) (n : 
     s,
     tell,
     λ next' nexts. subst (λ (h : ℕ → Option Hand). IsAhead next' h (database_at p) s) (but_one p.hands p.hands n None idle (λ m. inr refl))
-      (others_ahead next next' p.hands (database_at p) s n was (same_copy next p.hands (database_at p) s n was idle) nexts),
+        (others_ahead next next' p.hands (database_at p) s n was (same_copy next p.hands (database_at p) s n was idle) nexts),
   )
 
 pub refused_told : RefusedIsTold

@@ -33,7 +33,7 @@ pub updated_twice : {A : Type 0} (f : ℕ → A) (n : ℕ) (a b : A) → updated
 updated_twice f n a b = λ i. λ m. each m i
   where
     each : (m : ℕ) → updated (updated f n a) n b m ≡ updated f n b m
-    each m = elim (m == n) as (λ c. cond c b (cond c a (f m)) ≡ cond c b (f m)) [ | true ↦ refl | false ↦ refl ]
+    each m = elim (m == n) as (λ c. cond c b (cond c a (f m)) ≡ cond c b (f m)) [ true ↦ refl | false ↦ refl ]
 
 module _ (opening : DatabaseState) (n : ℕ) (statement : Statement) where
   -- no request is left

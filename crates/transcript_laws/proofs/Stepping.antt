@@ -105,9 +105,9 @@ module _ (layout : DiskLayout) (opening s : DatabaseState) (next : ℕ → Optio
       let h : Option Hand = Some (record { statement = statements.Insert table values; answers = reply_to d e ∷ [] }) in
       let ahead : IsAhead next (updated hands n h) (serial_run opening (journal ++ e ∷ [])) s = subst (λ (t : DatabaseState). IsAhead next (updated hands n h) t s) (sym run) (puts next hands d s n table values was has) in
       let now : map.get (serial_run opening (journal ++ e ∷ [])).sessions n ≡ Some (after_put x table values) =
-        ap (λ (t : DatabaseState). map.get t.sessions n) (run ∙ ap (λ (p : DatabaseState × Answer). p.0) done) ∙ get_put_here nat_cmp_total d.sessions n (after_put x table values) in
+      ap (λ (t : DatabaseState). map.get t.sessions n) (run ∙ ap (λ (p : DatabaseState × Answer). p.0) done) ∙ get_put_here nat_cmp_total d.sessions n (after_put x table values) in
       let reply_is : reply ≡ replies.Inserted (next_row x table values).id =
-        same_Some _ _ (replied ∙ ap (λ (c : Course). insert_reply (full_table layout table) c.answers) f_is ∙ ap (λ (p : DatabaseState × Answer). insert_reply (full_table layout table) (p.1 ∷ [])) done) in
+      same_Some _ _ (replied ∙ ap (λ (c : Course). insert_reply (full_table layout table) c.answers) f_is ∙ ap (λ (p : DatabaseState × Answer). insert_reply (full_table layout table) (p.1 ∷ [])) done) in
       subst (λ (c : Course). Ends (statements.Insert table values) c.journal reply) (sym f_is)
       (subst (λ (g : ℕ → Option Hand). IsAnswered (limits_of layout) next g (serial_run opening (journal ++ e ∷ [])) s n (statements.Insert table values) reply) (updated_twice hands n h None)
       (put_told layout opening s next (updated hands n h) n (journal ++ e ∷ []) opens ahead x table values reply some.1 now reply_is))
@@ -134,7 +134,7 @@ module _ (layout : DiskLayout) (opening s : DatabaseState) (next : ℕ → Optio
       let at = looked (limits_of layout) opening s next n q x opens some.1 hands journal was has (same ∙ some.1.under_way) in
       let h : Option Hand = Some (record { statement = statements.Delete q; answers = Found (rows_found x q) ∷ [] }) in
       let more : MakesAll opening n (statements.Delete q) (entered opening new_course (look_entry n q)) f =
-        subst (λ (k : Entry). MakesAll opening n (statements.Delete q) (entered opening new_course k) f) (same_Some e _ (sym is)) all in
+      subst (λ (k : Entry). MakesAll opening n (statements.Delete q) (entered opening new_course k) f) (same_Some e _ (sym is)) all in
       subst (λ (g : ℕ → Option Hand). IsAnswered (limits_of layout) next g (serial_run opening f.journal) s n (statements.Delete q) reply) (updated_twice hands n h None)
       (all_marks (limits_of layout) opening s next n q x opens some.1 (updated hands n h) (entered opening new_course (look_entry n q)) f [] (rows_found x q) reply at more replied)
 
@@ -153,7 +153,7 @@ module _ (layout : DiskLayout) (opening s : DatabaseState) (next : ℕ → Optio
       let at = looked (limits_of layout) opening s next n q x opens some.1 hands journal was has (same ∙ some.1.under_way) in
       let h : Option Hand = Some (record { statement = statements.Delete q; answers = Found (rows_found x q) ∷ [] }) in
       let one : MakesOne opening n (statements.Delete q) (entered opening new_course (look_entry n q)) c =
-        subst (λ (k : Entry). MakesOne opening n (statements.Delete q) (entered opening new_course k) c) (same_Some e _ (sym is)) two in
+      subst (λ (k : Entry). MakesOne opening n (statements.Delete q) (entered opening new_course k) c) (same_Some e _ (sym is)) two in
       subst (λ (g : ℕ → Option Hand). IsAhead next g (serial_run opening c.journal) s) (updated_twice hands n h (Some (record { statement = statements.Delete q; answers = c.answers })))
       (mark_told (limits_of layout) opening s next n q x opens some.1 (updated hands n h) (entered opening new_course (look_entry n q)) c [] (rows_found x q) at one left)
   new_mark statement c same taken has (First c1 _ none one two) left = absurd (none_second statement c1 c (λ a. refl) one two)

@@ -101,9 +101,13 @@ module _ (layout : DiskLayout) (opening s : DatabaseState) (next : ℕ → Optio
   -- a request fails the transaction
   pub fails : (statement : Statement) (e : Entry) (x : OpenTransaction) (reply : Reply) → e.session ≡ n → after_request d e ≡ after_failure d n x → Tells limits next s n statement reply (after_failure s n x)
       → After statement (journal ++ e ∷ []) reply
-  fails statement e x reply own done tells = behind statement e reply (after_failure s n x, tells, λ next' nexts.
-      subst (λ (m : ℕ). IsAhead next' (updated hands m None) (after_request d e) (after_failure s m x)) own
-        (failures next next' hands d s e x was (done ∙ ap (λ (m : ℕ). after_failure d m x) (sym own)) (subst (NextStays next next') (sym own) nexts)))
+  fails statement e x reply own done tells = behind statement e reply (
+    after_failure s n x,
+    tells,
+    λ next' nexts.
+        subst (λ (m : ℕ). IsAhead next' (updated hands m None) (after_request d e) (after_failure s m x)) own
+        (failures next next' hands d s e x was (done ∙ ap (λ (m : ℕ). after_failure d m x) (sym own)) (subst (NextStays next next') (sym own) nexts)),
+  )
 
   pub at_course : (f : Course) (statement : Statement) (reply : Reply) (now : Course) → f ≡ now → After statement now.journal reply → After statement f.journal reply
   at_course f statement reply now same done = subst (λ (c : Course). After statement c.journal reply) (sym same) done
@@ -125,12 +129,12 @@ module _ (layout : DiskLayout) (opening s : DatabaseState) (next : ℕ → Optio
       let f_is : f ≡ entered opening new_course e = all_one opening n statements.Begin new_course f e refl (λ a. refl) all in
       let done : effect d e ≡ (after_begin d n, Begun d.next) = effect_by d e None (same ∙ none) in
       let reply_is : replies.Begun s.next ≡ reply =
-        ap (λ (k : ℕ). replies.Begun k) (sym was.number) ∙ sym (same_Some _ _ (replied ∙ ap (λ (c : Course). begin_reply c.answers) f_is ∙ ap (λ (p : DatabaseState × Answer). begin_reply (p.1 ∷ [])) done)) in
+      ap (λ (k : ℕ). replies.Begun k) (sym was.number) ∙ sym (same_Some _ _ (replied ∙ ap (λ (c : Course). begin_reply c.answers) f_is ∙ ap (λ (p : DatabaseState × Answer). begin_reply (p.1 ∷ [])) done)) in
       let room = subst (λ (k : ℕ). k < numbers_of layout) was.number number in
       let tell = λ (next' : ℕ → Option Statement) (nexts : NextStays next next' n). begins limits next next' hands d s n was none (same ∙ none) room nexts in
       at_course f statements.Begin reply (entered opening new_course e) f_is
-        (behind statements.Begin e reply (subst (IsAnswered limits next (updated hands n None) (after_request d e) s n statements.Begin) reply_is
-        (after_begin s n, (tell next (λ m other. refl)).0, λ next' nexts. (tell next' nexts).1)))
+      (behind statements.Begin e reply (subst (IsAnswered limits next (updated hands n None) (after_request d e) s n statements.Begin) reply_is
+      (after_begin s n, (tell next (λ m other. refl)).0, λ next' nexts. (tell next' nexts).1)))
 
   pub commit_all : (f : Course) (reply : Reply) → map.get d.sessions n ≡ map.get s.sessions n → refusal_at s n statements.Commit ≡ None → MakesAll opening n statements.Commit new_course f
       → Some reply ≡ end_reply f.answers → After statements.Commit f.journal reply
@@ -141,11 +145,11 @@ module _ (layout : DiskLayout) (opening s : DatabaseState) (next : ℕ → Optio
       let f_is : f ≡ entered opening new_course e = all_one opening n statements.Commit new_course f e refl (λ a. refl) all in
       let done : effect d e ≡ (after_commit d n x, if x.failed then RolledBack else Committed) = effect_by d e (Some x) (same ∙ some.1) in
       let reply_is : reply ≡ (if x.failed then replies.RolledBack else replies.Committed) =
-        end_is x.failed reply (replied ∙ ap (λ (c : Course). end_reply c.answers) f_is ∙ ap (λ (p : DatabaseState × Answer). end_reply (p.1 ∷ [])) done) in
+      end_is x.failed reply (replied ∙ ap (λ (c : Course). end_reply c.answers) f_is ∙ ap (λ (p : DatabaseState × Answer). end_reply (p.1 ∷ [])) done) in
       let tell = λ (next' : ℕ → Option Statement) (nexts : NextStays next next' n). commits limits next next' hands d s n x was some.1 (same ∙ some.1) nexts in
       at_course f statements.Commit reply (entered opening new_course e) f_is
-        (behind statements.Commit e reply (subst (IsAnswered limits next (updated hands n None) (after_request d e) s n statements.Commit) (sym reply_is)
-        (after_commit s n x, (tell next (λ m other. refl)).0, λ next' nexts. (tell next' nexts).1)))
+      (behind statements.Commit e reply (subst (IsAnswered limits next (updated hands n None) (after_request d e) s n statements.Commit) (sym reply_is)
+      (after_commit s n x, (tell next (λ m other. refl)).0, λ next' nexts. (tell next' nexts).1)))
 
   pub rollback_all : (f : Course) (reply : Reply) → map.get d.sessions n ≡ map.get s.sessions n → refusal_at s n statements.Rollback ≡ None → MakesAll opening n statements.Rollback new_course f
       → Some reply ≡ end_reply f.answers → After statements.Rollback f.journal reply
@@ -158,8 +162,8 @@ module _ (layout : DiskLayout) (opening s : DatabaseState) (next : ℕ → Optio
       let reply_is : reply ≡ replies.RolledBack = same_Some _ _ (replied ∙ ap (λ (c : Course). end_reply c.answers) f_is ∙ ap (λ (p : DatabaseState × Answer). end_reply (p.1 ∷ [])) done) in
       let tell = λ (next' : ℕ → Option Statement) (nexts : NextStays next next' n). rollbacks limits next next' hands d s n x was some.1 (same ∙ some.1) nexts in
       at_course f statements.Rollback reply (entered opening new_course e) f_is
-        (behind statements.Rollback e reply (subst (IsAnswered limits next (updated hands n None) (after_request d e) s n statements.Rollback) (sym reply_is)
-        (without_transaction s n, (tell next (λ m other. refl)).0, λ next' nexts. (tell next' nexts).1)))
+      (behind statements.Rollback e reply (subst (IsAnswered limits next (updated hands n None) (after_request d e) s n statements.Rollback) (sym reply_is)
+      (without_transaction s n, (tell next (λ m other. refl)).0, λ next' nexts. (tell next' nexts).1)))
 
   pub select_all : (q : Query) (f : Course) (reply : Reply) → map.get d.sessions n ≡ map.get s.sessions n → refusal_at s n (statements.Select q) ≡ None → MakesAll opening n (statements.Select q) new_course f
       → Some reply ≡ select_reply f.answers → After (statements.Select q) f.journal reply
@@ -173,8 +177,8 @@ module _ (layout : DiskLayout) (opening s : DatabaseState) (next : ℕ → Optio
       let reply_is : reply ≡ replies.Found (rows_found x q) = same_Some _ _ (replied ∙ ap (λ (c : Course). select_reply c.answers) f_is ∙ ap (λ (p : DatabaseState × Answer). select_reply (p.1 ∷ [])) done) in
       let tell = λ (next' : ℕ → Option Statement) (nexts : NextStays next next' n). selects limits next next' hands d s n q x was some.1 now nexts in
       at_course f (statements.Select q) reply (entered opening new_course e) f_is
-        (behind (statements.Select q) e reply (subst (IsAnswered limits next (updated hands n None) (after_request d e) s n (statements.Select q)) (sym reply_is)
-        (s, (tell next (λ m other. refl)).0, λ next' nexts. (tell next' nexts).1)))
+      (behind (statements.Select q) e reply (subst (IsAnswered limits next (updated hands n None) (after_request d e) s n (statements.Select q)) (sym reply_is)
+      (s, (tell next (λ m other. refl)).0, λ next' nexts. (tell next' nexts).1)))
 
   -- an insert whose row is put is answered
   pub put_told : (x : OpenTransaction) (table : ℕ) (values : List Value) (reply : Reply) → IsSound s n x → map.get d.sessions n ≡ Some (after_put x table values) → reply ≡ replies.Inserted (next_row x table values).id
