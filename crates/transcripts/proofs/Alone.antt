@@ -68,7 +68,7 @@ same_truth false false there back = refl
 conflicts_alike : (s t : DatabaseState) (n : ℕ) (x y : OpenTransaction) (id : RowId) → IsBut s t n y → y.t ≡ x.t → is_conflict t n y id ≡ is_conflict s n x id
 conflicts_alike s t n x y id but number =
     let held : marked_elsewhere t n id ≡ marked_elsewhere s n id = same_truth (marked_elsewhere t n id) (marked_elsewhere s n id)
-      (marked_there t s n id (λ m other. sym (but.others m other))) (marked_there s t n id but.others) in
+    (marked_there t s n id (λ m other. sym (but.others m other))) (marked_there s t n id but.others) in
     λ i. not (eqb id.t (number i)) && (not (map.contains_key (but.table i) id) || held i)
 
 module _ (s : DatabaseState) (n table : ℕ) (x : OpenTransaction) where
@@ -95,7 +95,7 @@ module _ (s : DatabaseState) (n table : ℕ) (x : OpenTransaction) where
         number = rest.number;
         runs = (λ i. serial_run (done i).0 (unless_conflict (done i).1 (mark_entries (done i).0 n table (rows ++ tail)))) ∙ rest.runs;
         replied = (λ i. marks_reply count ((done i).1 ∷ replies_to (done i).0 (unless_conflict (done i).1 (mark_entries (done i).0 n table (rows ++ tail))))) ∙ rest.replied
-          ∙ ap (λ k. marks_reply k (replies_to rest.further (mark_entries rest.further n table tail))) (omega arith);
+            ∙ ap (λ k. marks_reply k (replies_to rest.further (mark_entries rest.further n table tail))) (omega arith);
       }
 
 module _ (limits : Limits) (next : ℕ → Option Statement) (s : DatabaseState) (n : ℕ) (q : Query) (x : OpenTransaction) (sound : IsSound s n x)
@@ -124,13 +124,13 @@ module _ (limits : Limits) (next : ℕ → Option Statement) (s : DatabaseState)
       let b = run_marks s n q.table x before (row ∷ after) s x 0 itself refl free in
       let t : DatabaseState = b.further in
       let e = mark_entry n q.table row in
-      let must : is_conflict s n x row.id ≡ true = elim cause [ | inl must ↦ must | inr may ↦ absurd (alone may.1.other may.1.query may.1.apart may.1.is_delete) ] in
+      let must : is_conflict s n x row.id ≡ true = elim cause [ inl must ↦ must | inr may ↦ absurd (alone may.1.other may.1.query may.1.apart may.1.is_delete) ] in
       let done : effect t e ≡ (after_failure t n (marked x before), Conflict row.id) =
-        effect_by t e (Some (marked x before)) b.but.own ∙ ap (λ c. mark_effect t n (marked x before) row.id c) (conflicts_alike s t n x (marked x before) row.id b.but b.number ∙ must) in
+      effect_by t e (Some (marked x before)) b.but.own ∙ ap (λ c. mark_effect t n (marked x before) row.id c) (conflicts_alike s t n x (marked x before) row.id b.but b.number ∙ must) in
       let told : marks_reply (0 + length before) (replies_to t (mark_entries t n q.table (row ∷ after))) ≡ Some (replies.Refused (refusals.Conflict row.id)) =
-        λ i. marks_reply (0 + length before) ((done i).1 ∷ replies_to (done i).0 (unless_conflict (done i).1 (mark_entries (done i).0 n q.table after))) in
+      λ i. marks_reply (0 + length before) ((done i).1 ∷ replies_to (done i).0 (unless_conflict (done i).1 (mark_entries (done i).0 n q.table after))) in
       let ends : serial_run t (mark_entries t n q.table (row ∷ after)) ≡ after_failure t n (marked x before) =
-        λ i. serial_run (done i).0 (unless_conflict (done i).1 (mark_entries (done i).0 n q.table after)) in
+      λ i. serial_run (done i).0 (unless_conflict (done i).1 (mark_entries (done i).0 n q.table after)) in
       inl (requested (replies.Refused (refusals.Conflict row.id)) (with_transaction s n (failed_transaction (marked x before)))
       (sym told ∙ sym b.replied ∙ ap (λ (l : List Row). marks_reply 0 (replies_to s (mark_entries s n q.table l))) (sym finds))
       (but_is s (after_failure t n (marked x before)) n (failed_transaction (marked x before)) (goes_on s t n (marked x before) (failed_transaction (marked x before)) b.but)
