@@ -45,20 +45,20 @@ said_places : (layout : DiskLayout) (a b : Stand) (said : List Said) → AreSaid
 said_places layout a b [] e = ap (λ (x : Stand). x.place) e
 said_places layout a b (one ∷ said) e = (e.0.place, e.1.so, said_places layout e.0 b said e.2)
 
-left_off : (layout : DiskLayout) (seed rows : ℕ) (a b : Stand) (fault : AnswerFault) → IsCutOff layout seed rows a b fault → IsLeftOff layout seed rows a.place b.place fault
-left_off layout seed rows a b fault cut = record {
+left_off : (layout : DiskLayout) (n : ℕ) (seed rows : ℕ) (a b : Stand) (fault : AnswerFault) → IsCutOff layout n seed rows a b fault → IsLeftOff layout seed rows a.place b.place fault
+left_off layout n seed rows a b fault cut = record {
   front = cut.front;
   is_front = cut.is_front;
   state = cut.state.place;
   said = said_places layout a cut.state cut.front cut.said;
   stops = elim cut.stops [
-    | inl line ↦ inl (line.0, line.1, line.2, line.3.so)
+    | inl line ↦ inl (line.0, line.1, line.2, line.3.so.0)
     | inr short ↦ inr (short.0, ap (λ (x : Stand). x.place) short.1)
   ];
 }
 
-module _ (layout : DiskLayout) (seed rows : ℕ) (start after : Stand) (k k' : Option (List ℕ)) where
-  no_room : (end : RunEnd) → DemoWrites end layout seed rows start after k k' → exit_status end ≡ 8 → IsLeftOff layout seed rows start.place after.place Full
+module _ (layout : DiskLayout) (n : ℕ) (seed rows : ℕ) (start after : Stand) (k k' : Option (List ℕ)) where
+  no_room : (end : RunEnd) → DemoWrites end layout n seed rows start after k k' → exit_status end ≡ 8 → IsLeftOff layout seed rows start.place after.place Full
   no_room (Ok done) w e = absurd (omega (arith, e))
   no_room (Err faults.Read) w e = absurd w
   no_room (Err faults.Write) w e = absurd (omega (arith, e))
@@ -67,11 +67,11 @@ module _ (layout : DiskLayout) (seed rows : ℕ) (start after : Stand) (k k' : O
   no_room (Err (faults.Unanswered Disk)) w e = absurd (omega (arith, e))
   no_room (Err (faults.Unanswered Damaged)) w e = absurd (omega (arith, e))
   no_room (Err (faults.Unanswered Full)) w e = elim w.1 [
-    | inl cut ↦ left_off layout seed rows start after Full cut
+    | inl cut ↦ left_off layout n seed rows start after Full cut
     | inr short ↦ absurd (let wrong : Full ≡ Memory = short.0 in cc)
   ]
 
-  to_its_end : (end : RunEnd) → DemoWrites end layout seed rows start after k k' → exit_status end ≢ 5 → exit_status end ≢ 6 → exit_status end ≢ 11 → ¬ (IsLeftOff layout seed rows start.place after.place Full)
+  to_its_end : (end : RunEnd) → DemoWrites end layout n seed rows start after k k' → exit_status end ≢ 5 → exit_status end ≢ 6 → exit_status end ≢ 11 → ¬ (IsLeftOff layout seed rows start.place after.place Full)
       → (exit_status end ≡ 0) ⊎ (exit_status end ≡ 7)
   to_its_end (Ok done) w write disk_ damage room = inl refl
   to_its_end (Err faults.Read) w write disk_ damage room = absurd w
@@ -88,12 +88,12 @@ module _ (layout : DiskLayout) (seed rows : ℕ) (status : ℕ) (new : Told) (k 
   after = record { place = o.after; disk = new }
 
   demo_spent : status ≡ 8 → DemoFillsJournal layout seed rows
-  demo_spent e = (start.place, begins, (o.after, no_room layout seed rows start after k k' o.end o.writes (sym o.status_is ∙ e)))
+  demo_spent e = (start.place, begins, (o.after, no_room layout o.session seed rows start after k k' o.end o.writes (sym o.status_is ∙ e)))
 
   demo_complete : status ≢ 5 → status ≢ 6 → status ≢ 11 → ¬ (DemoFillsJournal layout seed rows) → (status ≡ 0) ⊎ (status ≡ 7)
   demo_complete write disk_ damage room =
       subst (λ (n : ℕ). (n ≡ 0) ⊎ (n ≡ 7)) (sym o.status_is)
-      (to_its_end layout seed rows start after k k' o.end o.writes (λ e. write (o.status_is ∙ e)) (λ e. disk_ (o.status_is ∙ e)) (λ e. damage (o.status_is ∙ e)) (λ off. room (start.place, begins, (o.after, off))))
+      (to_its_end layout o.session seed rows start after k k' o.end o.writes (λ e. write (o.status_is ∙ e)) (λ e. disk_ (o.status_is ∙ e)) (λ e. damage (o.status_is ∙ e)) (λ off. room (start.place, begins, (o.after, off))))
 
 -- ---- over a store that was opened
 

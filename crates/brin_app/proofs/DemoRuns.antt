@@ -1,6 +1,7 @@
 -- the demo's run over sessions is one from place to place, by the crash rule
 use Rattle.std.proofs.Common.{◌≡◌, ◌≢◌, ℕ, List, [], ◌∷◌, ◌++◌, Option, None, Ok, Err, refl, sym, ap, ◌∙◌, subst, arith, inl, inr}
 use Rattle.std.specs.Io.KnownBytes.{Appends}
+use Rattle.std.specs.Prelude.{IsTrue}
 use Rattle.disk_trait.specs.Told.{Told}
 use Rattle.io_traits.specs.Written.{AppendsPart}
 use Rattle.store_layout.specs.DiskLayout.{DiskLayout}
@@ -14,21 +15,34 @@ use Rattle.demo_script.specs.Conversation.{Said}
 use Rattle.demo_script.specs.Played.{AreSaid, HasPlayed, HasStopped}
 use Rattle.demo_script.specs.Summary.{summary_text}
 use Rattle.script_semantics.specs.Place.{Place}
-use Rattle.script_semantics.specs.Stops.{IsLineStopped}
 use Rattle.session_core.specs.StopRule.{AllHaveTable}
 use Rattle.session_parts.specs.ShowsPlace.{ShowsPlace}
 use Rattle.session_parts.specs.StoreStates.{StoreState}
 use Rattle.brin_app.specs.declared.sessions.Sessions.{Sessions}
 use Rattle.brin_app.specs.Asking.{AsksLine, IsLineAnswered}
-use Rattle.session_orders.specs.CrashRule.{Stand}
+use Rattle.session_orders.specs.CrashRule.{HasTableOf, Stand}
 use Rattle.brin_app.specs.DemoOutput.{AnswersOver, DemoWrites, IsCutOff, IsDemoRun, IsPlayed, summary_at}
 use Rattle.brin_app.specs.DemoSums.{HasSummed, IsCounted}
 use Rattle.session_orders.specs.Leading.{HasStopCause}
-use Rattle.brin_app.specs.ScriptOutput.{StopsOver, exit_status}
+use Rattle.brin_app.specs.ScriptOutput.{exit_status}
 use Rattle.brin_app.specs.SessionPlaces.{StopsLine}
 use Rattle.brin_app.specs.Simulations.{EndsAs}
 use Rattle.session_orders.proofs.Leading.{cause_after, leaves_as_is, leaves_on}
-use Rattle.brin_app.proofs.Running.{EndsFrom, ShowsFrom, Stays, begun, ends_with, led_from, start, stopped_from, unbegun_at}
+use Rattle.brin_app.proofs.Running.{EndsFrom, ShowsFrom, Stays, at_end, begun, each_there, ends_with, led_from, line_from, start, unbegun_at}
+
+-- where the disk failed in a line, the images have what that leaves
+demo_cut : (layout : DiskLayout) (n : ℕ) (seed rows : ℕ) (start after : Stand) (k k' : Option (List ℕ)) → DemoWrites (Err (faults.Unanswered Disk)) layout n seed rows start after k k'
+    → (image : List ℕ) → IsTrue (after.disk.now image) → HasTableOf after.place n image
+demo_cut layout n seed rows start after k k' writes image now = elim writes.1 [
+  | inl cut ↦ elim cut.stops [
+    | inl line ↦ line.3.left image now
+    | inr short ↦ absurd (memory_is_not_disk short.0)
+  ]
+  | inr short ↦ absurd (memory_is_not_disk short.0)
+]
+  where
+    memory_is_not_disk : Disk ≡ Memory → ⊥
+    memory_is_not_disk e = cc
 
 -- ---- from the first place on
 
@@ -46,25 +60,28 @@ module _ {D : Type 0} (told : D → Told) (s : StoreState D) (p : Place) (seed r
         let far = said_from a b x (o.rounds ++ o.last) at o.said in
         (far.0, far.1, record { rounds = o.rounds; last = o.last; demo = o.demo; said = far.2; counted = o.counted })
 
-    left_from : (fault : AnswerFault) → HasStopped (AsksLine told) (StopsLine told) seed rows a b fault → (y : Stand) × EndsFrom told s p fault b y × IsCutOff s.pages.layout seed rows x y fault
+    left_from : (fault : AnswerFault) → HasStopped (AsksLine told) (StopsLine told) seed rows a b fault
+        → (y : Stand) × EndsFrom told s p fault b y × (n : ℕ) × IsCutOff s.pages.layout n seed rows x y fault
     left_from fault o =
         let far = said_from a o.state x o.front at o.said in
         elim o.stops [
           | inl line ↦
-              let end = stopped_from told s p o.state b far.0 fault (λ u v. IsLineStopped o.state.store.pages.layout.schema u line.0 fault v) far.1 line.3 in (
+              let end = line_from told s p o.state b far.0 line.0 fault far.1 line.3 in (
                 end.0,
                 end.1,
+                end.2.0,
                 record {
                   front = o.front;
                   is_front = o.is_front;
                   state = far.0;
                   said = far.2;
-                  stops = inl (line.0, line.1, line.2, subst (λ (l : DiskLayout). StopsOver l far.0 line.0 fault end.0) far.1.leaves.layout end.2);
+                  stops = inl (line.0, line.1, line.2, end.2.1);
                 },
               )
           | inr short ↦ (
             far.0,
             subst (λ (f : AnswerFault). EndsFrom told s p f b far.0) (sym short.0) (subst (λ (c : Sessions D). EndsFrom told s p Memory c far.0) (sym short.1) (unbegun_at told s p o.state far.0 far.1)),
+            0,
             record { front = o.front; is_front = o.is_front; state = far.0; said = far.2; stops = inr (short.0, refl) },
           )
         ]
@@ -74,21 +91,22 @@ module _ {D : Type 0} (told : D → Told) (s : StoreState D) (p : Place) (seed r
 
     -- what was written, by how it ended
     summed_from : (k k' : Option (List ℕ)) (end : RunEnd) → HasSummed told seed rows a b k k' end
-        → (y : Stand) × EndsAs (ShowsFrom told s p) (EndsFrom told s p) end b y × DemoWrites end s.pages.layout seed rows x y k k'
+        → (y : Stand) × EndsAs (ShowsFrom told s p) (EndsFrom told s p) end b y × (n : ℕ) × DemoWrites end s.pages.layout n seed rows x y k k'
     summed_from k k' (Ok done) h =
         let far = played_from h.1.counts h.1.played in
-        (far.0, far.1, (h.1.counts, far.2, subst (Appends k k') (text_there h.0 h.1 far.0 far.1) h.2))
+        (far.0, far.1, 0, (h.1.counts, far.2, subst (Appends k k') (text_there h.0 h.1 far.0 far.1) h.2))
     summed_from k k' (Err faults.Write) h =
         let far = played_from h.1.counts h.1.played in
-        (far.0, far.1, (h.1.counts, far.2, subst (AppendsPart k k') (text_there h.0 h.1 far.0 far.1) h.2))
+        (far.0, far.1, 0, (h.1.counts, far.2, subst (AppendsPart k k') (text_there h.0 h.1 far.0 far.1) h.2))
     summed_from k k' (Err faults.Read) h = absurd h
     summed_from k k' (Err faults.Spent) h = absurd h
     summed_from k k' (Err (faults.Unanswered fault)) h = elim h.1 [
-      | inl cut ↦ let far = left_from fault cut in (far.0, far.1, (h.0, inl far.2))
+      | inl cut ↦ let far = left_from fault cut in (far.0, far.1, far.2, (h.0, inl far.3))
       | inr short ↦
           let far = played_from short.1 short.2 in (
             far.0,
             subst (λ (f : AnswerFault). EndsFrom told s p f b far.0) (sym short.0) (unbegun_at told s p b far.0 far.1),
+            0,
             (h.0, inr (short.0, short.1, far.2)),
           )
     ]
@@ -98,16 +116,21 @@ module _ {D : Type 0} (told : D → Told) (s : StoreState D) (p : Place) (seed r
   module _ (a b : Sessions D) (end : RunEnd) (k k' : Option (List ℕ)) (summed : HasSummed told seed rows a b k k' end) where
     with_disk : (status : ℕ) → status ≡ exit_status end → ShowsFrom told s p a (start told s p) → IsDemoRun status s.pages.layout seed rows (told b.store.pages.disk) k k' (start told s p)
     with_disk status said begins =
+        let layout = s.pages.layout in
         let far = summed_from a b (start told s p) begins k k' end summed in
         let x = ends_with told s p end b far.0 far.1 in
+        let all = λ (not : exit_status end ≢ 6). each_there told s p far.0 b x.disk (x.whole not) in
+        let images = λ (image : List ℕ) (now : IsTrue (far.0.disk.now image)). at_end far.0.place far.2 image end (λ not. all not image now)
+        (λ e. demo_cut layout far.2 seed rows (start told s p) far.0 k k' (subst (λ (o : RunEnd). DemoWrites o layout far.2 seed rows (start told s p) far.0 k k') e far.3) image now) in
         record {
           end = end;
           status_is = said;
           after = far.0.place;
-          writes = subst (λ (d : Told). DemoWrites end s.pages.layout seed rows (start told s p) (record { place = far.0.place; disk = d }) k k') (sym x.disk) far.2;
+          session = far.2;
+          writes = subst (λ (d : Told). DemoWrites end layout far.2 seed rows (start told s p) (record { place = far.0.place; disk = d }) k k') (sym x.disk) far.3;
           further = x.further;
-          at_end = x.tables.images;
-          whole = λ not. x.tables.whole (λ six. not (said ∙ six));
+          at_end = subst (λ (d : Told). (image : List ℕ) → IsTrue (d.now image) → HasTableOf far.0.place far.2 image) (sym x.disk) images;
+          whole = λ not. x.whole (λ six. not (said ∙ six));
         }
 
     pub demo_run : (status : ℕ) (disk : D) → a.store ≡ s → disk ≡ b.store.pages.disk → status ≡ exit_status end → Tells told s.pages → s.pages.failed ≡ None → ShowsPlace s p → AllHaveTable told s.pages p

@@ -52,12 +52,13 @@ module _ {D : Type 0} (told : D → Told) where
   ask_done s t u name order n (Err e) within number made h = tt
 
   pub ask_lost : {T : Type 0} (s t u : StoreState D) (name : List ℕ) (order : Order) (n : ℕ) (result : Result T AnswerFault) → is_past_sessions s.names name ≡ false → n ≡ session_number s.names name
-      → PlacesLead told s t (λ p m. m ≡ named p name) → IfErr result (λ fault. PlacesStop told t u fault (IsCutShort n order fault))
-      → IfErr result (λ fault. PlacesStop told s u fault (IsStoppedSaying (lines.Say name order) fault))
+      → PlacesLead told s t (λ p m. m ≡ named p name) → IfErr result (λ fault. PlacesStop told t u n fault (IsCutShort n order fault))
+      → IfErr result (λ fault. PlacesStop told s u (session_number s.names name) fault (IsStoppedSaying (lines.Say name order) fault))
   ask_lost s t u name order n (Ok v) within number made h = tt
   ask_lost s t u name order n (Err fault) within number made h =
-      stops_further told s t u fault (λ p m. m ≡ named p name) (IsCutShort n order fault) (IsStoppedSaying (lines.Say name order) fault) made h
-      (λ p m q shown _ is cut. cut_order name order n s.names within number p m shown.names is fault q cut)
+      subst (λ (k : ℕ). PlacesStop told s u k fault (IsStoppedSaying (lines.Say name order) fault)) number
+      (stops_further told s t u n fault (λ p m. m ≡ named p name) (IsCutShort n order fault) (IsStoppedSaying (lines.Say name order) fault) made h
+      (λ p m q shown _ is cut. cut_order name order n s.names within number p m shown.names is fault q cut))
 
   -- there is no session for it
   pub ask_refused : {E : Type 0} (s s' : StoreState D) (name : List ℕ) (order : Order) (fault : SessionFault) (result : Result Answer E) → OnlyNow told s.pages → HasSession s name s' (Err fault)

@@ -163,10 +163,10 @@ module _ (one : HaveOneLayout) (map : (layout : DiskLayout) → OpenToOneMap lay
         stays_as status sure.tells_images store.0 store.1 (sure.holds.pages, sure.holds.opens, sure.holds.image) sure.holds.sized (λ _. (store.0, store.1, sure.each))
 
     -- a script came to that place, whose table each image has, or with it the commit in hand
-    ran_image : IsTrue disk.tells_images → (after : Place) → ((image : List ℕ) → IsTrue (disk.now image) → HasTableOf after image) → HoldsImage disk
-    ran_image images after ends = elim (ends disk.contents (laws.here images)) [
+    ran_image : IsTrue disk.tells_images → (after : Place) (n : ℕ) → ((image : List ℕ) → IsTrue (disk.now image) → HasTableOf after n image) → HoldsImage disk
+    ran_image images after n ends = elim (ends disk.contents (laws.here images)) [
       | inl has ↦ image_held disk after.layout (database_at after).table has
-      | inr both ↦ image_held disk after.layout (table_committed (database_at after) both.0) both.2
+      | inr both ↦ image_held disk after.layout (table_committed (database_at after) n) both.1
     ]
 
   module _ (old new : Told) (laws : ObeysLaws new) where
@@ -179,15 +179,15 @@ module _ (one : HaveOneLayout) (map : (layout : DiskLayout) → OpenToOneMap lay
         let each : EachImageHas new layout table = at_end old new (IsImageWith layout table) laws moments in
         stays_as new laws status images layout table (each new.contents (laws.here images)) (sure.holds.sized ∙ sym moments.size) (λ _. (layout, table, each))
 
-    pub ran_on : (status : ℕ) (layout : DiskLayout) (table : TableState) → HoldsSure old layout table → (start after : Place) → start.layout ≡ layout → (database_at start).table ≡ table → IsFurther start after
-        → StopsOfRun old new start after → ((image : List ℕ) → IsTrue (new.now image) → HasTableOf after image) → (status ≢ 6 → EachImageHas new after.layout (database_at after).table) → StaysStore status new
-    ran_on status layout table sure start after same alike further stops ends whole =
+    pub ran_on : (status : ℕ) (layout : DiskLayout) (table : TableState) → HoldsSure old layout table → (n : ℕ) (start after : Place) → start.layout ≡ layout → (database_at start).table ≡ table → IsFurther start after
+        → StopsOfRun old new n start after → ((image : List ℕ) → IsTrue (new.now image) → HasTableOf after n image) → (status ≢ 6 → EachImageHas new after.layout (database_at after).table) → StaysStore status new
+    ran_on status layout table sure n start after same alike further stops ends whole =
         let moments = stops (λ image now. image_as layout start.layout table (database_at start).table image (sym same) (sym alike) (sure.each image now)) in
         let images : IsTrue new.tells_images = moments.tells_images ∙ sure.tells_images in
         let size : disk_size after.layout ≡ new.size = ap disk_size (further.layout ∙ same) ∙ sure.holds.sized ∙ sym moments.size in
         elim (ends new.contents (laws.here images)) [
           | inl has ↦ stays_as new laws status images after.layout (database_at after).table has size (λ not. (after.layout, (database_at after).table, whole not))
-          | inr both ↦ stays_as new laws status images after.layout (table_committed (database_at after) both.0) both.2 size (λ not. (after.layout, (database_at after).table, whole not))
+          | inr both ↦ stays_as new laws status images after.layout (table_committed (database_at after) n) both.1 size (λ not. (after.layout, (database_at after).table, whole not))
         ]
 
     stored_on : (status : ℕ) (l l' k k' : Option (List ℕ)) → IsStoredOutput status old new l l' k k' → HoldsStore old → StaysStore status new
@@ -196,14 +196,14 @@ module _ (one : HaveOneLayout) (map : (layout : DiskLayout) → OpenToOneMap lay
         elim (output sure.tells_contents store.0 store.1 sure.holds) [
           | inl un ↦ unopened_on status store.0 store.1 l l' k k' sure un
           | inr run ↦
-              ran_on status store.0 store.1 sure run.0.place run.3.after run.1.opening.layout_is (table_at run.0.place (database_with sure.holds.image.next store.1) run.1.opening.opening_is run.1.opening.journal) run.3.further
+              ran_on status store.0 store.1 sure run.3.session run.0.place run.3.after run.1.opening.layout_is (table_at run.0.place (database_with sure.holds.image.next store.1) run.1.opening.opening_is run.1.opening.journal) run.3.further
               ((runs_hold.scripts status store.0 old new l l' k k' run.0 run.3).opened run.2) run.3.at_end run.3.whole
         ]
 
     pub demo_on : (status seed rows : ℕ) (layout : DiskLayout) (l k k' : Option (List ℕ)) → IsFreshDemo status seed rows old new layout l l k k' → HoldsSure old layout initial_state.table → StaysStore status new
     demo_on status seed rows layout l k k' (inl un) sure = unopened_on status layout initial_state.table l l k k' sure un
     demo_on status seed rows layout l k k' (inr run) sure =
-        ran_on status layout initial_state.table sure run.0.place run.3.after run.1.layout_is (table_at run.0.place initial_state run.1.opening run.1.journal) run.3.further
+        ran_on status layout initial_state.table sure run.3.session run.0.place run.3.after run.1.layout_is (table_at run.0.place initial_state run.1.opening run.1.journal) run.3.further
         ((runs_hold.demos status layout seed rows old new k k' run.0 run.3).opened run.2) run.3.at_end run.3.whole
 
     -- ---- over an image of one, or bytes that don't open
@@ -212,12 +212,12 @@ module _ (one : HaveOneLayout) (map : (layout : DiskLayout) → OpenToOneMap lay
         → IsTrue old.tells_contents → IsTrue new.tells_images → HoldsImage new
     stored_image status l l' k k' output layout table holds has tells images = elim (output tells layout table holds) [
       | inl un ↦ absurd (not_unopened status has un.why)
-      | inr run ↦ ran_image new laws images run.3.after run.3.at_end
+      | inr run ↦ ran_image new laws images run.3.after run.3.session run.3.at_end
     ]
 
     pub demo_image : (status seed rows : ℕ) (layout : DiskLayout) (l k k' : Option (List ℕ)) → IsFreshDemo status seed rows old new layout l l k k' → HasRun status ⊎ (status ≡ 9) → IsTrue new.tells_images → HoldsImage new
     demo_image status seed rows layout l k k' (inl un) has images = absurd (not_unopened status has un.why)
-    demo_image status seed rows layout l k k' (inr run) has images = ran_image new laws images run.3.after run.3.at_end
+    demo_image status seed rows layout l k k' (inr run) has images = ran_image new laws images run.3.after run.3.session run.3.at_end
 
     -- a store was opened; where its bytes were known to be one's, these are its table and layout
     pub opened_on : (status : ℕ) (l l' k k' : Option (List ℕ)) → IsStoredOutput status old new l l' k k' → (HoldsImage old → IsTrue old.tells_contents → (layout : DiskLayout) × (table : TableState) × HoldsTable old layout table)

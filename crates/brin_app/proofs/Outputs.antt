@@ -65,19 +65,19 @@ placed layout a b (line ∷ lines) (text ∷ texts) e = (e.0.place, e.1.so, plac
 
 module _ (Starts : Place → Type 0) (layout : DiskLayout) where
   -- a line for which the journal has no room fills it
-  filled_by : (left : Option (List ℕ)) (script : List ℕ) (done texts : List (List ℕ)) (start final after : Stand) → Starts start.place → AreAnswers (TextsOver layout) start done texts final
-      → Stopped (StopsOver layout) final after script left done Full → FillsJournal Starts layout script left
-  filled_by left script done texts start final after starts answers (inl at) =
+  filled_by : (n : ℕ) (left : Option (List ℕ)) (script : List ℕ) (done texts : List (List ℕ)) (start final after : Stand) → Starts start.place → AreAnswers (TextsOver layout) start done texts final
+      → Stopped (StopsOver layout n) final after script left done Full → FillsJournal Starts layout script left
+  filled_by n left script done texts start final after starts answers (inl at) =
       let answered = placed layout start final done texts answers in
-      record { start = start.place; starts = starts; done = done; texts = texts; place = final.place; line = at.line; after = after.place; first = at.first; answers = answered; past = at.stops.so }
-  filled_by left script done texts start final after starts answers (inr at) = absurd (let wrong : Full ≡ Memory = at.0 in cc)
+      record { start = start.place; starts = starts; done = done; texts = texts; place = final.place; line = at.line; after = after.place; first = at.first; answers = answered; past = at.stops.so.0 }
+  filled_by n left script done texts start final after starts answers (inr at) = absurd (let wrong : Full ≡ Memory = at.0 in cc)
 
   module _ (status : ℕ) (disk : Told) (start : Stand) (starts : Starts start.place) where
     -- a run that ended for want of room in the journal filled it
     filled : (l l' k k' : Option (List ℕ)) → (o : IsScriptRun status layout disk l l' k k' start) → o.end ≡ (Err (faults.Unanswered Full)) → JournalWasFull Starts layout l l'
     filled l l' k k' o e =
         let r = o.ran in
-        (r.0, r.5, filled_by l' r.0 r.2 r.3 start r.4 (record { place = o.after; disk = disk }) starts r.7.answers (r.7.stopped Full e).0)
+        (r.0, r.5, filled_by o.session l' r.0 r.2 r.3 start r.4 (record { place = o.after; disk = disk }) starts r.7.answers (r.7.stopped Full e).0)
 
     spent_causes : (old new : List ℕ) (k k' : Option (List ℕ)) (o : IsScriptRun status layout disk (Some old) (Some new) k k' start) → (o.end ≡ (Err faults.Spent)) ⊎ (o.end ≡ (Err (faults.Unanswered Full)))
         → (length old ≡ (SCRIPT_LIMIT + 1) + length new) ⊎ JournalWasFull Starts layout (Some old) (Some new)

@@ -1,5 +1,6 @@
 -- a script's run over sessions is one from place to place, by the crash rule
-use Rattle.std.proofs.Common.{◌≡◌, ◌≢◌, ℕ, List, [], ◌∷◌, Option, None, Ok, Err, refl, sym, ap, ◌∙◌, subst, arith, inl, inr}
+use Rattle.std.proofs.Common.{◌≡◌, ◌≢◌, ℕ, List, [], ◌∷◌, Option, None, Ok, Err, refl, sym, ap, ◌∙◌, subst, arith, ◌⊎◌, inl, inr}
+use Rattle.std.specs.Prelude.{IsTrue}
 use Rattle.disk_trait.specs.Told.{Told}
 use Rattle.disk_trait.specs.Throughout.{Throughout}
 use Rattle.disk_trait.specs.ThroughoutLaws.{weaker}
@@ -11,48 +12,69 @@ use Rattle.script_run.specs.declared.fault.RunFault.TheVariants as faults
 use Rattle.script_run.specs.Answers.{AreAnswers}
 use Rattle.script_run.specs.Runs.{Ran, RunEnd}
 use Rattle.script_semantics.specs.LineTexts.{IsLineText}
-use Rattle.script_semantics.specs.Place.{Place}
+use Rattle.query_words.specs.Lines.{line_of}
+use Rattle.script_semantics.specs.Place.{Place, database_at}
 use Rattle.script_semantics.specs.Stops.{IsLineStopped}
 use Rattle.transactions.specs.StopLaws.{EachImage}
-use Rattle.session_core.specs.StopRule.{AllHaveTable}
+use Rattle.session_core.specs.StopRule.{AllHaveTable, IsImageWith}
 use Rattle.session_parts.specs.ShowsPlace.{ShowsPlace}
 use Rattle.session_parts.specs.StoreStates.{StoreState}
 use Rattle.brin_app.specs.declared.sessions.Sessions.{Sessions}
 use Rattle.brin_app.specs.declared.status.TheConstants.{SCRIPT_LIMIT}
-use Rattle.session_orders.specs.CrashRule.{HasTableOf, IsCutStretch, IsFurther, IsOfRun, IsOfStop, IsStretch, Stand, StopsBetween}
+use Rattle.session_orders.specs.CrashRule.{HasTableOf, IsCutStretch, IsFurther, IsLeftCut, IsOfRun, IsStretch, Stand, StopsBetween, session_of}
 use Rattle.session_orders.specs.Leading.{HasStopCause, IsLeftBy, PlacesLead, PlacesStop}
 use Rattle.brin_app.specs.ScriptOutput.{IsScriptRun, StopsOver, TextsOver, exit_status}
 use Rattle.brin_app.specs.SessionPlaces.{AnswersLine, StopsLine}
 use Rattle.brin_app.specs.Simulations.{EndsAs, Simulates}
 use Rattle.session_orders.proofs.Crash.{further_on, still}
 use Rattle.session_orders.proofs.Leading.{cause_after, leaves_as_is, leaves_on}
-use Rattle.brin_app.proofs.Simulated.{lifted_run}
+use Rattle.brin_app.proofs.Simulated.{lifted_run, one_stop}
 
 -- ---- from one store to another
 
 module _ {D : Type 0} (told : D → Told) where
-  -- which table each image has then: that of a commit in hand is told as one only of a disk that failed
-  pub record HasTables (t : StoreState D) (q : Place) (status : ℕ) : Type 0 where
-    pub images : EachImage told t.pages (HasTableOf q)
-    pub whole : status ≢ 6 → AllHaveTable told t.pages q
+  -- what a line of session n leaves that stopped: only a disk that failed may have a table with the commit of a step
+  pub record LeavesCut (t u : StoreState D) (q r : Place) (n : ℕ) (fault : AnswerFault) : Type 0 where
+    pub moments : Throughout (told t.pages.disk) (told u.pages.disk) (λ image. IsOfRun q r image ⊎ IsLeftCut fault r n image)
+    pub images : EachImage told u.pages (IsLeftCut fault r n)
+    pub whole : exit_status (Err (faults.Unanswered fault)) ≢ 6 → AllHaveTable told u.pages r
 
-  all_tables : (t : StoreState D) (q : Place) (status : ℕ) → AllHaveTable told t.pages q → HasTables t q status
-  all_tables t q status all = record { images = λ image now. inl (all image now); whole = λ _. all }
+  left_between : (t u : StoreState D) (q r : Place) → StopsBetween told t u q r → AllHaveTable told t.pages q → (P : List ℕ → Type 0) → Throughout (told t.pages.disk) (told u.pages.disk) (λ image. IsOfRun q r image ⊎ P image)
+  left_between t u q r stops all P = weaker (told t.pages.disk) (told u.pages.disk) (IsOfRun q r) (λ image. IsOfRun q r image ⊎ P image) (stops all).0.moments (λ image of. inl of)
 
-  -- what a line leaves that stopped
-  abbrev LeftTables : (t u : StoreState D) → (q r : Place) → (status : ℕ) → Type 0
-  LeftTables t u q r status = Throughout (told t.pages.disk) (told u.pages.disk) (IsOfStop q r) × HasTables u r status
+  leaves_cut : (t u : StoreState D) (q r : Place) (n : ℕ) (fault : AnswerFault) → IsLeftBy told t u n fault q r → AllHaveTable told t.pages q → LeavesCut t u q r n fault
+  leaves_cut t u q r n Memory left all = record { moments = left_between t u q r left.1 all (IsLeftCut Memory r n); images = (left.1 all).1; whole = λ _. (left.1 all).1 }
+  leaves_cut t u q r n Full left all = record { moments = left_between t u q r left.1 all (IsLeftCut Full r n); images = (left.1 all).1; whole = λ _. (left.1 all).1 }
+  leaves_cut t u q r n Disk left all = record { moments = (left all).0.moments; images = (left all).1; whole = λ not. absurd (not refl) }
+  leaves_cut t u q r n Damaged left all = absurd left
 
-  left_between : (t u : StoreState D) (q r : Place) (status : ℕ) → StopsBetween told t u q r → AllHaveTable told t.pages q → LeftTables t u q r status
-  left_between t u q r status stops all =
-      let x = stops all in
-      (weaker (told t.pages.disk) (told u.pages.disk) _ (IsOfStop q r) x.0.moments (λ image of. inl of), all_tables u r status x.1)
+-- ---- how a run ends
 
-  left_tables : (t u : StoreState D) (q r : Place) (fault : AnswerFault) → IsLeftBy told t u fault q r → AllHaveTable told t.pages q → LeftTables t u q r (exit_status (Err (faults.Unanswered fault)))
-  left_tables t u q r Memory left all = left_between t u q r 7 left.1 all
-  left_tables t u q r Full left all = left_between t u q r 8 left.1 all
-  left_tables t u q r Disk left all = let x = left all in (x.0.moments, record { images = x.1; whole = λ not. absurd (not refl) })
-  left_tables t u q r Damaged left all = absurd left
+-- each image has the table of the journal, but where the disk failed in a line
+pub at_end : (q : Place) (n : ℕ) (image : List ℕ) (end : RunEnd) → (exit_status end ≢ 6 → IsImageWith q.layout (database_at q).table image) → (end ≡ Err (faults.Unanswered Disk) → HasTableOf q n image) → HasTableOf q n image
+at_end q n image (Ok done) whole cut = inl (whole (λ e. omega (arith, e)))
+at_end q n image (Err faults.Read) whole cut = inl (whole (λ e. omega (arith, e)))
+at_end q n image (Err faults.Write) whole cut = inl (whole (λ e. omega (arith, e)))
+at_end q n image (Err faults.Spent) whole cut = inl (whole (λ e. omega (arith, e)))
+at_end q n image (Err (faults.Unanswered Memory)) whole cut = inl (whole (λ e. omega (arith, e)))
+at_end q n image (Err (faults.Unanswered Full)) whole cut = inl (whole (λ e. omega (arith, e)))
+at_end q n image (Err (faults.Unanswered Damaged)) whole cut = inl (whole (λ e. omega (arith, e)))
+at_end q n image (Err (faults.Unanswered Disk)) whole cut = cut refl
+
+-- a line isn't answered, whosever it is
+abbrev pub StopsBy : DiskLayout → Stand → List ℕ → AnswerFault → Stand → Type 0
+StopsBy layout a line fault b = (n : ℕ) × StopsOver layout n a line fault b
+
+-- where the disk failed in a line, the images have what that leaves
+one_cut : (layout : DiskLayout) (n : ℕ) (start after : Stand) (end : RunEnd) (l l' k k' : Option (List ℕ)) → Ran (TextsOver layout) (StopsOver layout n) start after SCRIPT_LIMIT end l l' k k'
+    → end ≡ Err (faults.Unanswered Disk) → (image : List ℕ) → IsTrue (after.disk.now image) → HasTableOf after.place n image
+one_cut layout n start after end l l' k k' ran is image now = elim (ran.7.stopped Disk is).0 [
+  | inl at ↦ at.stops.left image now
+  | inr short ↦ absurd (memory_is_not_disk short.0)
+]
+  where
+    memory_is_not_disk : Disk ≡ Memory → ⊥
+    memory_is_not_disk e = cc
 
 -- ---- from the first place on
 
@@ -71,7 +93,7 @@ module _ {D : Type 0} (told : D → Told) (s : StoreState D) (p : Place) where
   pub record EndsWith (status : ℕ) (a : Sessions D) (x : Stand) : Type 0 where
     pub disk : told a.store.pages.disk ≡ x.disk
     pub further : IsFurther p x.place
-    pub tables : HasTables told a.store x.place status
+    pub whole : status ≢ 6 → AllHaveTable told a.store.pages x.place
 
   -- a line stopped there
   abbrev pub EndsFrom : AnswerFault → Sessions D → Stand → Type 0
@@ -100,32 +122,52 @@ module _ {D : Type 0} (told : D → Told) (s : StoreState D) (p : Place) where
         },
       )
 
-  pub stopped_from : (a b : Sessions D) (x : Stand) (fault : AnswerFault) (P : Place → Place → Type 0) → ShowsFrom a x → PlacesStop told a.store b.store fault P → (y : Stand) × EndsFrom fault b y × IsCutStretch P x y
-  stopped_from a b x fault P at stops =
+  pub stopped_from : (a b : Sessions D) (x : Stand) (n : ℕ) (fault : AnswerFault) (P : Place → Place → Type 0) → ShowsFrom a x → PlacesStop told a.store b.store n fault P → (y : Stand) × EndsFrom fault b y × IsCutStretch P n fault x y
+  stopped_from a b x n fault P at stops =
       let far = stops.places at.tells at.ready x.place at.shown in
-      let left = left_tables told a.store b.store x.place far.place fault far.left at.all in (
+      let left = leaves_cut told a.store b.store x.place far.place n fault far.left at.all in (
         record { place = far.place; disk = told b.store.pages.disk },
-        record { disk = refl; further = further_on p x.place far.place at.further far.further; tables = left.1 },
-        record { so = far.so; further = far.further; moments = subst (λ (d : Told). Throughout d (told b.store.pages.disk) (IsOfStop x.place far.place)) at.disk left.0 },
+        record { disk = refl; further = further_on p x.place far.place at.further far.further; whole = left.whole },
+        record {
+          so = far.so;
+          further = far.further;
+          moments = subst (λ (d : Told). Throughout d (told b.store.pages.disk) (λ image. IsOfRun x.place far.place image ⊎ IsLeftCut fault far.place n image)) at.disk left.moments;
+          left = left.images;
+        },
       )
 
+  -- the line's session goes by its name at the stand
+  pub line_from : (a b : Sessions D) (x : Stand) (line : List ℕ) (fault : AnswerFault) → ShowsFrom a x → StopsLine told a line fault b → (y : Stand) × EndsFrom fault b y × StopsBy s.pages.layout x line fault y
+  line_from a b x line fault at stops =
+      let said = line_of a.store.pages.layout.schema line in
+      let n = session_of a.store.names said in
+      let far = stopped_from a b x n fault (λ u v. IsLineStopped a.store.pages.layout.schema u line fault v) at stops in
+      let cut : StopsOver a.store.pages.layout n x line fault far.0 = record {
+        so = (far.2.so, ap (λ (names : List (List ℕ)). session_of names said) at.shown.names);
+        further = far.2.further;
+        moments = far.2.moments;
+        left = far.2.left;
+      } in
+      (far.0, far.1, subst (λ (l : DiskLayout). StopsBy l x line fault far.0) at.leaves.layout (n, cut))
+
   ends_there : (status : ℕ) (a : Sessions D) (x : Stand) → ShowsFrom a x → EndsWith status a x
-  ends_there status a x at = record { disk = at.disk; further = at.further; tables = all_tables told a.store x.place status at.all }
+  ends_there status a x at = record { disk = at.disk; further = at.further; whole = λ _. at.all }
 
   -- memory was short there before anything was done
   pub unbegun_at : (a : Sessions D) (x : Stand) → ShowsFrom a x → EndsFrom Memory a x
   unbegun_at a x at = ends_there 7 a x at
 
-  simulate : Simulates ShowsFrom EndsFrom (AnswersLine told) (StopsLine told) (TextsOver s.pages.layout) (StopsOver s.pages.layout)
+  simulate : Simulates ShowsFrom EndsFrom (AnswersLine told) (StopsLine told) (TextsOver s.pages.layout) (StopsBy s.pages.layout)
   simulate = record {
     answers = λ a b x line text at leads.
         let far = led_from a b x (λ u v. IsLineText a.store.pages.layout.schema u line text v) at leads in
         (far.0, far.1, subst (λ (l : DiskLayout). TextsOver l x line text far.0) at.leaves.layout far.2);
-    stops = λ a b x line fault at stops.
-        let far = stopped_from a b x fault (λ u v. IsLineStopped a.store.pages.layout.schema u line fault v) at stops in
-        (far.0, far.1, subst (λ (l : DiskLayout). StopsOver l x line fault far.0) at.leaves.layout far.2);
+    stops = line_from;
     unbegun = unbegun_at;
   }
+
+  pub each_there : (x : Stand) (b : Sessions D) → told b.store.pages.disk ≡ x.disk → AllHaveTable told b.store.pages x.place → (image : List ℕ) → IsTrue (x.disk.now image) → IsImageWith x.place.layout (database_at x.place).table image
+  each_there x b same all image now = all image (subst (λ (d : Told). IsTrue (d.now image)) (sym same) now)
 
   -- ---- a run
 
@@ -154,16 +196,21 @@ module _ {D : Type 0} (told : D → Told) (s : StoreState D) (p : Place) where
   module _ (a b : Sessions D) (end : RunEnd) (l l' k k' : Option (List ℕ)) (ran : Ran (AnswersLine told) (StopsLine told) a b SCRIPT_LIMIT end l l' k k') where
     with_disk : (status : ℕ) → status ≡ exit_status end → ShowsFrom a start → IsScriptRun status s.pages.layout (told b.store.pages.disk) l l' k k' start
     with_disk status said begins =
-        let far = lifted_run ShowsFrom EndsFrom (AnswersLine told) (StopsLine told) (TextsOver s.pages.layout) (StopsOver s.pages.layout) simulate a b start SCRIPT_LIMIT end l l' k k' begins ran in
+        let layout = s.pages.layout in
+        let far = lifted_run ShowsFrom EndsFrom (AnswersLine told) (StopsLine told) (TextsOver layout) (StopsBy layout) simulate a b start SCRIPT_LIMIT end l l' k k' begins ran in
         let x = ends_with end b far.0 far.1 in
+        let one = one_stop (TextsOver layout) (StopsOver layout) start far.0 SCRIPT_LIMIT end l l' k k' far.2 in
+        let all = λ (not : exit_status end ≢ 6). each_there far.0 b x.disk (x.whole not) in
+        let images = λ (image : List ℕ) (now : IsTrue (far.0.disk.now image)). at_end far.0.place one.0 image end (λ not. all not image now) (λ e. one_cut layout one.0 start far.0 end l l' k k' one.1 e image now) in
         record {
           end = end;
           status_is = said;
           after = far.0.place;
-          ran = subst (λ (d : Told). Ran (TextsOver s.pages.layout) (StopsOver s.pages.layout) start (record { place = far.0.place; disk = d }) SCRIPT_LIMIT end l l' k k') (sym x.disk) far.2;
+          session = one.0;
+          ran = subst (λ (d : Told). Ran (TextsOver layout) (StopsOver layout one.0) start (record { place = far.0.place; disk = d }) SCRIPT_LIMIT end l l' k k') (sym x.disk) one.1;
           further = x.further;
-          at_end = x.tables.images;
-          whole = λ not. x.tables.whole (λ six. not (said ∙ six));
+          at_end = subst (λ (d : Told). (image : List ℕ) → IsTrue (d.now image) → HasTableOf far.0.place one.0 image) (sym x.disk) images;
+          whole = λ not. x.whole (λ six. not (said ∙ six));
         }
 
     pub script_run : (status : ℕ) (disk : D) → a.store ≡ s → disk ≡ b.store.pages.disk → status ≡ exit_status end → Tells told s.pages → s.pages.failed ≡ None → ShowsPlace s p → AllHaveTable told s.pages p

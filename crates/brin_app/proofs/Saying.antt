@@ -24,6 +24,7 @@ use Rattle.session_core.specs.declared.faults.SessionFault.{SessionFault}
 use Rattle.session_core.specs.declared.faults.SessionFault.TheVariants as sessions
 use Rattle.session_core.specs.Sessions.{HasSession}
 use Rattle.demo_script.specs.declared.answer.Answer.{Answer}
+use Rattle.session_orders.specs.CrashRule.{session_of}
 use Rattle.session_orders.specs.Leading.{PlacesLead, PlacesStop}
 use Rattle.session_orders.specs.Orders.{DoesSo, IsCutShort, IsLost, IsStoppedSaying, answer_text}
 use Rattle.session_orders.proofs.Crash.{OnlyNow}
@@ -106,11 +107,13 @@ module _ {D : Type 0} (told : D → Told) where
   say_done s t u name order n before after (Err e) within number made h = tt
 
   pub say_lost : (s t u : StoreState D) (name : List ℕ) (order : Order) (n : ℕ) (result : Result (Unit {0}) AnswerFault) → is_past_sessions s.names name ≡ false → n ≡ session_number s.names name
-      → PlacesLead told s t (λ p m. m ≡ named p name) → IfErr result (λ fault. PlacesStop told t u fault (IsLost n name order fault)) → IfErr result (λ fault. PlacesStop told s u fault (IsStoppedSaying (lines.Say name order) fault))
+      → PlacesLead told s t (λ p m. m ≡ named p name) → IfErr result (λ fault. PlacesStop told t u n fault (IsLost n name order fault))
+      → IfErr result (λ fault. PlacesStop told s u (session_number s.names name) fault (IsStoppedSaying (lines.Say name order) fault))
   say_lost s t u name order n (Ok v) within number made h = tt
   say_lost s t u name order n (Err fault) within number made h =
-      stops_further told s t u fault (λ p m. m ≡ named p name) (IsLost n name order fault) (IsStoppedSaying (lines.Say name order) fault) made h
-      (λ p m q shown _ is lost. lost_order name order n s.names within number p m shown.names is fault q lost)
+      subst (λ (k : ℕ). PlacesStop told s u k fault (IsStoppedSaying (lines.Say name order) fault)) number
+      (stops_further told s t u n fault (λ p m. m ≡ named p name) (IsLost n name order fault) (IsStoppedSaying (lines.Say name order) fault) made h
+      (λ p m q shown _ is lost. lost_order name order n s.names within number p m shown.names is fault q lost))
 
   -- a line for which there is no session changes nothing
   pub unmade : (s s' : StoreState D) (name : List ℕ) (fault : SessionFault) → HasSession s name s' (Err fault) → s' ≡ s
@@ -129,16 +132,16 @@ module _ {D : Type 0} (told : D → Told) where
   say_refused s s' name order fault before after (Err e) only has h = tt
 
   -- nothing is done for want of memory
-  lost_at_once : (s s' : StoreState D) (Q : Place → Place → Type 0) → OnlyNow told s.pages → s' ≡ s → ((p : Place) → Q p p) → PlacesStop told s s' Memory Q
-  lost_at_once s s' Q only same so = lost_behind told s s' Q Q (led_still told s s' Q only same (λ p _. so p)) (λ p q _ _ done. done)
+  lost_at_once : (s s' : StoreState D) (n : ℕ) (Q : Place → Place → Type 0) → OnlyNow told s.pages → s' ≡ s → ((p : Place) → Q p p) → PlacesStop told s s' n Memory Q
+  lost_at_once s s' n Q only same so = lost_behind told s s' n Q Q (led_still told s s' Q only same (λ p _. so p)) (λ p q _ _ done. done)
 
   pub say_unmade : {T : Type 0} (s s' : StoreState D) (name : List ℕ) (order : Order) (fault : SessionFault) (result : Result T AnswerFault) → OnlyNow told s.pages → HasSession s name s' (Err fault)
-      → IfErr result (λ why. why ≡ Memory) → IfErr result (λ why. PlacesStop told s s' why (IsStoppedSaying (lines.Say name order) why))
+      → IfErr result (λ why. why ≡ Memory) → IfErr result (λ why. PlacesStop told s s' (session_number s.names name) why (IsStoppedSaying (lines.Say name order) why))
   say_unmade s s' name order fault (Ok v) only has is = tt
   say_unmade s s' name order fault (Err why) only has is =
       let Stopped = IsStoppedSaying (lines.Say name order) in
-      subst (λ (w : AnswerFault). PlacesStop told s s' w (Stopped w)) (sym is)
-      (lost_at_once s s' (Stopped Memory) only (unmade s s' name fault has) (λ p. undone (lines.Say name order) Memory p refl))
+      subst (λ (w : AnswerFault). PlacesStop told s s' (session_number s.names name) w (Stopped w)) (sym is)
+      (lost_at_once s s' (session_number s.names name) (Stopped Memory) only (unmade s s' name fault has) (λ p. undone (lines.Say name order) Memory p refl))
 
   -- ---- what is read of a line
 
@@ -153,18 +156,21 @@ module _ {D : Type 0} (told : D → Told) where
   done_line s s' line before after said (Err e) is h = tt
 
   pub stopped_line : {T : Type 0} (s s' : StoreState D) (line : List ℕ) (said : Line) (result : Result T AnswerFault) → line_of s.pages.layout.schema line ≡ Ok said
-      → IfErr result (λ fault. PlacesStop told s s' fault (IsStoppedSaying said fault)) → IfErr result (λ fault. PlacesStop told s s' fault (λ p q. IsLineStopped s.pages.layout.schema p line fault q))
+      → IfErr result (λ fault. PlacesStop told s s' (session_of s.names (Ok said)) fault (IsStoppedSaying said fault))
+      → IfErr result (λ fault. PlacesStop told s s' (session_of s.names (line_of s.pages.layout.schema line)) fault (λ p q. IsLineStopped s.pages.layout.schema p line fault q))
   stopped_line s s' line said (Ok u) is h = tt
   stopped_line s s' line said (Err fault) is h =
-      stops_as told s s' fault (IsStoppedSaying said fault) (λ p q. IsLineStopped s.pages.layout.schema p line fault q) h (λ p q _ stops. stops s.pages.layout.schema line is)
+      subst (λ (r : Result Line LineFault). PlacesStop told s s' (session_of s.names r) fault (λ p q. IsLineStopped s.pages.layout.schema p line fault q)) (sym is)
+      (stops_as told s s' (session_of s.names (Ok said)) fault (IsStoppedSaying said fault) (λ p q. IsLineStopped s.pages.layout.schema p line fault q) h (λ p q _ stops. stops s.pages.layout.schema line is))
 
   -- a line that isn't read changes nothing
   pub stopped_unread : {T : Type 0} (s : StoreState D) (line : List ℕ) (result : Result T AnswerFault) → OnlyNow told s.pages → IfErr result (λ why. why ≡ Memory)
-      → IfErr result (λ fault. PlacesStop told s s fault (λ p q. IsLineStopped s.pages.layout.schema p line fault q))
+      → IfErr result (λ fault. PlacesStop told s s (session_of s.names (line_of s.pages.layout.schema line)) fault (λ p q. IsLineStopped s.pages.layout.schema p line fault q))
   stopped_unread s line (Ok u) only is = tt
   stopped_unread s line (Err why) only is =
-      subst (λ (w : AnswerFault). PlacesStop told s s w (λ p q. IsLineStopped s.pages.layout.schema p line w q)) (sym is)
-      (lost_at_once s s (λ p q. IsLineStopped s.pages.layout.schema p line Memory q) only refl (λ p. Undone))
+      let n = session_of s.names (line_of s.pages.layout.schema line) in
+      subst (λ (w : AnswerFault). PlacesStop told s s n w (λ p q. IsLineStopped s.pages.layout.schema p line w q)) (sym is)
+      (lost_at_once s s n (λ p q. IsLineStopped s.pages.layout.schema p line Memory q) only refl (λ p. Undone))
 
   pub refused : {E : Type 0} (s : StoreState D) (line before after : List ℕ) (fault : LineFault) (result : Result (Unit {0}) E) → OnlyNow told s.pages → ReadsAs {T = Line} (Err fault) (line_of s.pages.layout.schema line)
       → OnOk result (fault ≢ line_faults.Memory) → OnOk result (after ≡ before ++ fault_text fault)

@@ -86,3 +86,38 @@ module _ {S P : Type 0} (Shows : S → P → Type 0) (Ends : AnswerFault → S �
       let far = lifted start r.4 p r.2 r.3 shows r.7.answers in
       let wrote = wrote_by start after r.4 limit end l' r.0 r.1 r.2 r.3 r.7 p far.0 far.1 far.2 (ending end) in
       (wrote.0, wrote.1, (r.0, r.1, r.2, r.3, far.0, r.5, r.6, wrote.2))
+
+-- A run has one end: where lines stop by one of several relations, one of them is that of the whole run.
+module _ {S : Type 0} (R : S → List ℕ → List ℕ → S → Type 0) (U : ℕ → S → List ℕ → AnswerFault → S → Type 0) where
+  abbrev Some : S → List ℕ → AnswerFault → S → Type 0
+  Some a line fault b = (n : ℕ) × U n a line fault b
+
+  one_of : (s t : S) (script : List ℕ) (left : Option (List ℕ)) (done : List (List ℕ)) (fault : AnswerFault) → Stopped Some s t script left done fault → (n : ℕ) × Stopped (U n) s t script left done fault
+  one_of s t script left done fault (inl at) = (at.stops.0, inl (record { line = at.line; first = at.first; stops = at.stops.1 }))
+  one_of s t script left done fault (inr short) = (0, inr short)
+
+  module _ (start after final : S) (limit : ℕ) (end : RunEnd) (left : Option (List ℕ)) (script out : List ℕ) (done texts : List (List ℕ)) (wrote : Wrote R Some start after final limit end left script out done texts) where
+    wrote_one : (n : ℕ) → ((fault : AnswerFault) → end ≡ Err (faults.Unanswered fault) → Stopped (U n) final after script left done fault) → Wrote R (U n) start after final limit end left script out done texts
+    wrote_one n stops = record {
+      lines = wrote.lines;
+      answers = wrote.answers;
+      front = wrote.front;
+      state = wrote.state;
+      within = wrote.within;
+      whole = wrote.whole;
+      faulty = wrote.faulty;
+      spent = wrote.spent;
+      stopped = λ fault e. (stops fault e, (wrote.stopped fault e).1);
+      cut = wrote.cut;
+    }
+
+    wrote_some : ((fault : AnswerFault) × (end ≡ Err (faults.Unanswered fault))) ⊎ ((fault : AnswerFault) → end ≢ Err (faults.Unanswered fault)) → (n : ℕ) × Wrote R (U n) start after final limit end left script out done texts
+    wrote_some (inl one) =
+        let far = one_of final after script left done one.0 (wrote.stopped one.0 one.1).0 in
+        (far.0, wrote_one far.0 (λ fault e. subst (λ (g : AnswerFault). Stopped (U far.0) final after script left done g) (same_fault one.0 fault end one.1 e) far.1))
+    wrote_some (inr other) = (0, wrote_one 0 (λ fault e. absurd (other fault e)))
+
+  pub one_stop : (start after : S) (limit : ℕ) (end : RunEnd) (l l' k k' : Option (List ℕ)) → Ran R (λ a line fault b. (n : ℕ) × U n a line fault b) start after limit end l l' k k' → (n : ℕ) × Ran R (U n) start after limit end l l' k k'
+  one_stop start after limit end l l' k k' r =
+      let wrote = wrote_some start after r.4 limit end l' r.0 r.1 r.2 r.3 r.7 (ending end) in
+      (wrote.0, (r.0, r.1, r.2, r.3, r.4, r.5, r.6, wrote.1))

@@ -28,9 +28,9 @@ AnswersOver layout a line answer b = IsStretch (λ p q. IsLineAnswered layout.sc
 abbrev pub IsPlayed : DiskLayout → (seed rows : ℕ) → (start after : Stand) → Counts → Type 0
 IsPlayed layout seed rows start after counts = HasPlayed (AnswersOver layout) seed rows start after counts
 
--- its first lines were, and the one behind them wasn't answered
-abbrev pub IsCutOff : DiskLayout → (seed rows : ℕ) → (start after : Stand) → AnswerFault → Type 0
-IsCutOff layout seed rows start after fault = HasStopped (AnswersOver layout) (StopsOver layout) seed rows start after fault
+-- its first lines were, and the one behind them, which is session n's, wasn't answered
+abbrev pub IsCutOff : DiskLayout → (n : ℕ) → (seed rows : ℕ) → (start after : Stand) → AnswerFault → Type 0
+IsCutOff layout n seed rows start after fault = HasStopped (AnswersOver layout) (StopsOver layout n) seed rows start after fault
 
 -- the same from place to place, whatever the disk tells
 abbrev pub IsLeftOff : DiskLayout → (seed rows : ℕ) → (start after : Place) → AnswerFault → Type 0
@@ -41,22 +41,23 @@ abbrev pub summary_at : Counts → Place → List ℕ
 summary_at counts after = summary_text counts (after.tables 0).blocks
 
 -- By how the demo ends. What is written is its summary; where the sink failed a front of it; and nothing where a line wasn't answered, or memory was
--- short for the summary.
-abbrev pub DemoWrites : RunEnd → DiskLayout → (seed rows : ℕ) → (start after : Stand) → (taken taken' : Option (List ℕ)) → Type 0
-DemoWrites (Ok done) layout seed rows start after taken taken' = (counts : Counts) × IsPlayed layout seed rows start after counts × Appends taken taken' (summary_at counts after.place)
-DemoWrites (Err faults.Write) layout seed rows start after taken taken' = (counts : Counts) × IsPlayed layout seed rows start after counts × AppendsPart taken taken' (summary_at counts after.place)
-DemoWrites (Err (faults.Unanswered fault)) layout seed rows start after taken taken' =
-    (taken' ≡ taken) × (IsCutOff layout seed rows start after fault ⊎ ((fault ≡ Memory) × (counts : Counts) × IsPlayed layout seed rows start after counts))
-DemoWrites end layout seed rows start after taken taken' = ⊥
+-- short for the summary. A line that wasn't answered is session n's.
+abbrev pub DemoWrites : RunEnd → DiskLayout → (n : ℕ) → (seed rows : ℕ) → (start after : Stand) → (taken taken' : Option (List ℕ)) → Type 0
+DemoWrites (Ok done) layout n seed rows start after taken taken' = (counts : Counts) × IsPlayed layout seed rows start after counts × Appends taken taken' (summary_at counts after.place)
+DemoWrites (Err faults.Write) layout n seed rows start after taken taken' = (counts : Counts) × IsPlayed layout seed rows start after counts × AppendsPart taken taken' (summary_at counts after.place)
+DemoWrites (Err (faults.Unanswered fault)) layout n seed rows start after taken taken' =
+    (taken' ≡ taken) × (IsCutOff layout n seed rows start after fault ⊎ ((fault ≡ Memory) × (counts : Counts) × IsPlayed layout seed rows start after counts))
+DemoWrites end layout n seed rows start after taken taken' = ⊥
 
 -- The demo was run from the first stand on, by the crash rule of scripts.
 pub record IsDemoRun (status : ℕ) (layout : DiskLayout) (seed rows : ℕ) (new : Told) (taken taken' : Option (List ℕ)) (start : Stand) : Type 0 where
   pub end : RunEnd
   pub status_is : status ≡ exit_status end
   pub after : Place
-  pub writes : DemoWrites end layout seed rows start (record { place = after; disk = new }) taken taken'
+  pub session : ℕ
+  pub writes : DemoWrites end layout session seed rows start (record { place = after; disk = new }) taken taken'
   pub further : IsFurther start.place after
-  pub at_end : (image : List ℕ) → IsTrue (new.now image) → HasTableOf after image
+  pub at_end : (image : List ℕ) → IsTrue (new.now image) → HasTableOf after session image
   pub whole : status ≢ 6 → EachImageHas new after.layout (database_at after).table
 
 -- over a store that was just made

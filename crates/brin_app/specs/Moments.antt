@@ -9,22 +9,23 @@ use Rattle.session_orders.specs.CrashRule.{IsOfStop, Stand}
 use Rattle.brin_app.specs.DemoOutput.{IsDemoRun}
 use Rattle.brin_app.specs.ScriptOutput.{EachImageHas, IsMadeAt, IsOldOrNone, IsOpenedAt, IsScriptRun}
 
--- At every moment of a run over a store that stands there, each image has a table of the run, where each had the table of its start.
-abbrev pub StopsOfRun : (old new : Told) → (start after : Place) → Type 0
-StopsOfRun old new start after = EachImageHas old start.layout (database_at start).table → Throughout old new (IsOfStop start after)
+-- At every moment of a run over a store that stands there, each image has a table of the run, where each had the table of its start; n is the session whose
+-- line wasn't answered.
+abbrev pub StopsOfRun : (old new : Told) → (n : ℕ) → (start after : Place) → Type 0
+StopsOfRun old new n start after = EachImageHas old start.layout (database_at start).table → Throughout old new (IsOfStop n start after)
 
 -- While a store is made, and a script runs over it, each was there before, or is no store, or has a table of the run.
-abbrev pub StopsOfNewRun : (old new : Told) → (start after : Place) → Type 0
-StopsOfNewRun old new start after = Throughout old new (λ image. IsOldOrNone old image ⊎ IsOfStop start after image)
+abbrev pub StopsOfNewRun : (old new : Told) → (n : ℕ) → (start after : Place) → Type 0
+StopsOfNewRun old new n start after = Throughout old new (λ image. IsOldOrNone old image ⊎ IsOfStop n start after image)
 
 -- the first where a store was opened before the first line, the second where one was made
-pub record HoldsThroughout (layout : DiskLayout) (old new : Told) (start : Stand) (after : Place) : Type 0 where
-  pub opened : IsOpenedAt old start → StopsOfRun old new start.place after
-  pub made : IsStart layout start.place → IsMadeAt layout old start → StopsOfNewRun old new start.place after
+pub record HoldsThroughout (layout : DiskLayout) (old new : Told) (n : ℕ) (start : Stand) (after : Place) : Type 0 where
+  pub opened : IsOpenedAt old start → StopsOfRun old new n start.place after
+  pub made : IsStart layout start.place → IsMadeAt layout old start → StopsOfNewRun old new n start.place after
 
 -- so it is of each run of a script, and of each demo
 pub record RunsHoldThroughout : Type 0 where
   pub scripts : (status : ℕ) (layout : DiskLayout) (old new : Told) (left left' taken taken' : Option (List ℕ)) (start : Stand) (run : IsScriptRun status layout new left left' taken taken' start)
-      → HoldsThroughout layout old new start run.after
+      → HoldsThroughout layout old new run.session start run.after
   pub demos : (status : ℕ) (layout : DiskLayout) (seed rows : ℕ) (old new : Told) (taken taken' : Option (List ℕ)) (start : Stand) (run : IsDemoRun status layout seed rows new taken taken' start)
-      → HoldsThroughout layout old new start run.after
+      → HoldsThroughout layout old new run.session start run.after

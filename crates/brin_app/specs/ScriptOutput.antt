@@ -6,6 +6,7 @@ use Rattle.disk_trait.specs.Told.{Told}
 use Rattle.disk_trait.specs.Throughout.{Throughout}
 use Rattle.store_layout.specs.DiskLayout.{DiskLayout, disk_size}
 use Rattle.page_map.specs.PageMap.{PageMap}
+use Rattle.query_words.specs.Lines.{line_of}
 use Rattle.recovery.specs.Opens.{OpensAs}
 use Rattle.session_core.specs.FreshPages.{IsNoStore, IsOldOrFresh, fresh_pages}
 use Rattle.script_semantics.specs.LineTexts.{IsLineText}
@@ -19,7 +20,7 @@ use Rattle.script_run.specs.Runs.{Ran, RunEnd}
 use Rattle.session_core.specs.StopRule.{IsImageWith}
 use Rattle.session_core.specs.StoreImage.{IsStoreImage, IsTableOn, database_with}
 use Rattle.brin_app.specs.declared.status.TheConstants.{SCRIPT_LIMIT}
-use Rattle.session_orders.specs.CrashRule.{HasTableOf, IsCutStretch, IsFurther, IsStretch, IsSure, Stand}
+use Rattle.session_orders.specs.CrashRule.{HasTableOf, IsCutStretch, IsFurther, IsStretch, IsSure, Stand, session_of}
 
 -- the status of each way in which a run ends: too long a script and a full journal have one
 abbrev pub exit_status : RunEnd → ℕ
@@ -40,12 +41,12 @@ Texts layout = IsLineText layout.schema
 abbrev pub Stops : DiskLayout → Place → List ℕ → AnswerFault → Place → Type 0
 Stops layout = IsLineStopped layout.schema
 
--- both over stretches of the disk's moments, one for each line
+-- both over stretches of the disk's moments, one for each line; the line that isn't answered is session n's
 abbrev pub TextsOver : DiskLayout → Stand → List ℕ → List ℕ → Stand → Type 0
 TextsOver layout a line text b = IsStretch (λ p q. Texts layout p line text q) a b
 
-abbrev pub StopsOver : DiskLayout → Stand → List ℕ → AnswerFault → Stand → Type 0
-StopsOver layout a line fault b = IsCutStretch (λ p q. Stops layout p line fault q) a b
+abbrev pub StopsOver : DiskLayout → (n : ℕ) → Stand → List ℕ → AnswerFault → Stand → Type 0
+StopsOver layout n a line fault b = IsCutStretch (λ p q. Stops layout p line fault q × (session_of p.names (line_of layout.schema line) ≡ n)) n fault a b
 
 -- ---- disks
 
@@ -95,14 +96,16 @@ pub record IsMadeAt (layout : DiskLayout) (old : Told) (start : Stand) : Type 0 
   pub opened : IsOpenedAt made start
 
 -- The script of the source was run from the first stand on, line by line: what was written are the texts of its lines, and the status says how far that
--- went. At the end each image has the table of the whole journal; where the disk failed, a commit that was in hand may be in it as well.
+-- went. At the end each image has the table of the whole journal; where the disk failed in a commit's step, of the session whose line isn't answered, that
+-- commit may be in it as well.
 pub record IsScriptRun (status : ℕ) (layout : DiskLayout) (new : Told) (left left' taken taken' : Option (List ℕ)) (start : Stand) : Type 0 where
   pub end : RunEnd
   pub status_is : status ≡ exit_status end
   pub after : Place
-  pub ran : Ran (TextsOver layout) (StopsOver layout) start (record { place = after; disk = new }) SCRIPT_LIMIT end left left' taken taken'
+  pub session : ℕ
+  pub ran : Ran (TextsOver layout) (StopsOver layout session) start (record { place = after; disk = new }) SCRIPT_LIMIT end left left' taken taken'
   pub further : IsFurther start.place after
-  pub at_end : (image : List ℕ) → IsTrue (new.now image) → HasTableOf after image
+  pub at_end : (image : List ℕ) → IsTrue (new.now image) → HasTableOf after session image
   pub whole : status ≢ 6 → EachImageHas new after.layout (database_at after).table
 
 -- nothing is read and nothing written

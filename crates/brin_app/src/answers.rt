@@ -3,10 +3,13 @@
 ghost use Rattle.std.specs.Prelude.{◌≡◌, ◌≢◌, ◌<◌, ◌++◌, Ok, IfErr, OnOk, ℕ, List, length};
 ghost use Rattle.query_words.specs.LineFits.{IsLineFor, IsOrderFor};
 ghost use Rattle.script_semantics.specs.LineTexts.{Answers, Does, fault_text, refused_text};
+ghost use Rattle.store_layout.specs.SessionNumbers.{session_number};
+ghost use Rattle.session_orders.specs.CrashRule.{session_of};
 ghost use Rattle.session_orders.specs.Leading.{PlacesLead, PlacesStop};
 ghost use Rattle.session_orders.specs.Orders.{IsLost, IsStoppedSaying, answer_text};
 ghost use Rattle.brin_app.specs.SessionPlaces.{AnswersLine, StopsLine};
 
+use session_orders::act;
 use crate::sessions::Sessions;
 use block_model::{Name, NoMemory, Refusal, Reply};
 use demo_script::Answer;
@@ -15,7 +18,6 @@ use query_words::{Line, LineFault, Order, read_line};
 use reply_texts::{Dropped, render, render_dropped, render_moved, render_refusal, render_started};
 use script_run::AnswerFault;
 use session_core::{SessionFault, Store};
-use session_orders::act;
 
 /// Appends the text of a line, and does what it says.
 pub(crate) fn answer_line<D: Disk + Drop>(
@@ -53,7 +55,7 @@ fn obey<D: Disk + Drop>(
 ) -> Result<(), AnswerFault>
     requires { IsLineFor store.old.pages.layout.schema line }
     ensures ok { OnOk result ((text : List ℕ) × (out.new.items ≡ out.old.items ++ text) × PlacesLead D.told store.old store.new (λ p q. Answers p (Ok line) text q)) }
-    ensures stops { IfErr result (λ fault. PlacesStop D.told store.old store.new fault (IsStoppedSaying line fault)) }
+    ensures stops { IfErr result (λ fault. PlacesStop D.told store.old store.new (session_of store.old.names (Ok line)) fault (IsStoppedSaying line fault)) }
 {
     match line {
         Line::Nothing => Ok(()),
@@ -70,7 +72,7 @@ fn say<D: Disk + Drop>(
 ) -> Result<(), AnswerFault>
     requires { IsOrderFor store.old.pages.layout.schema order }
     ensures ok { OnOk result ((text : List ℕ) × (out.new.items ≡ out.old.items ++ text) × PlacesLead D.told store.old store.new (λ p q. Answers p (Ok (Line.Say session.now order)) text q)) }
-    ensures stops { IfErr result (λ fault. PlacesStop D.told store.old store.new fault (IsStoppedSaying (Line.Say session.now order) fault)) }
+    ensures stops { IfErr result (λ fault. PlacesStop D.told store.old store.new (session_number store.old.names session.now) fault (IsStoppedSaying (Line.Say session.now order) fault)) }
 {
     match store.session(*session) {
         Ok(number) => answer_order(store, number, session, order, out),
@@ -89,7 +91,7 @@ fn answer_order<D: Disk + Drop>(
     requires session { number < length store.old.names }
     requires order { IsOrderFor store.old.pages.layout.schema order }
     ensures ok { OnOk result ((text : List ℕ) × (out.new.items ≡ out.old.items ++ text) × PlacesLead D.told store.old store.new (λ p q. Does p number session.now order text q)) }
-    ensures stops { IfErr result (λ fault. PlacesStop D.told store.old store.new fault (IsLost number session.now order fault)) }
+    ensures stops { IfErr result (λ fault. PlacesStop D.told store.old store.new number fault (IsLost number session.now order fault)) }
 {
     let answer = act(store, number, order)?;
     tell(session, &answer, store.dropped(number), out)?;

@@ -4,10 +4,13 @@ ghost use Rattle.std.specs.Prelude.{◌≡◌, ℕ, Ok, Some, IfOk, IfErr};
 ghost use Rattle.query_words.specs.LineFits.{IsLineFor, IsOrderFor};
 ghost use Rattle.query_words.specs.LineRefusals.{refusal_of};
 ghost use Rattle.brin_app.specs.Asking.{AsksLine, IsAnswered};
+ghost use Rattle.store_layout.specs.SessionNumbers.{session_number};
+ghost use Rattle.session_orders.specs.CrashRule.{session_of};
 ghost use Rattle.session_orders.specs.Leading.{PlacesLead, PlacesStop};
 ghost use Rattle.session_orders.specs.Orders.{IsStoppedSaying};
 ghost use Rattle.brin_app.specs.SessionPlaces.{StopsLine};
 
+use session_orders::act;
 use crate::sessions::Sessions;
 use block_model::{Name, Refusal};
 use demo_script::Answer;
@@ -15,7 +18,6 @@ use disk_trait::Disk;
 use query_words::{Line, LineFault, Order, read_line};
 use script_run::AnswerFault;
 use session_core::{SessionFault, Store};
-use session_orders::act;
 
 /// Does what a line says, and tells what it is answered. What is told of a line that says nothing says nothing.
 pub(crate) fn ask_line<D: Disk + Drop>(
@@ -47,7 +49,7 @@ fn unread(fault: LineFault) -> Result<Answer, AnswerFault>
 fn heed<D: Disk + Drop>(store: &mut Store<D>, line: Line) -> Result<Answer, AnswerFault>
     requires { IsLineFor store.old.pages.layout.schema line }
     ensures ok { IfOk result (λ answer. PlacesLead D.told store.old store.new (λ p q. IsAnswered p (Ok line) answer q)) }
-    ensures stops { IfErr result (λ fault. PlacesStop D.told store.old store.new fault (IsStoppedSaying line fault)) }
+    ensures stops { IfErr result (λ fault. PlacesStop D.told store.old store.new (session_of store.old.names (Ok line)) fault (IsStoppedSaying line fault)) }
 {
     match line {
         Line::Nothing => Ok(Answer::Started),
@@ -63,7 +65,7 @@ fn ask<D: Disk + Drop>(
 ) -> Result<Answer, AnswerFault>
     requires { IsOrderFor store.old.pages.layout.schema order }
     ensures ok { IfOk result (λ answer. PlacesLead D.told store.old store.new (λ p q. IsAnswered p (Ok (Line.Say session.now order)) answer q)) }
-    ensures stops { IfErr result (λ fault. PlacesStop D.told store.old store.new fault (IsStoppedSaying (Line.Say session.now order) fault)) }
+    ensures stops { IfErr result (λ fault. PlacesStop D.told store.old store.new (session_number store.old.names session.now) fault (IsStoppedSaying (Line.Say session.now order) fault)) }
 {
     match store.session(*session) {
         Ok(number) => act(store, number, order),

@@ -15,6 +15,8 @@ use Rattle.recovery.specs.Reaches.{OpensWith}
 use Rattle.page_store.specs.Survives.{each_image_has, each_moment_has}
 use Rattle.tx_table.specs.Durable.{IsBefore}
 use Rattle.transactions.specs.TransactionsState.{TransactionsState}
+use Rattle.script_run.specs.declared.engine.AnswerFault.{AnswerFault}
+use Rattle.script_run.specs.declared.engine.AnswerFault.TheVariants.{Memory, Full, Disk, Damaged}
 use Rattle.script_semantics.specs.Place.{Place, database_at}
 use Rattle.transactions.specs.FoundLaws.{table_committed}
 use Rattle.transactions.specs.StopLaws.{EachImage, EachStop}
@@ -31,7 +33,7 @@ use Rattle.session_core.specs.ImageLaws.{ShownIsImage, StepCommits}
 use Rattle.session_core.specs.StopRule.{AllHaveTable, HasTableOr, IsImageWith, StopsWhole}
 use Rattle.session_core.specs.StoreImage.{IsStoreImage}
 use Rattle.session_core.specs.Stops.{StopsSo}
-use Rattle.session_orders.specs.CrashRule.{HasTableOf, IsFurther, IsOfRun, IsOfStop, StopsAmid, StopsBetween, table_behind}
+use Rattle.session_orders.specs.CrashRule.{HasTableOf, IsFurther, IsLeftCut, IsOfRun, IsOfStop, StopsAmid, StopsBetween, table_behind}
 
 -- ---- journals
 
@@ -112,9 +114,16 @@ run_earlier p q r image further of =
     let long = longer p q further in
     record { count = of.count; least = omega (arith, of.least, long); most = of.most; has = of.has }
 
-pub stop_earlier : (p q r : Place) (image : List ℕ) → IsFurther p q → IsOfStop q r image → IsOfStop p r image
-stop_earlier p q r image further (inl of) = inl (run_earlier p q r image further of)
-stop_earlier p q r image further (inr has) = inr has
+pub stop_earlier : (n : ℕ) (p q r : Place) (image : List ℕ) → IsFurther p q → IsOfStop n q r image → IsOfStop n p r image
+stop_earlier n p q r image further (inl of) = inl (run_earlier p q r image further of)
+stop_earlier n p q r image further (inr has) = inr has
+
+-- what a line leaves that isn't answered is what the disk may leave that failed in it
+pub left_cut : (fault : AnswerFault) (q : Place) (n : ℕ) (image : List ℕ) → IsLeftCut fault q n image → HasTableOf q n image
+left_cut Memory q n image has = inl has
+left_cut Full q n image has = inl has
+left_cut Disk q n image has = has
+left_cut Damaged q n image has = inl has
 
 -- ---- stores
 
@@ -157,15 +166,15 @@ module _ {D : Type 0} (told : D → Told) where
         second.1,
       )
 
-  pub amid_then : (s t u : StoreState D) (p q r : Place) → IsFurther p q → IsFurther q r → StopsBetween told s t p q → StopsAmid told t u q r → StopsAmid told s u p r
-  amid_then s t u p q r further more one two all =
+  pub amid_then : (s t u : StoreState D) (n : ℕ) (p q r : Place) → IsFurther p q → IsFurther q r → StopsBetween told s t p q → StopsAmid told t u n q r → StopsAmid told s u n p r
+  amid_then s t u n p q r further more one two all =
       let first = one all in
       let second = two first.1 in (
         record {
-          moments = joined (told s.pages.disk) (told t.pages.disk) (told u.pages.disk) (IsOfStop p r)
-              (weaker (told s.pages.disk) (told t.pages.disk) (IsOfRun p q) (IsOfStop p r) first.0.moments (λ image of. inl (run_later p q r image more of)))
-              (weaker (told t.pages.disk) (told u.pages.disk) (IsOfStop q r) (IsOfStop p r) second.0.moments (λ image of. stop_earlier p q r image further of));
-          images = λ image now. stop_earlier p q r image further (second.0.images image now);
+          moments = joined (told s.pages.disk) (told t.pages.disk) (told u.pages.disk) (IsOfStop n p r)
+              (weaker (told s.pages.disk) (told t.pages.disk) (IsOfRun p q) (IsOfStop n p r) first.0.moments (λ image of. inl (run_later p q r image more of)))
+              (weaker (told t.pages.disk) (told u.pages.disk) (IsOfStop n q r) (IsOfStop n p r) second.0.moments (λ image of. stop_earlier n p q r image further of));
+          images = λ image now. stop_earlier n p q r image further (second.0.images image now);
         },
         second.1,
       )
@@ -190,17 +199,17 @@ module _ {D : Type 0} (told : D → Told) where
           w.behind ready q shown is,
         )
 
-    has_either : (image : List ℕ) → OpensWith p.layout (HasTableOr p n) image → HasTableOf p image
+    has_either : (image : List ℕ) → OpensWith p.layout (HasTableOr p n) image → HasTableOf p n image
     has_either image opens = elim opens.2 [
       | inl whole ↦ inl (opens.0, opens.1, whole)
-      | inr both ↦ inr (n, both.0, (opens.0, opens.1, both.1))
+      | inr both ↦ inr (both.0, (opens.0, opens.1, both.1))
     ]
 
     -- the disk failed in it
-    pub failed_amid : (fault : StoreFault) → (AllHaveTable told s.pages p → StopsWhole told s s' p n (Err fault)) → StopsAmid told s s' p p
+    pub failed_amid : (fault : StoreFault) → (AllHaveTable told s.pages p → StopsWhole told s s' p n (Err fault)) → StopsAmid told s s' n p p
     failed_amid fault whole all =
         let w = whole all in (
-          each_less s.pages s'.pages (OpensWith p.layout (HasTableOr p n)) (IsOfStop p p) w.stops (λ image opens. inr (has_either image opens)),
+          each_less s.pages s'.pages (OpensWith p.layout (HasTableOr p n)) (IsOfStop n p p) w.stops (λ image opens. inr (has_either image opens)),
           λ image now. has_either image (w.stops.images image now),
         )
 

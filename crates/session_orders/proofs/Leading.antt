@@ -73,8 +73,8 @@ module _ {D : Type 0} (told : D → Told) where
         record { place = far.place; shown = far.shown; so = so p far.place shown far.shown far.so; further = far.further; stops = far.stops };
   }
 
-  pub stops_as : (s s' : StoreState D) (fault : AnswerFault) (P Q : Place → Place → Type 0) → PlacesStop told s s' fault P → ((p q : Place) → ShowsPlace s p → P p q → Q p q) → PlacesStop told s s' fault Q
-  stops_as s s' fault P Q stops so = record {
+  pub stops_as : (s s' : StoreState D) (n : ℕ) (fault : AnswerFault) (P Q : Place → Place → Type 0) → PlacesStop told s s' n fault P → ((p q : Place) → ShowsPlace s p → P p q → Q p q) → PlacesStop told s s' n fault Q
+  stops_as s s' n fault P Q stops so = record {
     leaves = stops.leaves;
     cause = stops.cause;
     places = λ tells was p shown.
@@ -83,8 +83,8 @@ module _ {D : Type 0} (told : D → Told) where
   }
 
   -- all is done, and memory is short for its text
-  pub lost_behind : (s s' : StoreState D) (P Q : Place → Place → Type 0) → PlacesLead told s s' P → ((p q : Place) → ShowsPlace s p → ShowsPlace s' q → P p q → Q p q) → PlacesStop told s s' Memory Q
-  lost_behind s s' P Q leads so = record {
+  pub lost_behind : (s s' : StoreState D) (n : ℕ) (P Q : Place → Place → Type 0) → PlacesLead told s s' P → ((p q : Place) → ShowsPlace s p → ShowsPlace s' q → P p q → Q p q) → PlacesStop told s s' n Memory Q
+  lost_behind s s' n P Q leads so = record {
     leaves = leads.leaves;
     cause = tt;
     places = λ tells was p shown.
@@ -117,15 +117,15 @@ module _ {D : Type 0} (told : D → Told) where
   cause_after s t u Disk leaves ready cause = λ was. rose_earlier (told s.pages.disk).faults (told t.pages.disk).faults (told u.pages.disk).faults leaves.faults (cause (ready was))
   cause_after s t u Damaged leaves ready cause = λ tells was. cause (leaves.tells ∙ tells) (ready was)
 
-  pub left_later : (s t u : StoreState D) (fault : AnswerFault) (p q r : Place) → IsFurther p q → IsFurther q r → StopsBetween told s t p q → IsLeftBy told t u fault q r → IsLeftBy told s u fault p r
-  left_later s t u Memory p q r further more stops left = (left.0, between_then told s t u p q r further more stops left.1)
-  left_later s t u Full p q r further more stops left = (left.0, between_then told s t u p q r further more stops left.1)
-  left_later s t u Disk p q r further more stops left = amid_then told s t u p q r further more stops left
-  left_later s t u Damaged p q r further more stops left = left
+  pub left_later : (s t u : StoreState D) (n : ℕ) (fault : AnswerFault) (p q r : Place) → IsFurther p q → IsFurther q r → StopsBetween told s t p q → IsLeftBy told t u n fault q r → IsLeftBy told s u n fault p r
+  left_later s t u n Memory p q r further more stops left = (left.0, between_then told s t u p q r further more stops left.1)
+  left_later s t u n Full p q r further more stops left = (left.0, between_then told s t u p q r further more stops left.1)
+  left_later s t u n Disk p q r further more stops left = amid_then told s t u n p q r further more stops left
+  left_later s t u n Damaged p q r further more stops left = left
 
-  pub stops_further : (s t u : StoreState D) (fault : AnswerFault) (P Q R : Place → Place → Type 0) → PlacesLead told s t P → PlacesStop told t u fault Q
-      → ((p q r : Place) → ShowsPlace s p → ShowsPlace t q → P p q → Q q r → R p r) → PlacesStop told s u fault R
-  stops_further s t u fault P Q R first second so = record {
+  pub stops_further : (s t u : StoreState D) (n : ℕ) (fault : AnswerFault) (P Q R : Place → Place → Type 0) → PlacesLead told s t P → PlacesStop told t u n fault Q
+      → ((p q r : Place) → ShowsPlace s p → ShowsPlace t q → P p q → Q q r → R p r) → PlacesStop told s u n fault R
+  stops_further s t u n fault P Q R first second so = record {
     leaves = leaves_on s.pages t.pages u.pages first.leaves second.leaves;
     cause = cause_after s t u fault first.leaves first.ready second.cause;
     places = λ tells was p shown.
@@ -135,7 +135,7 @@ module _ {D : Type 0} (told : D → Told) where
           place = far.place;
           so = so p mid.place far.place shown mid.shown mid.so far.so;
           further = further_on p mid.place far.place mid.further far.further;
-          left = left_later s t u fault p mid.place far.place mid.further far.further mid.stops far.left;
+          left = left_later s t u n fault p mid.place far.place mid.further far.further mid.stops far.left;
         };
   }
 
@@ -146,17 +146,17 @@ module _ {D : Type 0} (told : D → Told) where
   ok_led s s' (Ok a) P Q leads so = led_as s s' (P a) (Q a) leads (so a)
   ok_led s s' (Err e) P Q leads so = tt
 
-  pub err_stops : {A : Type 0} (s s' : StoreState D) (result : Result A AnswerFault) (P Q : AnswerFault → Place → Place → Type 0) → IfErr result (λ fault. PlacesStop told s s' fault (P fault))
-      → ((fault : AnswerFault) (p q : Place) → P fault p q → Q fault p q) → IfErr result (λ fault. PlacesStop told s s' fault (Q fault))
-  err_stops s s' (Ok a) P Q stops so = tt
-  err_stops s s' (Err fault) P Q stops so = stops_as s s' fault (P fault) (Q fault) stops (λ p q _ is. so fault p q is)
+  pub err_stops : {A : Type 0} (s s' : StoreState D) (n : ℕ) (result : Result A AnswerFault) (P Q : AnswerFault → Place → Place → Type 0) → IfErr result (λ fault. PlacesStop told s s' n fault (P fault))
+      → ((fault : AnswerFault) (p q : Place) → P fault p q → Q fault p q) → IfErr result (λ fault. PlacesStop told s s' n fault (Q fault))
+  err_stops s s' n (Ok a) P Q stops so = tt
+  err_stops s s' n (Err fault) P Q stops so = stops_as s s' n fault (P fault) (Q fault) stops (λ p q _ is. so fault p q is)
 
   pub ok_further : {A E : Type 0} (s t u : StoreState D) (result : Result A E) (P : Place → Place → Type 0) (Q R : A → Place → Place → Type 0) → PlacesLead told s t P → IfOk result (λ a. PlacesLead told t u (Q a))
       → ((a : A) (p q r : Place) → P p q → Q a q r → R a p r) → IfOk result (λ a. PlacesLead told s u (R a))
   ok_further s t u (Ok a) P Q R first second so = led_further s t u P (Q a) (R a) first second (λ p q r _ _ _ before behind. so a p q r before behind)
   ok_further s t u (Err e) P Q R first second so = tt
 
-  pub err_further : {A : Type 0} (s t u : StoreState D) (result : Result A AnswerFault) (P : Place → Place → Type 0) (Q R : AnswerFault → Place → Place → Type 0) → PlacesLead told s t P
-      → IfErr result (λ fault. PlacesStop told t u fault (Q fault)) → ((fault : AnswerFault) (p q r : Place) → P p q → Q fault q r → R fault p r) → IfErr result (λ fault. PlacesStop told s u fault (R fault))
-  err_further s t u (Ok a) P Q R first second so = tt
-  err_further s t u (Err fault) P Q R first second so = stops_further s t u fault P (Q fault) (R fault) first second (λ p q r _ _ before behind. so fault p q r before behind)
+  pub err_further : {A : Type 0} (s t u : StoreState D) (n : ℕ) (result : Result A AnswerFault) (P : Place → Place → Type 0) (Q R : AnswerFault → Place → Place → Type 0) → PlacesLead told s t P
+      → IfErr result (λ fault. PlacesStop told t u n fault (Q fault)) → ((fault : AnswerFault) (p q r : Place) → P p q → Q fault q r → R fault p r) → IfErr result (λ fault. PlacesStop told s u n fault (R fault))
+  err_further s t u n (Ok a) P Q R first second so = tt
+  err_further s t u n (Err fault) P Q R first second so = stops_further s t u n fault P (Q fault) (R fault) first second (λ p q r _ _ before behind. so fault p q r before behind)

@@ -93,7 +93,7 @@ module _ {D : Type 0} (told : D → Told) (shown_law : ShownIsImage) (commit_law
 
   pub step_unmade : (fault : StoreFault) → LeadsOn told s s' (λ p q. StepIs p n (Err fault) q) → HasFaultCause told s.pages s'.pages fault → IsSome (hand_at s n)
       → IfSome (hand_at s n) (λ hand. StopsSo told s.transactions n s.pages s'.pages hand (Err fault)) → ((p : Place) → ShowsPlace s p → AllHaveTable told s.pages p → StopsWhole told s s' p n (Err fault))
-      → PlacesStop told s s' (fault_of_step fault) (IsNotMade n (fault_of_step fault))
+      → PlacesStop told s s' n (fault_of_step fault) (IsNotMade n (fault_of_step fault))
   step_unmade (stops.Spent entries) leads cause hand survives whole = record {
     leaves = leaves;
     cause = tt;
@@ -138,8 +138,8 @@ step_leaves told s s' (stops.Damaged at) cause unchanged = (cause.1, cause.3)
 -- ---- all steps
 
 -- no disk that tells its contents leads so far
-pub no_damage : {D : Type 0} (told : D → Told) (s s' : StoreState D) (P Q : Place → Place → Type 0) → PlacesLead told s s' P → (Tells told s.pages → s.pages.failed ≡ None → ⊥) → PlacesStop told s s' Damaged Q
-no_damage told s s' P Q leads never = record { leaves = leads.leaves; cause = never; places = λ tells was p shown. absurd (never tells was) }
+pub no_damage : {D : Type 0} (told : D → Told) (s s' : StoreState D) (n : ℕ) (P Q : Place → Place → Type 0) → PlacesLead told s s' P → (Tells told s.pages → s.pages.failed ≡ None → ⊥) → PlacesStop told s s' n Damaged Q
+no_damage told s s' n P Q leads never = record { leaves = leads.leaves; cause = never; places = λ tells was p shown. absurd (never tells was) }
 
 finishes_behind : (n : ℕ) (p q r : Place) (outcome : Outcome) → MovedTo n p q → Finishes n q outcome r → Finishes n p outcome r
 finishes_behind n _ _ r outcome (Still p) finishes = finishes

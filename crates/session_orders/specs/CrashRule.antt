@@ -1,11 +1,17 @@
 -- The crash rule: which table each image of the disk has at each moment of a script, by the journal of its requests.
-use Rattle.std.specs.Prelude.{◌≡◌, ◌⊎◌, ℕ, ◌≤◌, IsTrue, List, ◌++◌, length, take}
+use Rattle.std.specs.Prelude.{◌≡◌, ◌⊎◌, ℕ, ◌≤◌, IsTrue, List, ◌++◌, length, take, Result, Ok}
 use Rattle.block_model.specs.declared.request.Entry.{Entry}
 use Rattle.block_model.specs.SerialRun.{serial_run}
 use Rattle.block_model.specs.TableState.{TableState}
 use Rattle.disk_trait.specs.Told.{Told}
 use Rattle.disk_trait.specs.Throughout.{Throughout}
+use Rattle.query_words.specs.declared.line.Line.{Line}
+use Rattle.query_words.specs.declared.line.Line.TheVariants as lines
+use Rattle.query_words.specs.declared.line.LineFault.{LineFault}
+use Rattle.script_run.specs.declared.engine.AnswerFault.{AnswerFault}
+use Rattle.script_run.specs.declared.engine.AnswerFault.TheVariants.{Disk}
 use Rattle.script_semantics.specs.Place.{Place, database_at}
+use Rattle.store_layout.specs.SessionNumbers.{session_number}
 use Rattle.transactions.specs.FoundLaws.{table_committed}
 use Rattle.transactions.specs.StopLaws.{EachImage, EachStop}
 use Rattle.session_core.specs.ImageLaws.{IsCommitting}
@@ -30,22 +36,22 @@ pub record IsOfRun (p q : Place) (image : List ℕ) : Type 0 where
   pub most : count ≤ length q.journal
   pub has : IsImageWith q.layout (table_behind q count) image
 
--- the image has the table of the place's journal, or that with a commit that is in hand there
-abbrev pub HasTableOf : Place → List ℕ → Type 0
-HasTableOf p image = IsImageWith p.layout (database_at p).table image ⊎ ((n : ℕ) × IsCommitting p n × IsImageWith p.layout (table_committed (database_at p) n) image)
+-- the image has the table of the place's journal, or that with the commit that session n has in hand there
+abbrev pub HasTableOf : Place → (n : ℕ) → List ℕ → Type 0
+HasTableOf p n image = IsImageWith p.layout (database_at p).table image ⊎ (IsCommitting p n × IsImageWith p.layout (table_committed (database_at p) n) image)
 
--- it has a table of the run between the two places, or that with a commit which is in hand at the second one
-abbrev pub IsOfStop : Place → Place → List ℕ → Type 0
-IsOfStop p q image = IsOfRun p q image ⊎ HasTableOf q image
+-- it has a table of the run between the two places, or that with the commit which session n has in hand at the second one
+abbrev pub IsOfStop : (n : ℕ) → Place → Place → List ℕ → Type 0
+IsOfStop n p q image = IsOfRun p q image ⊎ HasTableOf q n image
 
 -- where each image had the table of the first place's journal, each has such a table at every moment, and that of the second's in the end
 abbrev pub StopsBetween : {D : Type 0} → (D → Told) → (s s' : StoreState D) → (p q : Place) → Type 0
 StopsBetween told s s' p q = AllHaveTable told s.pages p → EachStop told s.pages s'.pages (IsOfRun p q) × AllHaveTable told s'.pages q
 
--- The same where the disk failed in a step behind the second place: in the end each has the table of that place's journal, whether the commit that was
--- in hand is in it or not.
-abbrev pub StopsAmid : {D : Type 0} → (D → Told) → (s s' : StoreState D) → (p q : Place) → Type 0
-StopsAmid told s s' p q = AllHaveTable told s.pages p → EachStop told s.pages s'.pages (IsOfStop p q) × EachImage told s'.pages (HasTableOf q)
+-- The same where the disk failed in a step of session n behind the second place: in the end each has the table of that place's journal, whether the commit
+-- that this step makes is in it or not.
+abbrev pub StopsAmid : {D : Type 0} → (D → Told) → (s s' : StoreState D) → (n : ℕ) → (p q : Place) → Type 0
+StopsAmid told s s' n p q = AllHaveTable told s.pages p → EachStop told s.pages s'.pages (IsOfStop n p q) × EachImage told s'.pages (HasTableOf q n)
 
 -- ---- line by line
 
@@ -66,8 +72,20 @@ pub record IsStretch (P : Place → Place → Type 0) (a b : Stand) : Type 0 whe
   pub moments : Throughout a.disk b.disk (IsOfRun a.place b.place)
   pub sure : IsSure b
 
--- A line that isn't answered leads so from a stand to where it stops: up to there each image has such a table, or that with a commit which is in hand there.
-pub record IsCutStretch (P : Place → Place → Type 0) (a b : Stand) : Type 0 where
+-- the number of the session whose line it is; 0 where it is none's
+abbrev pub session_of : List (List ℕ) → Result Line LineFault → ℕ
+session_of names (Ok (lines.Say name order)) = session_number names name
+session_of names said = 0
+
+-- Behind a line of session n that isn't answered the image has the table of the place's journal; or, where the disk failed in a step of it, that with the
+-- commit which this step makes.
+abbrev pub IsLeftCut : AnswerFault → Place → (n : ℕ) → List ℕ → Type 0
+IsLeftCut Disk q n image = HasTableOf q n image
+IsLeftCut fault q n image = IsImageWith q.layout (database_at q).table image
+
+-- A line of session n that isn't answered leads so from a stand to where it stops: up to there each image has such a table, or one that the line leaves.
+pub record IsCutStretch (P : Place → Place → Type 0) (n : ℕ) (fault : AnswerFault) (a b : Stand) : Type 0 where
   pub so : P a.place b.place
   pub further : IsFurther a.place b.place
-  pub moments : Throughout a.disk b.disk (IsOfStop a.place b.place)
+  pub moments : Throughout a.disk b.disk (λ image. IsOfRun a.place b.place image ⊎ IsLeftCut fault b.place n image)
+  pub left : (image : List ℕ) → IsTrue (b.disk.now image) → IsLeftCut fault b.place n image

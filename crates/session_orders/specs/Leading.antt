@@ -1,5 +1,5 @@
 -- from the places that a store shows to those that another one shows
-use Rattle.std.specs.Prelude.{◌≡◌, None, IsSome}
+use Rattle.std.specs.Prelude.{◌≡◌, ℕ, None, IsSome}
 use Rattle.block_model.specs.Causes.{Rose}
 use Rattle.disk_trait.specs.Told.{Told}
 use Rattle.page_map.specs.Keeps.{Leaves, Tells}
@@ -26,13 +26,13 @@ pub record PlacesLead {D : Type 0} (told : D → Told) (s s' : StoreState D) (P 
   pub ready : s.pages.failed ≡ None → s'.pages.failed ≡ None
   pub places : Tells told s.pages → s.pages.failed ≡ None → (p : Place) → ShowsPlace s p → LeadsTo told s s' P p
 
--- Behind a fault of memory or room the store shows the place; behind one of the disk it shows none, and the images tell how far it came. Nothing that
--- a disk tells is damaged.
-abbrev pub IsLeftBy : {D : Type 0} → (D → Told) → (s s' : StoreState D) → AnswerFault → (p q : Place) → Type 0
-IsLeftBy told s s' Memory p q = ShowsPlace s' q × StopsBetween told s s' p q
-IsLeftBy told s s' Full p q = ShowsPlace s' q × StopsBetween told s s' p q
-IsLeftBy told s s' Disk p q = StopsAmid told s s' p q
-IsLeftBy told s s' Damaged p q = ⊥
+-- Behind a fault of memory or room the store shows the place; behind one of the disk, in a step of session n, it shows none, and the images tell how far
+-- it came. Nothing that a disk tells is damaged.
+abbrev pub IsLeftBy : {D : Type 0} → (D → Told) → (s s' : StoreState D) → (n : ℕ) → AnswerFault → (p q : Place) → Type 0
+IsLeftBy told s s' n Memory p q = ShowsPlace s' q × StopsBetween told s s' p q
+IsLeftBy told s s' n Full p q = ShowsPlace s' q × StopsBetween told s s' p q
+IsLeftBy told s s' n Disk p q = StopsAmid told s s' n p q
+IsLeftBy told s s' n Damaged p q = ⊥
 
 -- Of a store in which no fault of the disk was kept: the disk is the fault only where its count rose, and damage only where it doesn't tell its contents.
 abbrev pub HasStopCause : {D : Type 0} → (D → Told) → (s s' : StoreState D) → AnswerFault → Type 0
@@ -48,15 +48,15 @@ LeavesUnmade told s s' Full = StaysAsItWas told s s'
 LeavesUnmade told s s' Disk = IsSome s'.pages.failed
 LeavesUnmade told s s' Damaged = (s'.pages.failed ≡ None) × (Tells told s.pages → ⊥)
 
--- a place that the store showed leads so to the place at which the fault came
-pub record StopsWith {D : Type 0} (told : D → Told) (s s' : StoreState D) (fault : AnswerFault) (P : Place → Place → Type 0) (p : Place) : Type 0 where
+-- a place that the store showed leads so to the place at which the fault came, to session n
+pub record StopsWith {D : Type 0} (told : D → Told) (s s' : StoreState D) (n : ℕ) (fault : AnswerFault) (P : Place → Place → Type 0) (p : Place) : Type 0 where
   pub place : Place
   pub so : P p place
   pub further : IsFurther p place
-  pub left : IsLeftBy told s s' fault p place
+  pub left : IsLeftBy told s s' n fault p place
 
--- What was asked of a store isn't answered.
-pub record PlacesStop {D : Type 0} (told : D → Told) (s s' : StoreState D) (fault : AnswerFault) (P : Place → Place → Type 0) : Type 0 where
+-- What session n asked of a store isn't answered.
+pub record PlacesStop {D : Type 0} (told : D → Told) (s s' : StoreState D) (n : ℕ) (fault : AnswerFault) (P : Place → Place → Type 0) : Type 0 where
   pub leaves : Leaves told s.pages s'.pages
   pub cause : HasStopCause told s s' fault
-  pub places : Tells told s.pages → s.pages.failed ≡ None → (p : Place) → ShowsPlace s p → StopsWith told s s' fault P p
+  pub places : Tells told s.pages → s.pages.failed ≡ None → (p : Place) → ShowsPlace s p → StopsWith told s s' n fault P p

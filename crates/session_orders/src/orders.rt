@@ -29,7 +29,7 @@ pub fn act<D: Disk + Drop>(
     requires order { IsOrderFor store.old.pages.layout.schema order }
     ensures names { store.new.names ≡ store.old.names }
     ensures ok { IfOk result (λ answer. PlacesLead D.told store.old store.new (DoesSo session order answer)) }
-    ensures stops { IfErr result (λ fault. PlacesStop D.told store.old store.new fault (IsCutShort session order fault)) }
+    ensures stops { IfErr result (λ fault. PlacesStop D.told store.old store.new session fault (IsCutShort session order fault)) }
 {
     match order {
         Order::Whole(statement) => whole(store, session, statement),
@@ -49,7 +49,7 @@ fn whole<D: Disk + Drop>(
     requires statement { IsStatementFor store.old.pages.layout.schema statement }
     ensures names { store.new.names ≡ store.old.names }
     ensures ok { IfOk result (λ answer. PlacesLead D.told store.old store.new (DoesSo session (Order.Whole statement) answer)) }
-    ensures stops { IfErr result (λ fault. PlacesStop D.told store.old store.new fault (IsCutShort session (Order.Whole statement) fault)) }
+    ensures stops { IfErr result (λ fault. PlacesStop D.told store.old store.new session fault (IsCutShort session (Order.Whole statement) fault)) }
 {
     match store.submit(session, statement) {
         Ok(()) => finish(store, session),
@@ -75,7 +75,7 @@ fn step_once<D: Disk + Drop>(store: &mut Store<D>, session: u32) -> Result<Answe
     requires session { session < length store.old.names }
     ensures names { store.new.names ≡ store.old.names }
     ensures ok { IfOk result (λ answer. PlacesLead D.told store.old store.new (DoesSo session Order.Step answer)) }
-    ensures stops { IfErr result (λ fault. PlacesStop D.told store.old store.new fault (IsCutShort session Order.Step fault)) }
+    ensures stops { IfErr result (λ fault. PlacesStop D.told store.old store.new session fault (IsCutShort session Order.Step fault)) }
 {
     if !store.in_hand(session) {
         return Ok(Answer::Refused(Refusal::NothingStarted));
@@ -88,7 +88,7 @@ fn step_through<D: Disk + Drop>(store: &mut Store<D>, session: u32) -> Result<An
     requires session { session < length store.old.names }
     ensures names { store.new.names ≡ store.old.names }
     ensures ok { IfOk result (λ answer. PlacesLead D.told store.old store.new (DoesSo session Order.Finish answer)) }
-    ensures stops { IfErr result (λ fault. PlacesStop D.told store.old store.new fault (IsCutShort session Order.Finish fault)) }
+    ensures stops { IfErr result (λ fault. PlacesStop D.told store.old store.new session fault (IsCutShort session Order.Finish fault)) }
 {
     if !store.in_hand(session) {
         return Ok(Answer::Refused(Refusal::NothingStarted));
@@ -103,7 +103,7 @@ fn finish<D: Disk + Drop>(store: &mut Store<D>, session: u32) -> Result<Answer, 
     requires hand { IsSome (hand_at store.old session) }
     ensures names { store.new.names ≡ store.old.names }
     ensures ok { IfOk result (λ answer. PlacesLead D.told store.old store.new (FinishesSo session answer)) }
-    ensures stops { IfErr result (λ fault. PlacesStop D.told store.old store.new fault (IsHalted session fault)) }
+    ensures stops { IfErr result (λ fault. PlacesStop D.told store.old store.new session fault (IsHalted session fault)) }
 {
     moves_are_counted();
     a_finished_statement_ends();
@@ -124,7 +124,7 @@ pub fn step<D: Disk + Drop>(store: &mut Store<D>, session: u32) -> Result<Answer
     ensures names { store.new.names ≡ store.old.names }
     ensures hand { IfOk result (λ answer. IsInHandStill answer (hand_at store.new session)) }
     ensures ok { IfOk result (λ answer. PlacesLead D.told store.old store.new (StepsSo session answer)) }
-    ensures stops { IfErr result (λ fault. PlacesStop D.told store.old store.new fault (IsNotMade session fault)) }
+    ensures stops { IfErr result (λ fault. PlacesStop D.told store.old store.new session fault (IsNotMade session fault)) }
     // So damage that the store finds is told as damage.
     ensures unmade { IfErr result (LeavesUnmade D.told store.old store.new) }
 {

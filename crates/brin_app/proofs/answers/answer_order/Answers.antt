@@ -11,14 +11,14 @@ pub returns-in_err-answer-clause-stops : goal.returns-in_err-answer-clause-stops
 returns-in_err-answer-clause-stops g c =
     let p = err_from_is_err_and c.from_residual.result c.from_residual.ensures.1 in
     rw (p.1, p.2)
-    (stops_as g.D.Disk.told c.args.store.now c.act.new.store c.in_err-answer.field-0.0 (IsCutShort c.args.number c.args.order c.in_err-answer.field-0.0)
+    (stops_as g.D.Disk.told c.args.store.now c.act.new.store c.args.number c.in_err-answer.field-0.0 (IsCutShort c.args.number c.args.order c.in_err-answer.field-0.0)
     (IsLost c.args.number c.args.session.now c.args.order c.in_err-answer.field-0.0) c.in_err-answer.ensures.stops (λ p q _ cut. inl cut))
 
 pub returns-in_err-tell-clause-stops : goal.returns-in_err-tell-clause-stops
 returns-in_err-tell-clause-stops g c =
     let p = err_from_is_err_and c.from_residual-in_err-tell.result c.from_residual-in_err-tell.ensures.1 in
     rw (p.1, p.2)
-    (lost_behind g.D.Disk.told c.args.store.now c.act.new.store (DoesSo c.args.number c.args.order c.in_ok-answer.answer) (IsLost c.args.number c.args.session.now c.args.order Memory) c.in_ok-answer.ensures.ok
+    (lost_behind g.D.Disk.told c.args.store.now c.act.new.store c.args.number (DoesSo c.args.number c.args.order c.in_ok-answer.answer) (IsLost c.args.number c.args.session.now c.args.order Memory) c.in_ok-answer.ensures.ok
     (λ p q _ shown does. inr (
       refl,
       answer_text c.args.session.now c.dropped.result.now c.in_ok-answer.answer,

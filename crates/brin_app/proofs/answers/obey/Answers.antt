@@ -1,9 +1,11 @@
 use Rattle.std.proofs.Common.{[], refl, sym, subst}
-use Rattle.std.specs.Prelude.{Ok, OnOk, ◌≡◌, ◌++◌, ℕ, List}
+use Rattle.std.specs.Prelude.{IfErr, Ok, OnOk, ◌≡◌, ◌++◌, ℕ, List}
 use Rattle.std.proofs.lemmas.List.{append-nil}
 use Rattle.query_words.specs.declared.line.Line.{Line}
 use Rattle.script_semantics.specs.LineTexts.{Answers, SaysNothing}
-use Rattle.session_orders.specs.Leading.{PlacesLead}
+use Rattle.session_orders.specs.CrashRule.{session_of}
+use Rattle.session_orders.specs.Leading.{PlacesLead, PlacesStop}
+use Rattle.session_orders.specs.Orders.{IsStoppedSaying}
 use Rattle.session_orders.proofs.Leading.{led_still}
 use Rattle.brin_app.proofs.answers.obey.Goals as goal
 
@@ -19,3 +21,7 @@ returns-in-Say-clause-ok g c =
     subst
     (λ (line : Line). OnOk c.say.result ((text : List ℕ) × (c.say.new.out.items ≡ c.args.out.now.items ++ text) × PlacesLead g.D.Disk.told c.args.store.now c.say.new.store (λ p q. Answers p (Ok line) text q)))
     (sym c.in-Say.is) c.say.ensures.ok
+
+pub returns-in-Say-clause-stops : goal.returns-in-Say-clause-stops
+returns-in-Say-clause-stops g c =
+    subst (λ (line : Line). IfErr c.say.result (λ fault. PlacesStop g.D.Disk.told c.args.store.now c.say.new.store (session_of c.args.store.now.names (Ok line)) fault (IsStoppedSaying line fault))) (sym c.in-Say.is) c.say.ensures.stops

@@ -3,6 +3,7 @@ use Rattle.std.specs.Prelude.{IfOk, IfErr, Ok}
 use Rattle.query_words.specs.declared.line.Line.{Line}
 use Rattle.demo_script.specs.declared.answer.Answer.TheVariants as answers
 use Rattle.brin_app.specs.Asking.{IsAnswered}
+use Rattle.session_orders.specs.CrashRule.{session_of}
 use Rattle.session_orders.specs.Leading.{PlacesLead, PlacesStop}
 use Rattle.session_orders.specs.Orders.{IsStoppedSaying}
 use Rattle.brin_app.proofs.Heeding.{nothing_answered}
@@ -20,4 +21,4 @@ returns-in-Say-clause-ok g c =
 
 pub returns-in-Say-clause-stops : goal.returns-in-Say-clause-stops
 returns-in-Say-clause-stops g c =
-    subst (λ (line : Line). IfErr c.ask.result (λ fault. PlacesStop g.D.Disk.told c.args.store.now c.ask.new.store fault (IsStoppedSaying line fault))) (sym c.in-Say.is) c.ask.ensures.stops
+    subst (λ (line : Line). IfErr c.ask.result (λ fault. PlacesStop g.D.Disk.told c.args.store.now c.ask.new.store (session_of c.args.store.now.names (Ok line)) fault (IsStoppedSaying line fault))) (sym c.in-Say.is) c.ask.ensures.stops

@@ -21,7 +21,7 @@ pub returns-in_err-answer-clause-stops : goal.returns-in_err-answer-clause-stops
 returns-in_err-answer-clause-stops g c =
     let p = err_from_is_err_and c.from_residual.result c.from_residual.ensures.1 in
     rw (p.1, p.2)
-    (stops_further g.D.Disk.told c.args.store.now c.steps.store c.step.new.store c.in_err-answer.field-0.0 (MovedIn c.args.session c.steps.counter) (IsNotMade c.args.session c.in_err-answer.field-0.0)
+    (stops_further g.D.Disk.told c.args.store.now c.steps.store c.step.new.store c.args.session c.in_err-answer.field-0.0 (MovedIn c.args.session c.steps.counter) (IsNotMade c.args.session c.in_err-answer.field-0.0)
     (IsHalted c.args.session c.in_err-answer.field-0.0) c.steps.invariant.leads c.in_err-answer.ensures.stops
     (λ p q r _ _ before stops. halted c.args.session c.in_err-answer.field-0.0 p q r (c.moves_are_counted.ensures.moved p q c.args.session c.steps.counter before) stops))
 
@@ -46,7 +46,7 @@ steps-preserved g c =
 
 pub returns-clause-stops : goal.returns-clause-stops
 returns-clause-stops g c =
-    no_damage g.D.Disk.told c.args.store.now c.steps.store (MovedIn c.args.session c.steps.counter) (IsHalted c.args.session Damaged) c.steps.invariant.leads
+    no_damage g.D.Disk.told c.args.store.now c.steps.store c.args.session (MovedIn c.args.session c.steps.counter) (IsHalted c.args.session Damaged) c.steps.invariant.leads
     (λ tells was.
     let shown = c.known.ensures.shown tells was in
     let far = c.steps.invariant.leads.places tells was shown.0 shown.1 in

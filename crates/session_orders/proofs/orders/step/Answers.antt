@@ -14,7 +14,7 @@ returns-in-Ok-clause-ok g c =
 
 pub returns-in-Err-clause-stops : goal.returns-in-Err-clause-stops
 returns-in-Err-clause-stops g c =
-    subst (λ (a : AnswerFault). PlacesStop g.D.Disk.told c.args.store.now c.step.new.self a (IsNotMade c.args.session a)) (sym c.fault_of_step.ensures)
+    subst (λ (a : AnswerFault). PlacesStop g.D.Disk.told c.args.store.now c.step.new.self c.args.session a (IsNotMade c.args.session a)) (sym c.fault_of_step.ensures)
     (step_unmade g.D.Disk.told c.a_shown_store_is_an_image.ensures c.a_commit_makes_its_table.ensures c.requests_are_entered_in_place.ensures.own c.args.store.now c.step.new.self c.args.session
     c.in-Err.ensures.leaves c.in-Err.fault c.in-Err.ensures.steps c.in-Err.ensures.cause c.requires.hand c.in-Err.ensures.survives c.in-Err.ensures.stops)
 

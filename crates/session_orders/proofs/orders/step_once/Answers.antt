@@ -18,5 +18,5 @@ returns-clause-ok g c =
 
 pub returns-clause-stops : goal.returns-clause-stops
 returns-clause-stops g c =
-    err_stops g.D.Disk.told c.args.store.now c.step.new.store c.step.result (IsNotMade c.args.session) (IsCutShort c.args.session orders.Step) c.step.ensures.stops
+    err_stops g.D.Disk.told c.args.store.now c.step.new.store c.args.session c.step.result (IsNotMade c.args.session) (IsCutShort c.args.session orders.Step) c.step.ensures.stops
     (λ fault p q stops. step_cut c.args.session fault p q stops)

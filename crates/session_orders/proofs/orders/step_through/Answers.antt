@@ -19,5 +19,5 @@ returns-clause-ok g c =
 
 pub returns-clause-stops : goal.returns-clause-stops
 returns-clause-stops g c =
-    err_stops g.D.Disk.told c.args.store.now c.finish.new.store c.finish.result (IsHalted c.args.session) (IsCutShort c.args.session orders.Finish) c.finish.ensures.stops
+    err_stops g.D.Disk.told c.args.store.now c.finish.new.store c.args.session c.finish.result (IsHalted c.args.session) (IsCutShort c.args.session orders.Finish) c.finish.ensures.stops
     (λ fault p q stops. finish_cut c.args.session fault p q stops)

@@ -26,7 +26,7 @@ returns-in-Ok-clause-ok g c =
 pub returns-in-Ok-clause-stops : goal.returns-in-Ok-clause-stops
 returns-in-Ok-clause-stops g c =
     let Taken = λ (p q : Place). Submits p c.args.session c.args.statement None q in
-    err_further g.D.Disk.told c.args.store.now c.submit.new.self c.finish.new.store c.finish.result Taken (IsHalted c.args.session) (IsCutShort c.args.session (orders.Whole c.args.statement))
+    err_further g.D.Disk.told c.args.store.now c.submit.new.self c.finish.new.store c.args.session c.finish.result Taken (IsHalted c.args.session) (IsCutShort c.args.session (orders.Whole c.args.statement))
     (led_beside g.D.Disk.told c.args.store.now c.submit.new.self Taken Taken (g.met.D.Disk.since_now_is_now c.args.store.now.pages.disk)
     c.submit.ensures.pages c.in-Ok.ensures.submits (λ p q is. submit_keeps p q c.args.session c.args.statement None is) (λ p q is. is)) c.finish.ensures.stops
     (plain_cut c.args.session c.args.statement)
