@@ -1,5 +1,6 @@
 -- A replace that is refused for what stands on the page.
 use Rattle.std.specs.Prelude.{ℕ, ◌<◌, Ok, Err}
+use Rattle.std.proofs.Common.{arith}
 use Rattle.block_model.specs.declared.place.Place.{Place}
 use Rattle.store_layout.specs.DiskLayout.{DiskLayout}
 use Rattle.disk_trait.specs.Told.{Told}
@@ -22,8 +23,8 @@ misfit_told T S told old new value (faults.Changed found at) misfit outcome = ou
 misfit_told T S told old new value (faults.Full need most_free) misfit outcome = outcome
 misfit_told T S told old new value (faults.Store error) misfit outcome = absurd misfit
 
--- a tuple that has no room stands within the index where the page was looked at
+-- what is told where the page was looked at is told of a page that the index may have
 pub stands_within : (limit block : ℕ) (fault : SwapFault) → block < limit → StandsWithin limit block fault
 stands_within limit block (faults.Changed found at) within = tt
 stands_within limit block (faults.Full need most_free) within = within
-stands_within limit block (faults.Store error) within = tt
+stands_within limit block (faults.Store error) within = λ past. absurd (omega (arith, within, past))

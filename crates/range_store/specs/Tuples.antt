@@ -6,7 +6,7 @@ use Rattle.byte_fields.specs.Fields.{field_at, number_of}
 use Rattle.store_layout.specs.DiskLayout.{DiskLayout}
 use Rattle.disk_trait.specs.Told.{Told}
 use Rattle.page_map.specs.Keeps.{Untold}
-use Rattle.page_map.specs.Outcome.{NamesPage, Outcome, Refused}
+use Rattle.page_map.specs.Outcome.{IsReopen, NamesPage, Outcome, Refused}
 use Rattle.page_map.specs.PageMap.{View}
 use Rattle.index_contents.specs.TheConstants.{REGULAR, UNSTARTED}
 use Rattle.index_contents.specs.IndexPages.{Slot, tuple_bytes}
@@ -60,10 +60,11 @@ abbrev pub FaultNamesPlace : DiskLayout → Place → SwapFault → Type 0
 FaultNamesPlace layout place (faults.Store error) = NamesPage layout place error
 FaultNamesPlace layout place fault = Unit {0}
 
--- a tuple that has no room stands on a page that the index may have
+-- a tuple that has no room stands on a page that the index may have, and only such a page is found damaged
 abbrev pub StandsWithin : ℕ → ℕ → SwapFault → Type 0
 StandsWithin limit block (faults.Full need most_free) = block < limit
-StandsWithin limit block fault = Unit {0}
+StandsWithin limit block (faults.Store error) = limit ≤ block → IsReopen error
+StandsWithin limit block (faults.Changed found at) = Unit {0}
 
 -- A replace is done or refused as the page store does or refuses. Other bytes, and want of room, are told only where no disk
 -- fault was kept.

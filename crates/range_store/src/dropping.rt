@@ -5,7 +5,7 @@ ghost use Rattle.store_layout.specs.DiskLayout.{IsPlace};
 ghost use Rattle.page_layout.specs.declared.page.Form.TheVariants as forms;
 ghost use Rattle.page_map.specs.Forms.{form_of};
 ghost use Rattle.page_map.specs.Keeps.{Keeps, Tells, Untold};
-ghost use Rattle.page_map.specs.Outcome.{NamesPage, Outcome};
+ghost use Rattle.page_map.specs.Outcome.{IsReopen, NamesPage, Outcome};
 ghost use Rattle.page_map.specs.PageMap.{page_at};
 ghost use Rattle.page_store.specs.Survives.{Survives};
 ghost use Rattle.index_contents.specs.IndexPages.{IsIndexPage};
@@ -27,7 +27,7 @@ use page_map::StoreError;
 use page_store::PageStore;
 
 /// The spot has no tuple any more, whatever stood there. Where none did, and after an error, nothing is changed; so a page that isn't
-/// one of tuples stays as it is.
+/// one of tuples stays as it is. Damage is the page's; where the index can't have the page, Reopen is the only error.
 pub fn drop_at<D: Disk + Drop>(
     pages: &mut PageStore<D>,
     index: u8,
@@ -44,6 +44,7 @@ pub fn drop_at<D: Disk + Drop>(
     // The change itself isn't sure before the next flush.
     ensures survives { Survives D.told (λ passed. passed ≡ pages.old.pages) pages.old pages.new }
     ensures at { IfErr result (NamesPage pages.old.layout (record { relation = relation_of pages.old.layout index; block = spot.block })) }
+    ensures reopen { IfErr result (λ error. pages.old.layout.sizes.index_blocks ≤ spot.block → IsReopen error) }
     ensures outcome { Outcome D.told (Untold D.told pages.old) pages.old pages.new result }
 {
     pages.known();

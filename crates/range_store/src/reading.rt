@@ -5,7 +5,7 @@ ghost use Rattle.block_model.specs.declared.limits.TheConstants.{PAGE_SIZE};
 ghost use Rattle.page_layout.specs.declared.page.Form.TheVariants as forms;
 ghost use Rattle.page_map.specs.Forms.{form_of};
 ghost use Rattle.page_map.specs.Keeps.{Keeps, Tells, Untold};
-ghost use Rattle.page_map.specs.Outcome.{NamesPage, Outcome};
+ghost use Rattle.page_map.specs.Outcome.{IsReopen, NamesPage, Outcome};
 ghost use Rattle.page_store.specs.Survives.{Survives};
 ghost use Rattle.std.specs.Option.{option_map};
 ghost use Rattle.index_contents.specs.IndexPages.{IsIndexPage};
@@ -24,7 +24,7 @@ use page_store::PageStore;
 const RANGE_SIZE: usize = 4;
 
 /// Whether a tuple of that range stands at the spot; `out` holds its bytes then, and else is as before. False exactly where
-/// none does. Takes no memory.
+/// none does. Damage is the page's; where the index can't have the page, Reopen is the only error. Takes no memory.
 pub fn tuple_at<D: Disk + Drop>(
     pages: &mut PageStore<D>,
     index: u8,
@@ -41,6 +41,7 @@ pub fn tuple_at<D: Disk + Drop>(
     ensures kept { Keeps D.told pages.old pages.new }
     ensures survives { Survives D.told (λ passed. passed ≡ pages.old.pages) pages.old pages.new }
     ensures at { IfErr result (NamesPage pages.old.layout (record { relation = relation_of pages.old.layout index; block = spot.block })) }
+    ensures reopen { IfErr result (λ error. pages.old.layout.sizes.index_blocks ≤ spot.block → IsReopen error) }
     ensures outcome { Outcome D.told (Untold D.told pages.old) pages.old pages.new result }
 {
     index_pages_are_known();

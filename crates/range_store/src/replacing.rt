@@ -36,7 +36,7 @@ const SLOT_SIZE: usize = 4;
 
 /// The tuple at the spot, which is the expected one, gives way to this one in its place. Changed exactly where other bytes stand
 /// there, or none; Full exactly where the expected ones do, and the new ones have no room in their place, or the page takes no
-/// tuples any more. After an error nothing is changed.
+/// tuples any more. After an error nothing is changed. Damage is the page's, which the index can have.
 pub fn replace<D: Disk + Drop>(
     pages: &mut PageStore<D>,
     index: u8,
@@ -48,7 +48,7 @@ pub fn replace<D: Disk + Drop>(
     requires size { IsTupleSize (length bytes.now) }
     ensures replaced { OnOk result (Tells D.told pages.old → ReplacesBytes (contents pages.old.layout pages.old.pages index) (contents pages.old.layout pages.new.pages index) spot expect.now bytes.now) }
     ensures within { OnOk result (spot.block < pages.old.layout.sizes.index_blocks) }
-    ensures full { IfErr result (StandsWithin pages.old.layout.sizes.index_blocks spot.block) }
+    ensures page { IfErr result (StandsWithin pages.old.layout.sizes.index_blocks spot.block) }
     ensures misfit { IfErr result (λ fault. Tells D.told pages.old → ShowsMisfit (contents pages.old.layout pages.old.pages index) (index_page pages.old.layout pages.old.pages index spot.block) spot expect.now (length bytes.now) fault) }
     ensures kept { OnErr result (Keeps D.told pages.old pages.new) }
     ensures others { LeavesOthers D.told index pages.old pages.new }

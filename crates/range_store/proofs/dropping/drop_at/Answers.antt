@@ -37,6 +37,11 @@ returns-in-Err-drop_on-clause-others g c = leaves_others g.D.Disk.told c.args.in
 pub returns-in-Err-drop_on-clause-at : goal.returns-in-Err-drop_on-clause-at
 returns-in-Err-drop_on-clause-at g c = subst (λ (r : ℕ). NamesPage c.args.pages.now.layout (record { relation = r; block = c.args.spot.block }) c.in-Err-drop_on.error) (c.relation_of-relation.ensures.number ∙ ap (λ (l : DiskLayout). relation_of l c.args.index) c.layout.ensures) c.in-Err-drop_on.ensures.at
 
+pub returns-in-Err-drop_on-clause-reopen : goal.returns-in-Err-drop_on-clause-reopen
+returns-in-Err-drop_on-clause-reopen g c = λ past.
+    let blocks = c.sizes.ensures ∙ ap (λ (l : DiskLayout). l.sizes) c.layout-2.ensures in
+    absurd (omega (arith, c.if-block-sizes.false, ap (λ (s : Sizes). s.index_blocks) blocks, past))
+
 pub returns-in-Ok-drop_on-clause-pages : goal.returns-in-Ok-drop_on-clause-pages
 returns-in-Ok-drop_on-clause-pages g c =
     let store = c.args.pages.now in

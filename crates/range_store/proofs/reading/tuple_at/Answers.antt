@@ -40,6 +40,11 @@ returns-in-Ok-read-clause-gone g c = λ tells is bytes stands of.
 pub returns-in-Err-read-clause-at : goal.returns-in-Err-read-clause-at
 returns-in-Err-read-clause-at g c = subst (λ (r : ℕ). NamesPage c.args.pages.now.layout (record { relation = r; block = c.args.spot.block }) c.in-Err-read.error) (c.relation_of-relation.ensures.number ∙ ap (λ (l : DiskLayout). relation_of l c.args.index) c.layout.ensures) c.in-Err-read.ensures.at
 
+pub returns-in-Err-read-clause-reopen : goal.returns-in-Err-read-clause-reopen
+returns-in-Err-read-clause-reopen g c = λ past.
+    let blocks = c.sizes.ensures ∙ ap (λ (l : DiskLayout). l.sizes) c.layout-2.ensures in
+    absurd (omega (arith, c.if-block-sizes.false, ap (λ (s : Sizes). s.index_blocks) blocks, past))
+
 pub returns-in-Ok-read-clause-within : goal.returns-in-Ok-read-clause-within
 returns-in-Ok-read-clause-within g c = λ is.
     let blocks = c.sizes.ensures ∙ ap (λ (l : DiskLayout). l.sizes) c.layout-2.ensures in

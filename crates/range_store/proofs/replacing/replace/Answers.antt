@@ -59,8 +59,8 @@ returns-in-Err-replace_on-clause-pages g c =
     let store = c.args.pages.now in
     subst (λ (r : ℕ). LeavesOtherPages g.D.Disk.told (record { relation = r; block = c.args.spot.block }) store c.replace_on.new.pages) (c.relation_of-relation.ensures.number ∙ ap (λ (l : DiskLayout). relation_of l c.args.index) c.layout.ensures) c.replace_on.ensures.others
 
-pub returns-in-Err-replace_on-clause-full : goal.returns-in-Err-replace_on-clause-full
-returns-in-Err-replace_on-clause-full g c =
+pub returns-in-Err-replace_on-clause-page : goal.returns-in-Err-replace_on-clause-page
+returns-in-Err-replace_on-clause-page g c =
     let blocks = c.sizes.ensures ∙ ap (λ (l : DiskLayout). l.sizes) c.layout-2.ensures in
     let within : c.args.spot.block < c.args.pages.now.layout.sizes.index_blocks = omega (arith, c.if-block-sizes.false, ap (λ (s : Sizes). s.index_blocks) blocks) in
     stands_within c.args.pages.now.layout.sizes.index_blocks c.args.spot.block c.in-Err-replace_on.fault within
