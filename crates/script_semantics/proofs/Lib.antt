@@ -1,4 +1,5 @@
 pub mod Orders
+pub mod Scratch
 pub mod Waiting
 pub mod Requests
 pub mod OneStep
