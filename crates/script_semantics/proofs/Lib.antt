@@ -1,5 +1,4 @@
 pub mod Orders
-pub mod Scratch
 pub mod Waiting
 pub mod Requests
 pub mod OneStep
