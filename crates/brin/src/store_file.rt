@@ -81,6 +81,8 @@ fn log_pages_of(command: &Command) -> u32 {
         Command::Init { sizes, .. } => sizes.log_pages,
         Command::Run { sizes, .. } => sizes.log_pages,
         Command::RunStored => 0,
+        Command::Threads { sizes, .. } => sizes.log_pages,
+        Command::ThreadsStored => 0,
         Command::Demo { .. } => DEMO_LOG_PAGES,
     }
 }

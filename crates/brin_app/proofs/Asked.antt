@@ -94,6 +94,8 @@ not_wrong (commands.Run sizes declared) (tasks.Init layout) makes broken = makes
 not_wrong (commands.Run sizes declared) tasks.RunStored makes broken = makes
 not_wrong (commands.Run sizes declared) (tasks.Demo layout seed rows) makes broken = makes
 not_wrong commands.RunStored task makes broken = broken
+not_wrong (commands.Threads sizes declared) task makes broken = makes
+not_wrong commands.ThreadsStored task makes broken = makes
 not_wrong (commands.Demo seed rows) task makes broken = broken
 
 -- ---- words
@@ -132,6 +134,8 @@ pub numbers_within : ((words : List (List ℕ)) (seed rows : ℕ) → IsCommand 
 numbers_within law words (commands.Init sizes declared) is = tt
 numbers_within law words (commands.Run sizes declared) is = tt
 numbers_within law words commands.RunStored is = tt
+numbers_within law words (commands.Threads sizes declared) is = tt
+numbers_within law words commands.ThreadsStored is = tt
 numbers_within law words (commands.Demo seed rows) is = law words seed rows is
 
 -- words that are no command ask for nothing

@@ -51,7 +51,7 @@ use store_layout::Layout;
 /// Does what the words of a command line say. `init` with options and the declarations of tables and indexes makes an empty store of the disk; `run`
 /// with them does so first, and then runs the script of the source over it, line after line, and writes the text of each line to the sink before the
 /// next line is judged; `run` alone runs it over the store that stands on the disk. `demo` makes a store of its own, reads nothing of the source, and
-/// writes what its script sums up. The status is 0 where all was done, 2 where the words are no command or a limit is passed, 4 for a read fault, 5 for a write fault, 6 for a disk fault, 7 for want of memory, 8 where the requests of a line
+/// writes what its script sums up. `threads` does nothing yet. The status is 0 where all was done, 2 where the words are no command, or `threads`, or a limit is passed, 4 for a read fault, 5 for a write fault, 6 for a disk fault, 7 for want of memory, 8 where the requests of a line
 /// don't fit into the journal of 1048576 entries, or 1073741824 bytes of script were taken and another came, 9 where no store stands on the disk, or
 /// it hasn't the size for one, and 11 where the store is damaged. The disk comes back with each.
 pub fn brin_main<D: Disk + Drop, S: Source, K: Sink>(
@@ -173,6 +173,8 @@ fn task_of(alloc: Global, command: Command) -> Result<Task, WordsFault>
             declarations,
         } => run_task(alloc, sizes, &declarations),
         Command::RunStored => Ok(Task::RunStored),
+        Command::Threads { .. } => Err(WordsFault::Usage),
+        Command::ThreadsStored => Err(WordsFault::Usage),
         Command::Demo { seed, rows } => demo_task(alloc, seed, rows),
     }
 }

@@ -9,18 +9,18 @@ use Rattle.std.proofs.lemmas.List.Folds.{list_all-append}
 use Rattle.block_model.specs.Names.{is_digit}
 use Rattle.block_model.specs.declared.schema.Sizes.{Sizes}
 use Rattle.command_line.specs.declared.command.Command.{Command}
-use Rattle.command_line.specs.declared.command.Command.TheVariants.{Init, Run, RunStored, Demo}
+use Rattle.command_line.specs.declared.command.Command.TheVariants.{Init, Run, RunStored, Threads, ThreadsStored, Demo}
 use Rattle.command_line.specs.declared.command.CommandFault.{CommandFault}
 use Rattle.command_line.specs.declared.command.CommandFault.TheVariants.{Usage}
-use Rattle.command_line.specs.CommandWords.{Text, Item, InOneWord, InTwoWords, Declared, words_of, IsItem, option_of, declared_of, end_words, spelling, WordsSaid, said_by, AreSpelt, is_number, number_of, value_of, is_any_given, demo_options, CommandForm, init_form, run_form, demo_form, commands, IsCommand, IsOnlyCommand}
+use Rattle.command_line.specs.CommandWords.{Text, Item, InOneWord, InTwoWords, Declared, words_of, IsItem, option_of, declared_of, end_words, spelling, WordsSaid, said_by, AreSpelt, is_number, number_of, value_of, is_any_given, demo_options, CommandForm, init_form, run_form, threads_form, demo_form, commands, IsCommand, IsOnlyCommand}
 use Rattle.command_line.specs.ReadingOrder.{nothing_read, read_words, form_named, command_in, command_of}
-use Rattle.command_line.specs.Laws.{WordsAreOneCommand, OrderSaysNothing, option_words, OptionStandsOnce, OptionsStandOnce, OptionHasItsNumber, IsDeclaredLast, HasDefaults, StoredRunIsBare, AreDemoNumbers, DemosHaveLimits}
+use Rattle.command_line.specs.Laws.{WordsAreOneCommand, OrderSaysNothing, option_words, OptionStandsOnce, OptionsStandOnce, OptionHasItsNumber, IsDeclaredLast, HasDefaults, IsBareWord, StoredRunIsBare, StoredThreadsAreBare, AreDemoNumbers, DemosHaveLimits}
 use Rattle.command_line.proofs.RowLemmas.{text_is, same_text}
 use Rattle.command_line.proofs.TurnLemmas.{some_or_none}
 use Rattle.command_line.proofs.JudgedLemmas.{form_has_word}
 use Rattle.command_line.proofs.LawLemmas.{IsOption, GivesNumber, command_at, form_parts, read_once, read_as_number, read_last, read_alone}
 use Rattle.command_line.proofs.Spelling.{Differ, pairs_head, pairs_tail, other_text, spelt_is_read, read_is_spelt}
-use Rattle.command_line.proofs.FormLemmas.{init_known, run_known, demo_known, found_known, is_named, IsAsciiText, ascii_is_utf8, word_is_utf8, are_names, are_ascii, values_by, by_values, numbers_demo, is_within, is_given, IsLonger, IsBare, stored_is_bare}
+use Rattle.command_line.proofs.FormLemmas.{init_known, run_known, threads_known, demo_known, found_known, is_named, IsAsciiText, ascii_is_utf8, word_is_utf8, are_names, are_ascii, values_by, by_values, numbers_demo, is_within, is_given, IsLonger, IsBare, StoredIsBare, stored_run_bare, stored_threads_bare}
 
 -- ---- a command is what its words spell
 
@@ -127,6 +127,18 @@ run_defaults = λ word utf8 plain. record {
   meaning = refl;
 }
 
+pub threads_defaults : HasDefaults (codes "threads") Threads
+threads_defaults = λ word utf8 plain. record {
+  form = threads_form;
+  known = threads_known;
+  behind = word ∷ [];
+  whole = refl;
+  texts = and_from _ _ (word_is_utf8 threads_form threads_known) (and_from _ _ utf8 refl);
+  said = record { values = []; declared = word ∷ [] };
+  spelt = read_is_spelt threads_form.options (word ∷ []) _ (read_alone threads_form.options word plain);
+  meaning = refl;
+}
+
 -- ---- options in another order
 
 value_there : (name number : Text) (options : List (Text × Text)) → AllPairs Differ options → (k : ℕ) → k < length options → slice_index_or options k (name, number) ≡ (name, number) → value_of name options ≡ Some number
@@ -228,7 +240,7 @@ order_says_nothing = λ form known items others last command are are_too alike d
           (ap (λ (d : List Text). d ++ unwrap_or last []) (sym declared)) ∙ whole;
     }
 
--- ---- a run over the store that stands there
+-- ---- a command over the store that stands there
 
 first_value : (name number : Text) (options : List (Text × Text)) → value_of name ((name, number) ∷ options) ≡ Some number
 first_value name number options = rw (text_is name) refl
@@ -267,18 +279,19 @@ bare_words : (last : Option (List Text)) → unwrap_or last [] ≡ [] → (end_w
 bare_words None e = inl refl
 bare_words (Some words) e = inr (ap (λ (ws : List Text). codes "--" ∷ ws) e)
 
-bare : (words : List Text) → IsCommand words RunStored → (words ≡ codes "run" ∷ []) ⊎ (words ≡ codes "run" ∷ codes "--" ∷ [])
-bare words is =
-    let b : IsBare is.form is.said = stored_is_bare is.form is.known is.said is.meaning in
-    let s = is.spelt in
-    let declared : flat_map declared_of s.items ++ unwrap_or s.last [] ≡ [] = ap (λ (d : WordsSaid). d.declared) (sym s.say) ∙ b.nothing in
-    let none : is_any_given is.form.options (said_by s.items s.last) ≡ false = ap (λ (d : WordsSaid). is_any_given is.form.options d) (sym s.say) ∙ b.none in
-    let no : s.items ≡ [] = no_items is.form.options s.items s.last (recursion_from_All (IsItem is.form.options) s.items s.are_items.each) declared none in
-    let whole : words ≡ codes "run" ∷ end_words s.last = is.whole ∙ ap₂ (λ (w : Text) (ws : List Text). w ∷ ws) b.word (s.spelt ∙ ap (λ (items : List Item). spelling items s.last) no) in
-    elim (bare_words s.last (no_words (flat_map declared_of s.items) (unwrap_or s.last []) declared)) [
-      | inl e ↦ inl (whole ∙ ap (λ (ws : List Text). codes "run" ∷ ws) e)
-      | inr e ↦ inr (whole ∙ ap (λ (ws : List Text). codes "run" ∷ ws) e)
-    ]
+module _ (word : Text) (stored : Command) (each : (form : CommandForm) → Contains commands form → StoredIsBare word stored form) where
+  bare : (words : List Text) → IsCommand words stored → (words ≡ word ∷ []) ⊎ (words ≡ word ∷ codes "--" ∷ [])
+  bare words is =
+      let b : IsBare word is.form is.said = each is.form is.known is.said is.meaning in
+      let s = is.spelt in
+      let declared : flat_map declared_of s.items ++ unwrap_or s.last [] ≡ [] = ap (λ (d : WordsSaid). d.declared) (sym s.say) ∙ b.nothing in
+      let none : is_any_given is.form.options (said_by s.items s.last) ≡ false = ap (λ (d : WordsSaid). is_any_given is.form.options d) (sym s.say) ∙ b.none in
+      let no : s.items ≡ [] = no_items is.form.options s.items s.last (recursion_from_All (IsItem is.form.options) s.items s.are_items.each) declared none in
+      let whole : words ≡ word ∷ end_words s.last = is.whole ∙ ap₂ (λ (w : Text) (ws : List Text). w ∷ ws) b.word (s.spelt ∙ ap (λ (items : List Item). spelling items s.last) no) in
+      elim (bare_words s.last (no_words (flat_map declared_of s.items) (unwrap_or s.last []) declared)) [
+        | inl e ↦ inl (whole ∙ ap (λ (ws : List Text). word ∷ ws) e)
+        | inr e ↦ inr (whole ∙ ap (λ (ws : List Text). word ∷ ws) e)
+      ]
 
 no_values : AllPairs Differ []
 no_values i j d a b = absurd (omega arith)
@@ -286,26 +299,37 @@ no_values i j d a b = absurd (omega arith)
 no_each : (names : List Text) → All (IsItem names) []
 no_each names k d l = absurd (omega arith)
 
-stored : (last : Option (List Text)) → unwrap_or last [] ≡ [] → list_all is_utf8 (end_words last) ≡ true → IsCommand (codes "run" ∷ end_words last) RunStored
-stored last e texts = record {
-  form = run_form;
-  known = run_known;
-  behind = end_words last;
-  whole = refl;
-  texts = and_from _ _ (word_is_utf8 run_form run_known) texts;
-  said = record { values = []; declared = [] };
-  spelt = record { items = []; last = last; are_items = record { each = no_each run_form.options; once = no_values }; spelt = refl; say = ap (λ (d : List Text). record { values = []; declared = d }) (sym e) };
-  meaning = refl;
-}
+-- the form says so of no words, with or without `--`
+abbrev pub StoredAlone : CommandForm → Command → Type 0
+StoredAlone form stored = form.meaning (record { values = []; declared = [] }) ≡ Some stored
+
+module _ (form : CommandForm) (known : Contains commands form) (stored : Command) (alone : StoredAlone form stored) where
+  stands : (last : Option (List Text)) → unwrap_or last [] ≡ [] → list_all is_utf8 (end_words last) ≡ true → IsCommand (form.word ∷ end_words last) stored
+  stands last e texts = record {
+    form = form;
+    known = known;
+    behind = end_words last;
+    whole = refl;
+    texts = and_from _ _ (word_is_utf8 form known) texts;
+    said = record { values = []; declared = [] };
+    spelt = record { items = []; last = last; are_items = record { each = no_each form.options; once = no_values }; spelt = refl; say = ap (λ (d : List Text). record { values = []; declared = d }) (sym e) };
+    meaning = alone;
+  }
+
+  pub bare_word : ((other : CommandForm) → Contains commands other → StoredIsBare form.word stored other) → IsBareWord form.word stored
+  bare_word each words = (
+    bare form.word stored each words,
+    λ e. elim e [
+      | inl none ↦ subst (λ (ws : List Text). IsCommand ws stored) (sym none) (stands None refl refl)
+      | inr end ↦ subst (λ (ws : List Text). IsCommand ws stored) (sym end) (stands (Some []) refl (and_from _ _ (ascii_is_utf8 (codes "--") refl) refl))
+    ],
+  )
 
 pub stored_run_is_bare : StoredRunIsBare
-stored_run_is_bare words = (
-  bare words,
-  λ e. elim e [
-    | inl none ↦ subst (λ (ws : List Text). IsCommand ws RunStored) (sym none) (stored None refl refl)
-    | inr end ↦ subst (λ (ws : List Text). IsCommand ws RunStored) (sym end) (stored (Some []) refl (and_from _ _ (ascii_is_utf8 (codes "--") refl) refl))
-  ],
-)
+stored_run_is_bare = bare_word run_form run_known RunStored refl stored_run_bare
+
+pub stored_threads_are_bare : StoredThreadsAreBare
+stored_threads_are_bare = bare_word threads_form threads_known ThreadsStored refl stored_threads_bare
 
 -- ---- demos
 

@@ -8,7 +8,7 @@ use Rattle.block_model.specs.declared.schema.Sizes.{Sizes}
 use Rattle.command_line.specs.declared.command.Command.{Command}
 use Rattle.command_line.specs.declared.defaults.TheConstants.{HEAP_BLOCKS, INDEX_BLOCKS, STATUS_BLOCKS, LOG_PAGES, FRAMES}
 use Rattle.command_line.specs.declared.limits.TheConstants.{MAX_SEED, MIN_ROWS, MAX_ROWS}
-use Rattle.command_line.specs.declared.command.Command.TheVariants.{Init, Run, RunStored, Demo}
+use Rattle.command_line.specs.declared.command.Command.TheVariants.{Init, Run, RunStored, Threads, ThreadsStored, Demo}
 
 -- ---- one word
 
@@ -144,18 +144,22 @@ init_with sizes (word ∷ words) = Some (Init sizes (word ∷ words))
 abbrev pub init_of : WordsSaid → Option Command
 init_of said = init_with (sizes_of said) said.declared
 
--- `run` over the store that stands there takes no option
-abbrev pub stored_with : Bool → Option Command
-stored_with is_given = if is_given then None else Some RunStored
+-- a command over the store that stands there takes no option
+abbrev pub stored_with : Command → Bool → Option Command
+stored_with stored is_given = if is_given then None else Some stored
 
--- `run` makes a store of the declared words, where it has any
-abbrev pub run_with : Bool → Sizes → List Text → Option Command
-run_with is_given sizes [] = stored_with is_given
-run_with is_given sizes (word ∷ words) = Some (Run sizes (word ∷ words))
+-- a command that makes a store of the declared words, where it has any, and else is over the store that stands there
+abbrev pub made_or_stored : (Sizes → List Text → Command) → Command → Bool → Sizes → List Text → Option Command
+made_or_stored made stored is_given sizes [] = stored_with stored is_given
+made_or_stored made stored is_given sizes (word ∷ words) = Some (made sizes (word ∷ words))
 
 -- `run` with what its words have said
 abbrev pub run_of : WordsSaid → Option Command
-run_of said = run_with (is_any_given size_options said) (sizes_of said) said.declared
+run_of said = made_or_stored Run RunStored (is_any_given size_options said) (sizes_of said) said.declared
+
+-- `threads` with what its words have said
+abbrev pub threads_of : WordsSaid → Option Command
+threads_of said = made_or_stored Threads ThreadsStored (is_any_given size_options said) (sizes_of said) said.declared
 
 -- a demo's numbers are within their limits
 abbrev pub is_demo : ℕ → ℕ → Bool
@@ -184,13 +188,17 @@ init_form = record { word = codes "init"; options = size_options; meaning = init
 abbrev pub run_form : CommandForm
 run_form = record { word = codes "run"; options = size_options; meaning = run_of }
 
+-- `threads [options] [DECL...]`
+abbrev pub threads_form : CommandForm
+threads_form = record { word = codes "threads"; options = size_options; meaning = threads_of }
+
 -- `demo --seed N --rows M`
 abbrev pub demo_form : CommandForm
 demo_form = record { word = codes "demo"; options = demo_options; meaning = demo_of }
 
 -- the commands that there are
 abbrev pub commands : List CommandForm
-commands = init_form ∷ run_form ∷ demo_form ∷ []
+commands = init_form ∷ run_form ∷ threads_form ∷ demo_form ∷ []
 
 -- The words are a command: its word, in full, and behind it words that say so. Each is UTF-8.
 pub record IsCommand (words : List Text) (command : Command) : Type 0 where

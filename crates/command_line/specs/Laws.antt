@@ -4,7 +4,7 @@ use Rattle.std.specs.List.{All, Contains, flat_map, list_all}
 use Rattle.std.specs.Str.{is_utf8}
 use Rattle.block_model.specs.declared.schema.Sizes.{Sizes}
 use Rattle.command_line.specs.declared.command.Command.{Command}
-use Rattle.command_line.specs.declared.command.Command.TheVariants.{Init, Run, RunStored, Demo}
+use Rattle.command_line.specs.declared.command.Command.TheVariants.{Init, Run, RunStored, Threads, ThreadsStored, Demo}
 use Rattle.command_line.specs.CommandWords.{Text, begins_with_hyphen, is_number, number_of, Item, AreItems, option_of, declared_of, spelling, CommandForm, commands, IsCommand}
 
 -- no words are two commands
@@ -47,6 +47,7 @@ OptionHasItsNumber word name number = (a : Bool) (digits : Text) (before after :
 abbrev pub sizes_in : Command → Option Sizes
 sizes_in (Init sizes declared) = Some sizes
 sizes_in (Run sizes declared) = Some sizes
+sizes_in (Threads sizes declared) = Some sizes
 sizes_in command = None
 
 -- a demo's numbers
@@ -76,6 +77,7 @@ sizes_by_option =
 pub record OptionsHaveTheirNumbers : Type 0 where
   pub init : All (SizeHasItsNumber (codes "init")) sizes_by_option
   pub run : All (SizeHasItsNumber (codes "run")) sizes_by_option
+  pub threads : All (SizeHasItsNumber (codes "threads")) sizes_by_option
   pub seed : OptionHasItsNumber (codes "demo") (codes "seed") seed_in
   pub rows : OptionHasItsNumber (codes "demo") (codes "rows") rows_in
 
@@ -87,7 +89,7 @@ IsDeclaredLast made = (words : List Text) (word : Text) (sizes : Sizes) (declare
 
 -- of each command that makes a store
 abbrev pub FurtherWordIsDeclaredLast : Type 0
-FurtherWordIsDeclaredLast = IsDeclaredLast Init × IsDeclaredLast Run
+FurtherWordIsDeclaredLast = IsDeclaredLast Init × IsDeclaredLast Run × IsDeclaredLast Threads
 
 -- without options the sizes are the defaults
 abbrev pub HasDefaults : Text → (Sizes → List Text → Command) → Type 0
@@ -96,11 +98,19 @@ HasDefaults command made = (word : Text) → is_utf8 word ≡ true → begins_wi
 
 -- of each command that makes a store
 abbrev pub SizesHaveDefaults : Type 0
-SizesHaveDefaults = HasDefaults (codes "init") Init × HasDefaults (codes "run") Run
+SizesHaveDefaults = HasDefaults (codes "init") Init × HasDefaults (codes "run") Run × HasDefaults (codes "threads") Threads
 
--- `run` over the store that stands there is that word alone, or with `--` behind it: without declared words it has no options
+-- a command over the store that stands there is its word alone, or with `--` behind it: without declared words it has no options
+abbrev pub IsBareWord : Text → Command → Type 0
+IsBareWord word stored = (words : List Text) → IsCommand words stored ↔ ((words ≡ word ∷ []) ⊎ (words ≡ word ∷ codes "--" ∷ []))
+
+-- `run` over the store that stands there
 abbrev pub StoredRunIsBare : Type 0
-StoredRunIsBare = (words : List Text) → IsCommand words RunStored ↔ ((words ≡ codes "run" ∷ []) ⊎ (words ≡ codes "run" ∷ codes "--" ∷ []))
+StoredRunIsBare = IsBareWord (codes "run") RunStored
+
+-- `threads` over the store that stands there
+abbrev pub StoredThreadsAreBare : Type 0
+StoredThreadsAreBare = IsBareWord (codes "threads") ThreadsStored
 
 -- a seed goes to 1000000, and rows from 1 to 200000
 abbrev pub AreDemoNumbers : ℕ → ℕ → Type 0

@@ -4,7 +4,7 @@ ghost use Rattle.std.specs.Prelude.{◌≡◌, [], IfOk, IfErr, map, Some, None}
 ghost use Rattle.clap.specs.Words.{found_of, rows_of};
 ghost use Rattle.command_line.specs.ClapCommands.{command_matched, meaning_checked};
 ghost use Rattle.command_line.specs.ClapRules.{RowsShow};
-ghost use Rattle.command_line.specs.CommandWords.{WordsSaid, demo_form, demo_with, init_form, is_demo, run_form, stored_with, IsCommand, IsOnlyCommand};
+ghost use Rattle.command_line.specs.CommandWords.{WordsSaid, demo_form, demo_with, init_form, is_demo, run_form, stored_with, threads_form, IsCommand, IsOnlyCommand};
 ghost use Rattle.command_line.specs.ReadingOrder.{command_of};
 ghost use Rattle.command_line.specs.declared.command.Command.{Command};
 ghost use Rattle.command_line.specs.declared.command.CommandFault.TheVariants.{Usage, Memory};
@@ -26,6 +26,10 @@ pub enum Command {
     Run { sizes: Sizes, declarations: Words },
     /// `run` without them: the script is run over the store that stands there.
     RunStored,
+    /// `threads` with declared words: the script is run over such a store, each session by a thread of its own.
+    Threads { sizes: Sizes, declarations: Words },
+    /// `threads` without them: it is run so over the store that stands there.
+    ThreadsStored,
     /// `demo`: the seed and the number of rows.
     Demo { seed: u32, rows: u32 },
 }
@@ -96,6 +100,7 @@ fn read_texts<'a>(alloc: Global, words: &'a [&'a str]) -> Result<Command, Comman
     match matches.subcommand() {
         Some(("init", inner)) => init_in(alloc, inner),
         Some(("run", inner)) => run_in(alloc, inner),
+        Some(("threads", inner)) => threads_in(alloc, inner),
         Some(("demo", inner)) => demo_in(inner),
         _ => Err(CommandFault::Usage),
     }
@@ -129,7 +134,7 @@ fn run_in(alloc: Global, matches: &ArgMatches<'_>) -> Result<Command, CommandFau
     };
     let declarations = declared_in(alloc, matches)?;
     if declarations.len() == 0 {
-        return stored_run(has_size(matches));
+        return over_store(Command::RunStored, has_size(matches));
     }
     Ok(Command::Run {
         sizes,
@@ -137,15 +142,33 @@ fn run_in(alloc: Global, matches: &ArgMatches<'_>) -> Result<Command, CommandFau
     })
 }
 
-/// `run` without declared words, where no option was given.
-fn stored_run(is_given: bool) -> Result<Command, CommandFault>
-    ensures ok { IfOk result (λ command. stored_with is_given ≡ Some command) }
-    ensures usage { IfErr result (λ fault. stored_with is_given ≡ None) }
+/// The matches of `threads`, read.
+fn threads_in(alloc: Global, matches: &ArgMatches<'_>) -> Result<Command, CommandFault>
+    ensures ok { IfOk result (λ command. (said : WordsSaid) → RowsShow (rows_of (found_of matches.now)) said → meaning_checked threads_form said ≡ Some command) }
+    ensures usage { IfErr result (λ fault. fault ≡ Usage → (said : WordsSaid) → RowsShow (rows_of (found_of matches.now)) said → meaning_checked threads_form said ≡ None) }
+{
+    let Some(sizes) = sizes_in(matches) else {
+        return Err(CommandFault::Usage);
+    };
+    let declarations = declared_in(alloc, matches)?;
+    if declarations.len() == 0 {
+        return over_store(Command::ThreadsStored, has_size(matches));
+    }
+    Ok(Command::Threads {
+        sizes,
+        declarations,
+    })
+}
+
+/// The command over the store that stands there, where no option was given.
+fn over_store(stored: Command, is_given: bool) -> Result<Command, CommandFault>
+    ensures ok { IfOk result (λ command. stored_with stored is_given ≡ Some command) }
+    ensures usage { IfErr result (λ fault. stored_with stored is_given ≡ None) }
 {
     if is_given {
         return Err(CommandFault::Usage);
     }
-    Ok(Command::RunStored)
+    Ok(stored)
 }
 
 /// The matches of `demo`, read.

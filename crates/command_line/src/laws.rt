@@ -1,6 +1,6 @@
 //! What the words of a command mean.
 
-ghost use Rattle.command_line.specs.Laws.{DemosHaveLimits, FurtherWordIsDeclaredLast, OptionsHaveTheirNumbers, OptionsStandOnce, OrderSaysNothing, SizesHaveDefaults, StoredRunIsBare, WordsAreOneCommand};
+ghost use Rattle.command_line.specs.Laws.{DemosHaveLimits, FurtherWordIsDeclaredLast, OptionsHaveTheirNumbers, OptionsStandOnce, OrderSaysNothing, SizesHaveDefaults, StoredRunIsBare, StoredThreadsAreBare, WordsAreOneCommand};
 
 /// No words are two commands.
 pub fn words_are_one_command()
@@ -35,6 +35,11 @@ pub fn sizes_have_defaults()
 /// `run` without a declared word takes no option, and is that word alone, or with `--` behind it.
 pub fn stored_run_is_bare()
     ensures { StoredRunIsBare }
+{}
+
+/// So it is with `threads`.
+pub fn stored_threads_are_bare()
+    ensures { StoredThreadsAreBare }
 {}
 
 /// A demo's seed goes to 1000000 and its rows from 1 to 200000; what is past them is no demo, and what is within them is one.

@@ -38,5 +38,5 @@ pub use declarations::{DeclFault, read_declarations, read_declarations_with};
 pub use laws::{
     demos_have_limits, further_word_is_declared_last, options_have_their_numbers,
     options_stand_once, order_says_nothing, sizes_have_defaults, stored_run_is_bare,
-    words_are_one_command,
+    stored_threads_are_bare, words_are_one_command,
 };

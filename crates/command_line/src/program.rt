@@ -29,7 +29,8 @@ pub fn program<'a>(alloc: Global) -> Result<Command<'a>, AllocError>
 {
     let with_init = with_command(alloc, no_commands(alloc), "init", SIZE_OPTIONS.as_slice())?;
     let with_run = with_command(alloc, with_init, "run", SIZE_OPTIONS.as_slice())?;
-    with_command(alloc, with_run, "demo", DEMO_OPTIONS.as_slice())
+    let with_threads = with_command(alloc, with_run, "threads", SIZE_OPTIONS.as_slice())?;
+    with_command(alloc, with_threads, "demo", DEMO_OPTIONS.as_slice())
 }
 
 /// A command line with no command: no help, no version, and one command is wanted.

@@ -33,6 +33,12 @@ returns-in-RunStored-clause-asked c = subst (λ (m : Command). IsTaskOf m tasks.
 pub returns-in-RunStored-clause-alone : goal.returns-in-RunStored-clause-alone
 returns-in-RunStored-clause-alone c = subst (λ (m : Command). (other : Task) → IsTaskOf m other → other ≡ tasks.RunStored) (sym c.in-RunStored.is) stored_alone
 
+pub returns-in-Threads-clause-usage : goal.returns-in-Threads-clause-usage
+returns-in-Threads-clause-usage c = λ e. subst IsWrong (sym c.in-Threads.is) tt
+
+pub returns-in-ThreadsStored-clause-usage : goal.returns-in-ThreadsStored-clause-usage
+returns-in-ThreadsStored-clause-usage c = λ e. subst IsWrong (sym c.in-ThreadsStored.is) tt
+
 pub demo_task-requires : goal.demo_task-requires
 demo_task-requires c = subst HasDemoNumbers c.in-Demo.is c.requires
 
