@@ -17,7 +17,7 @@ use Rattle.store_layout.specs.declared.limits.TheConstants.{MAX_SESSIONS}
 use Rattle.store_layout.specs.SessionNumbers.{session_number, is_past_sessions}
 use Rattle.script_semantics.specs.LineTexts.{Answers, Does, IsLineText, IsNotRead, Orders, PastSessions, dropped_at, fault_text, named, refused_text}
 use Rattle.script_semantics.specs.Place.{Place}
-use Rattle.script_semantics.specs.StatementSteps.{IsPastRoom}
+use Rattle.script_semantics.specs.StatementSteps.{LacksRoom}
 use Rattle.script_semantics.specs.Stops.{Begun, ComesTo, IsLineStopped, LineComesTo, OffDisk, PastRoom, Undone, Unprinted}
 use Rattle.session_parts.specs.StoreStates.{StoreState}
 use Rattle.session_core.specs.declared.faults.SessionFault.{SessionFault}
@@ -68,7 +68,7 @@ module _ (name : List ℕ) (order : Order) (n : ℕ) (names : List (List ℕ)) (
   pub cut_order : (fault : AnswerFault) (q : Place) → IsCutShort n order fault m q → IsStoppedSaying (lines.Say name order) fault p q
   cut_order Memory q cut schema line is = absurd cut.0
   cut_order Full q cut schema line is =
-      PastRoom (session_number p.names name) q (line_comes schema line is q cut.1) (subst (λ (k : ℕ). IsPastRoom q k) its_number cut.0)
+      PastRoom (session_number p.names name) q (line_comes schema line is q cut.1) (subst (λ (k : ℕ). LacksRoom q k) its_number cut.0)
   cut_order Disk q cut schema line is = OffDisk (session_number p.names name) q Disk (line_comes schema line is q cut.1) tt
   cut_order Damaged q cut schema line is = OffDisk (session_number p.names name) q Damaged (line_comes schema line is q cut.1) tt
 

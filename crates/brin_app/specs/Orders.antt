@@ -13,7 +13,7 @@ use Rattle.script_run.specs.declared.engine.AnswerFault.{AnswerFault}
 use Rattle.script_run.specs.declared.engine.AnswerFault.TheVariants.{Memory, Full, Disk, Damaged}
 use Rattle.script_semantics.specs.LineTexts.{Does, Finishes, dropped_at, refused_text}
 use Rattle.script_semantics.specs.Place.{Place}
-use Rattle.script_semantics.specs.StatementSteps.{Moved, Ended, Waits, IsPastRoom, Steps}
+use Rattle.script_semantics.specs.StatementSteps.{Moved, Ended, Waits, LacksRoom, Steps}
 use Rattle.script_semantics.specs.Stops.{ComesTo, IsLineStopped, MovedTo}
 use Rattle.session_parts.specs.declared.faults.Step.{Step}
 use Rattle.session_parts.specs.declared.faults.Step.TheVariants as steps
@@ -66,7 +66,7 @@ fault_of_step (stops.Damaged at) = Damaged
 
 -- where an order stops for want of room, it is for the next step of session n; and none stops for want of memory
 abbrev pub WantsRoom : ℕ → AnswerFault → Place → Type 0
-WantsRoom n Full q = IsPastRoom q n
+WantsRoom n Full q = LacksRoom q n
 WantsRoom n Memory q = ⊥
 WantsRoom n fault q = Unit {0}
 

@@ -8,8 +8,6 @@ use Rattle.std.proofs.lemmas.List.{length_push, length-map}
 use Rattle.std.proofs.lemmas.List.Elements.{All-head, All-tail}
 use Rattle.std.proofs.lemmas.List.Sums.{sum_by-append, sum_by-cons, sum_by-le, sum_by-le-sum_by, sum_by_push}
 use Rattle.std.proofs.lemmas.Option.{none-some, same_Some}
-use Rattle.block_model.specs.declared.reply.Reply.TheVariants as replies
-use Rattle.block_model.specs.declared.reply.Refusal.TheVariants as refusals
 use Rattle.block_model.specs.declared.reply.Refusal.{Refusal}
 use Rattle.block_model.specs.declared.request.Entry.{Entry}
 use Rattle.block_model.specs.declared.row.Row.{Row}
@@ -35,7 +33,7 @@ use Rattle.script_semantics.specs.LineTexts.{Taken, WantsMemory, named, submit_r
 use Rattle.script_semantics.specs.Openings.{NoneOpen}
 use Rattle.script_semantics.specs.Place.{Hand, Place, database_at, new_hand}
 use Rattle.script_semantics.specs.Starts.{IsOpening, IsStart}
-use Rattle.script_semantics.specs.StatementSteps.{Ended, IsPastRoom, Outcome, Steps, StepsTo}
+use Rattle.script_semantics.specs.StatementSteps.{LacksRoom, Outcome, Steps}
 use Rattle.script_semantics.specs.Stops.{Begun, ComesTo, IsLineStopped, LineComesTo, MovedTo, OfFinish, OfPlain, OfStep, OffDisk, OnTo, PastRoom, Still}
 use Rattle.script_semantics.proofs.Bare.{updated_there}
 use Rattle.script_semantics.proofs.OneStep.{refusal_is}
@@ -78,17 +76,13 @@ module _ (o : DatabaseState) (none : NoneOpen o) (first : ℕ) (few : length (ro
     amid_moved _ _ is (OnTo p q r point step more) = amid_moved q r (amid_step p _ q is step) more
 
     -- the step for which there is no room would stay within the budget
-    amid_over : (p : Place) → IsAmid paid p → (hand : Hand) → p.hands n ≡ Some hand → (outcome : Outcome) (q : Place) → StepsTo p n hand outcome q → MAX_ENTRIES < length q.journal → MAX_ENTRIES < paid
-    amid_over p is hand in_hand outcome q step over =
-        let after = paid_step o none first few most rows paid room n low p hand in_hand is.0 is.1 outcome q step in
-        past (length q.journal) (owed_in rows q) over after.0.within
+    amid_past : (p : Place) → IsAmid paid p → LacksRoom p n → MAX_ENTRIES < paid
+    amid_past p is lacks =
+        let after = paid_step o none first few most rows paid room n low p lacks.hand lacks.in_hand is.0 is.1 lacks.outcome lacks.further lacks.steps in
+        past (length lacks.further.journal) (owed_in rows lacks.further) lacks.past after.0.within
       where
         past : (long all : ℕ) → MAX_ENTRIES < long → long + all ≤ paid → MAX_ENTRIES < paid
         past long all a b = omega (arith, a, b)
-
-    amid_past : (p : Place) → IsAmid paid p → IsPastRoom p n → MAX_ENTRIES < paid
-    amid_past p is (inl lacks) = amid_over p is lacks.hand lacks.in_hand lacks.outcome lacks.further lacks.steps lacks.past
-    amid_past p is (inr lacks) = amid_over p is lacks.hand lacks.in_hand (Ended (replies.Refused refusals.Memory)) lacks.further lacks.steps lacks.past
 
   -- ---- a statement is taken
 
@@ -217,7 +211,7 @@ module _ (o : DatabaseState) (none : NoneOpen o) (first : ℕ) (few : length (ro
         put_only : (a b : ℕ) → a + b ≤ suc said → a ≤ suc said
         put_only a b less = omega (arith, less)
 
-    past_line : (read : Result Line LineFault) (n : ℕ) (q : Place) → LineComesTo p read n q → IsPastRoom q n → MAX_ENTRIES < paid + most_of_line rows read
+    past_line : (read : Result Line LineFault) (n : ℕ) (q : Place) → LineComesTo p read n q → LacksRoom q n → MAX_ENTRIES < paid + most_of_line rows read
     past_line _ _ _ (Begun name order q within comes) lacks =
         let n = session_number p.names name in
         let low = low_number p.names name within in

@@ -24,7 +24,7 @@ use Rattle.store_layout.specs.DiskLayout.{DiskLayout}
 use Rattle.coverage.specs.Accounts.{Account, Asked}
 use Rattle.coverage.specs.Refusals as causes
 use Rattle.coverage.specs.Refusals.{Heap, IndexNumber, LacksMemory, IsFull, HasConflict}
-use Rattle.coverage.specs.Table.{OneRange, TableScan, Task, Resting, Considers, Scans}
+use Rattle.coverage.specs.Table.{OneRange, Task, Resting, Considers, Scans}
 use Rattle.coverage.specs.TablePoints.{WaitedFor, SummariseLock, PageLock, waits_for, IsHeldBy}
 use Rattle.coverage.specs.TableSteps.{IsBlocked}
 use Rattle.script_semantics.specs.Place.{Hand, Place, database_at}
@@ -82,16 +82,12 @@ reply_after layout table task account answers (statements.Vacuum number) = Some 
 reply_after layout table task account answers statements.Work = work_reply layout table task account.ranges
 reply_after layout table task account answers statement = reply_to_statement (full_table layout) statement answers
 
--- a select, or a delete
-abbrev pub IsLooking : Statement → Type 0
-IsLooking (statements.Select q) = Unit {0}
-IsLooking (statements.Delete q) = Unit {0}
-IsLooking statement = ⊥
-
 -- a statement of a transaction whose steps take memory
 abbrev pub TakesMemory : Statement → Type 0
 TakesMemory (statements.Insert table values) = Unit {0}
-TakesMemory statement = IsLooking statement
+TakesMemory (statements.Select q) = Unit {0}
+TakesMemory (statements.Delete q) = Unit {0}
+TakesMemory statement = ⊥
 
 -- A statement that may lack memory before it has a step: a select or a delete; and work, which has found the first summary that is asked for, in a
 -- table whose summarise lock no other session holds.
@@ -170,19 +166,8 @@ pub record Steps (p : Place) (n : ℕ) (outcome : Outcome) (q : Place) : Type 0 
   pub steps : StepsTo p n hand outcome q
   pub fits : length q.journal ≤ MAX_ENTRIES
 
--- a step of a select or a delete behind which its scan goes on
-pub record ScansOn (p : Place) (n : ℕ) (statement : Statement) : Type 0 where
-  pub looking : IsLooking statement
-  pub table : ℕ
-  pub on : IsIn p n statement table
-  pub point : Point
-  pub next : Place
-  pub steps : Steps p n (Moved point) next
-  pub scan : TableScan
-  pub scans : (next.tables table).task n ≡ Scans scan
-
--- It hasn't: one of the outcomes that the step may have enters more than there is room for; nothing is changed. Memory may be short for each step of a
--- scan, so want of it doesn't count where the scan has a step behind which it goes on.
+-- It hasn't: one of the outcomes that the step may have enters more than there is room for; nothing is changed. Want of memory is such an outcome, and
+-- enters the request that is refused for it.
 pub record LacksRoom (p : Place) (n : ℕ) : Type 0 where
   pub hand : Hand
   pub in_hand : p.hands n ≡ Some hand
@@ -190,16 +175,3 @@ pub record LacksRoom (p : Place) (n : ℕ) : Type 0 where
   pub further : Place
   pub steps : StepsTo p n hand outcome further
   pub past : MAX_ENTRIES < length further.journal
-  pub sure : ScansOn p n hand.statement → outcome ≢ Ended (replies.Refused refusals.Memory)
-
--- or memory is short for the step, and the journal has no room for the request that would be refused for it
-pub record LacksBoth (p : Place) (n : ℕ) : Type 0 where
-  pub hand : Hand
-  pub in_hand : p.hands n ≡ Some hand
-  pub further : Place
-  pub steps : StepsTo p n hand (Ended (replies.Refused refusals.Memory)) further
-  pub past : MAX_ENTRIES < length further.journal
-
--- the journal has no room for the step
-abbrev pub IsPastRoom : Place → ℕ → Type 0
-IsPastRoom p n = LacksRoom p n ⊎ LacksBoth p n

@@ -13,7 +13,7 @@ use Rattle.script_run.specs.declared.engine.AnswerFault.TheVariants.{Memory, Ful
 use Rattle.store_layout.specs.declared.statement.Statement.{Statement}
 use Rattle.store_layout.specs.SessionNumbers.{session_number, is_past_sessions}
 use Rattle.script_semantics.specs.Place.{Place}
-use Rattle.script_semantics.specs.StatementSteps.{Moved, Steps, IsPastRoom}
+use Rattle.script_semantics.specs.StatementSteps.{Moved, Steps, LacksRoom}
 use Rattle.script_semantics.specs.LineTexts.{Submits, IsLineText, named}
 
 -- steps of session n's statement, behind each of which it goes on
@@ -47,5 +47,5 @@ pub data IsLineStopped (schema : Schema) (p : Place) (line : List ℕ) : AnswerF
   Named : (name : List ℕ) (order : Order) → line_of schema line ≡ Ok (lines.Say name order) → is_past_sessions p.names name ≡ false
       → IsLineStopped schema p line Memory (named p name)
   Unprinted : (text : List ℕ) (q : Place) → IsLineText schema p line text q → IsLineStopped schema p line Memory q
-  PastRoom : (n : ℕ) (q : Place) → LineComesTo p (line_of schema line) n q → IsPastRoom q n → IsLineStopped schema p line Full q
+  PastRoom : (n : ℕ) (q : Place) → LineComesTo p (line_of schema line) n q → LacksRoom q n → IsLineStopped schema p line Full q
   OffDisk : (n : ℕ) (q : Place) (fault : AnswerFault) → LineComesTo p (line_of schema line) n q → IsOfDisk fault → IsLineStopped schema p line fault q

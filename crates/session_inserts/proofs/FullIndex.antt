@@ -142,4 +142,4 @@ module _ (law : InsertIsRefused) (old : ShownStore) (n : ℕ) (before : Insert) 
       let fewer = without w before.row.id.t in
       let it = turns fewer.counts fewer.no_more in
       refusal_lacks_room refused p n table before.row.values tags.Full (put_of before.row) (hand_here old n before hand x at p shown) refl (p.accounts n) fewer.counts (IsFull (IndexNumber before.at) number) told
-      (refused_in n fewer.counts w) it.0 it.1 (so _ it.0 it.1) (λ looking. looking) full
+      (refused_in n fewer.counts w) it.0 it.1 (so _ it.0 it.1) full

@@ -36,7 +36,7 @@ use Rattle.coverage.specs.Refusals as causes
 use Rattle.coverage.specs.Table.{TableState}
 use Rattle.script_semantics.specs.Place.{Hand as HandAt, Place, database_at}
 use Rattle.script_semantics.specs.Requests.{refused_request}
-use Rattle.script_semantics.specs.StatementSteps.{Ended, IsLooking, LacksRoom, RefusesSo, Steps, StepsTo}
+use Rattle.script_semantics.specs.StatementSteps.{Ended, LacksRoom, RefusesSo, Steps, StepsTo}
 use Rattle.session_parts.specs.declared.hand.Hand.{Hand}
 use Rattle.session_parts.specs.Hands.{HandShows}
 use Rattle.session_parts.specs.HandsAsk.{IsNoInsert}
@@ -176,7 +176,7 @@ module _ (laws : RefusalLaws) (old new : ShownStore) (n table : ℕ) (values : L
 -- where the journal has no room for that put, the same refusal would pass it
 module _ (law : TurnIsRefused) (p : Place) (n table : ℕ) (values : List Value) (tag : Tag) (h : HandAt) (in_hand : p.hands n ≡ Some h)
     (makes : refused_request n tag h.statement ≡ tagged_entry n table (requests.Put values) tag ∷ []) (account : Account) (counts : ℕ → Bool) (why : causes.Refusal) (told : Refusal) (v : TableState)
-    (turns : TurnsIn p n h.statement table v account) (because : refusal_in turns ≡ Some why) (so : RefusesSo p table h.statement why tag told) (no_scan : IsLooking h.statement → ⊥) (full : MAX_ENTRIES ≤ length p.journal) where
+    (turns : TurnsIn p n h.statement table v account) (because : refusal_in turns ≡ Some why) (so : RefusesSo p table h.statement why tag told) (full : MAX_ENTRIES ≤ length p.journal) where
   past : MAX_ENTRIES < length (p.journal ++ refused_request n tag h.statement)
   past =
       let many : length (p.journal ++ refused_request n tag h.statement) ≡ length (p.journal ++ tagged_entry n table (requests.Put values) tag ∷ []) = ap (λ (l : List Entry). length (p.journal ++ l)) makes in
@@ -190,7 +190,6 @@ module _ (law : TurnIsRefused) (p : Place) (n table : ℕ) (values : List Value)
     further = place_after p n table None v account counts (p.journal ++ refused_request n tag h.statement);
     steps = law p n table h v account counts why tag told turns because so;
     past = past;
-    sure = λ on. absurd (no_scan on.looking);
   }
 
 -- the rows that count when one transaction's don't any more

@@ -50,7 +50,7 @@ module _ (old : ShownStore) (n table : ℕ) (values : List Value) (was : hand_in
   row_lacks_room row refused full =
       let fewer = without (p.tables table) 0 in
       let it = row p n table 0 values (p.tables table) fewer.counts refl rests_there RowLacksMemory fewer.no_more in
-      refusal_lacks_room refused p n table values tags.NoMemory (begun_hand table values) begun_here refl no_account fewer.counts LacksMemory refusals.Memory (refused_in n fewer.counts (p.tables table)) it.0 it.1 (ForMemory tt) (λ looking. looking) full
+      refusal_lacks_room refused p n table values tags.NoMemory (begun_hand table values) begun_here refl no_account fewer.counts LacksMemory refusals.Memory (refused_in n fewer.counts (p.tables table)) it.0 it.1 (ForMemory tt) full
 
 module _ (laws : RefusalLaws) (old new : ShownStore) (n table : ℕ) (values : List Value) (tag : Tag) (o : Open) (r : Refuses old new n table values tag o) (failing : IsFailing tag)
     (was : hand_in old.hands n ≡ Some (hands.Puts table values)) (p : Place) (shown : IsPlaceOf old p) where

@@ -5,7 +5,7 @@ use Rattle.block_model.specs.declared.reply.Refusal.TheVariants as refusals
 use Rattle.page_map.specs.Keeps.{Tells}
 use Rattle.script_semantics.specs.Names.{name_of}
 use Rattle.script_semantics.specs.Place.{Place}
-use Rattle.script_semantics.specs.StatementSteps.{Moved, Ended, Waits, Steps, IsPastRoom}
+use Rattle.script_semantics.specs.StatementSteps.{Moved, Ended, Waits, Steps, LacksRoom}
 use Rattle.session_parts.specs.declared.faults.Step.{Step}
 use Rattle.session_parts.specs.declared.faults.Step.TheVariants as steps
 use Rattle.session_parts.specs.declared.faults.StoreFault.{StoreFault}
@@ -21,7 +21,7 @@ abbrev pub StepIs : Place → ℕ → Result Step StoreFault → Place → Type 
 StepIs p n (Ok (steps.Moved point)) q = Steps p n (Moved point) q
 StepIs p n (Ok (steps.Done reply)) q = Steps p n (Ended reply) q
 StepIs p n (Ok (steps.Blocked what by)) q = Steps p n (Waits (refusals.Blocked what (name_of p by))) q
-StepIs p n (Err (stops.Spent entries)) q = IsPastRoom p n × (entries ≡ length p.journal) × (q ≡ p)
+StepIs p n (Err (stops.Spent entries)) q = LacksRoom p n × (entries ≡ length p.journal) × (q ≡ p)
 StepIs p n (Err fault) q = ⊥
 
 -- what came of a statement's step, as the answer of the store

@@ -10,7 +10,7 @@ use Rattle.page_map.specs.Outcome.{Refused}
 use Rattle.snapshot_core.specs.StoredVersions.{transaction_of}
 use Rattle.tx_table.specs.TxState.{IsOver}
 use Rattle.script_semantics.specs.Place.{Place}
-use Rattle.script_semantics.specs.StatementSteps.{IsPastRoom}
+use Rattle.script_semantics.specs.StatementSteps.{LacksRoom}
 use Rattle.session_parts.specs.declared.faults.StoreFault.TheVariants as stops
 use Rattle.session_parts.specs.declared.hand.Hand.{Hand}
 use Rattle.session_parts.specs.declared.hand.Stepped.{Stepped}
@@ -72,7 +72,7 @@ RefusedIsUndone {D} told = (old new : Parts D) (n : ℕ) (hand : Hand) (error : 
 abbrev pub SpentIsUndone : {D : Type 0} → (D → Told) → Type 0
 SpentIsUndone {D} told = (parts : Parts D) (n : ℕ) (hand : Hand) (entries : ℕ) → IsFit told parts n hand → parts.pages.failed ≡ None → entries ≡ length parts.journal.entries
     → MAX_ENTRIES < length parts.journal.entries + most_entered (statement_of hand)
-    → ((names : List (List ℕ)) (hands : List (Option Hand)) (p : Place) → hand_in hands n ≡ Some hand → Tells told parts.pages → ShowsPlace (store_of parts names hands) p → IsPastRoom p n)
+    → ((names : List (List ℕ)) (hands : List (Option Hand)) (p : Place) → hand_in hands n ≡ Some hand → Tells told parts.pages → ShowsPlace (store_of parts names hands) p → LacksRoom p n)
     → StepsSo told parts parts n hand (stepped.Undone (stops.Spent entries) hand)
 
 -- what is fit or shown stays so behind a call that changes no page, and the step may be made then

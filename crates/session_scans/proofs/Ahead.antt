@@ -36,11 +36,11 @@ begins_later (stages.Map at range) shown u beside begun = tt
 begins_later (stages.Tuple at range spot) shown u beside begun = tt
 begins_later stages.Judged shown u beside begun = tt
 
-pub scans_rest : {scan : TableScan} → Scans scan ≡ Resting → ⊥
+scans_rest : {scan : TableScan} → Scans scan ≡ Resting → ⊥
 scans_rest is = cc
 
 -- a scan whose session was at nothing has begun
-pub has_begun : (s : ℕ) (w v : TableState) (scan : TableScan) → ScanComes s w v scan → w.task s ≡ Resting → ScanBegins w scan
+has_begun : (s : ℕ) (w v : TableState) (scan : TableScan) → ScanComes s w v scan → w.task s ≡ Resting → ScanBegins w scan
 has_begun s w v _ (ScanBegan scan begins only) rests = begins
 has_begun s w v _ (ScanJudged old new was inside step only) rests = absurd (scans_rest (sym was ∙ rests))
 has_begun s w v _ (ScanRead scan next found was reads only) rests = absurd (scans_rest (sym was ∙ rests))
@@ -76,7 +76,7 @@ module _ (n : ℕ) (shown : ShownTable) (u : Unseen) (rests : u.task n ≡ Resti
       (scan_comes n here (table_state shown (task_turned n (Scans goes.done) u)) goes.does.does goes.done (pick_same n (Scans goes.done) (u.task n))) rests
 
   -- where there is a block the scan has to read one
-  pub no_block : IsScanRead here one → one.explains ≡ false → 0 < here.blocks → ⊥
+  no_block : IsScanRead here one → one.explains ≡ false → 0 < here.blocks → ⊥
   no_block read reads some = elim read.1 [
     | inl explains ↦ false≢true (sym reads ∙ explains)
     | inr all ↦

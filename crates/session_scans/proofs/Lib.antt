@@ -13,7 +13,6 @@ pub mod Marking
 pub mod Refusals
 pub mod Refused
 pub mod Ahead
-pub mod Last
 pub mod Frames
 pub mod Steps
 pub mod Short

@@ -40,7 +40,7 @@ use Rattle.session_scans.specs.Looks.{hand_before, scan_hand_of}
 use Rattle.session_scans.specs.ScanSteps.{MayScan, ScanStepsSo, parts_before}
 use Rattle.session_scans.proofs.Frames.{promised_on}
 use Rattle.session_scans.proofs.Mays.{behind, may_still}
-use Rattle.session_scans.proofs.Short.{its_open, last_spent}
+use Rattle.session_scans.proofs.Short.{is_spent, its_open}
 use Rattle.session_scans.proofs.Standing.{LooksThere, scans_at}
 use Rattle.session_scans.proofs.Steps.{DidScan, NotDamaged, moved_so, there, undone_so}
 use Rattle.session_scans.proofs.Words.{promised_is, scan_share, scan_shares, share_is}
@@ -154,13 +154,11 @@ module _ {D : Type 0} (told : D → Told) (laws : LookLaws) (parts : Parts D) (n
           (undone_so told laws old pages n looking scan may.fit may.find may.fresh its.0 its.1 keeps law may.shown known error refused)
 
       -- the journal lacks room for what it may enter
-      pub spent_there : MAX_ENTRIES < length parts.journal.entries + 1 → pages.failed ≡ None → (Tells told parts.pages → NextIs parts.pages.layout parts.pages.pages scan did.Finished)
-          → fault ≡ stops.Spent (length parts.journal.entries) → ScanStepsSo told parts new n looking scan answer
-      spent_there full still last is =
+      pub spent_there : MAX_ENTRIES < length parts.journal.entries + 1 → pages.failed ≡ None → fault ≡ stops.Spent (length parts.journal.entries) → ScanStepsSo told parts new n looking scan answer
+      spent_there full still is =
           let its_may = may_still told parts pages n looking scan keeps ready may in
           behind told parts pages n looking scan keeps ready still new answer
-          (last_spent told laws (parts_before scan.judging.stage mid) n looking scan its_may.fit its_may.find its_may.fresh still full new answer (undone_is (stops.Spent (length parts.journal.entries)) is) parts_are
-          (next_then scan refl did.Finished last))
+          (is_spent told laws (parts_before scan.judging.stage mid) n looking scan its_may.fit its_may.find its_may.fresh still full new answer (undone_is (stops.Spent (length parts.journal.entries)) is) parts_are)
 
     -- ---- another call makes it
 

@@ -21,7 +21,7 @@ use Rattle.bitmap_scan.specs.TableScans.{table_scan}
 use Rattle.script_semantics.specs.Beginnings.{IsAtRest}
 use Rattle.script_semantics.specs.Place.{Hand as HandAt, Place, new_hand}
 use Rattle.script_semantics.specs.Requests.{refused_request}
-use Rattle.script_semantics.specs.StatementSteps.{Ended, ForMemory, LacksBoth, StepsTo}
+use Rattle.script_semantics.specs.StatementSteps.{Ended, ForMemory, LacksRoom, StepsTo}
 use Rattle.session_parts.specs.HandsInTables.{table_in}
 use Rattle.session_parts.specs.PlacesAfter.{TurnsIn, place_after, place_at_once, refusal_in}
 use Rattle.session_parts.specs.RefusalLaws.{CountsNoMore, refused_in}
@@ -103,11 +103,12 @@ module _ (laws : LookLaws) (old : ShownStore) (n : ℕ) (looking : Looking) (bef
     past : MAX_ENTRIES < length entries_then
     past = omega (arith, full, ap length shown.journal, length-append p.journal (refused_entry n query ∷ []))
 
-    pub lacks_both : LacksBoth p n
-    lacks_both = elim (begun_or_not before.judging.stage) [
+    pub lacks_room : LacksRoom p n
+    lacks_room = elim (begun_or_not before.judging.stage) [
       | inl first ↦ record {
         hand = hand;
         in_hand = in_hand laws old n looking before o there p shown;
+        outcome = Ended (replies.Refused refusals.Memory);
         further = place_at_once p n (λ t. false) entries_then;
         steps = first_step first (λ t. false);
         past = past;
@@ -115,6 +116,7 @@ module _ (laws : LookLaws) (old : ShownStore) (n : ℕ) (looking : Looking) (bef
       | inr begun ↦ record {
         hand = hand;
         in_hand = in_hand laws old n looking before o there p shown;
+        outcome = Ended (replies.Refused refusals.Memory);
         further = place_after p n number None (refused_in n (λ t. false) (p.tables number)) (p.accounts n) (λ t. false) entries_then;
         steps = later_step begun 0 (λ t. false) (record { failed = refl; fewer = λ u none. absurd (true≢false (sym none)) }) (λ t. false);
         past = past;

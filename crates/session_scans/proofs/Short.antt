@@ -1,4 +1,4 @@
--- a statement for whose scan memory is short, before its first step or later
+-- a statement for whose scan memory is short, or the journal has no room, before its first step or later
 use Rattle.std.proofs.Common.{◌≡◌, ℕ, ◌+◌, ◌<◌, ◌≤◌, ◌++◌, ◌∷◌, [], length, Option, None, Some, refl, sym, ap, ◌∙◌, subst}
 use Rattle.std.specs.Prelude.{IsSome}
 use Rattle.disk_trait.specs.Told.{Told}
@@ -8,10 +8,7 @@ use Rattle.store_layout.specs.declared.limits.TheConstants.{MAX_ENTRIES}
 use Rattle.snapshot_core.specs.declared.sessions.Open.{Open}
 use Rattle.snapshot_core.specs.StoredVersions.{transaction_of}
 use Rattle.transactions.specs.TransactionsState.{OfOpen, TransactionsState, with_failed}
-use Rattle.page_locks.specs.declared.did.Did.TheVariants as did
-use Rattle.page_map.specs.Keeps.{Tells}
 use Rattle.tx_table.proofs.Stores.{keeps_same}
-use Rattle.bitmap_scan.specs.LooksAhead.{NextIs}
 use Rattle.bitmap_scan.specs.declared.stage.Stage.TheVariants as stages
 use Rattle.bitmap_scan.specs.Finds.{FindHand, IsFindOf}
 use Rattle.session_parts.specs.declared.faults.StoreFault.TheVariants as stops
@@ -29,7 +26,7 @@ use Rattle.session_scans.specs.Looks.{hand_before}
 use Rattle.session_scans.specs.ScanSteps.{IsFresh}
 use Rattle.session_scans.proofs.Frames.{some_open}
 use Rattle.session_scans.proofs.Refusals.{refused_entry}
-use Rattle.session_scans.proofs.Steps.{refused_so, short_so, spent_so}
+use Rattle.session_scans.proofs.Steps.{refused_so, spent_so}
 use Rattle.session_scans.proofs.Words.{fits_look}
 
 module _ {D : Type 0} (told : D → Told) (laws : LookLaws) (old : Parts D) (n : ℕ) (looking : Looking) (scan : FindHand) (fit : IsFit told old n (hand_before looking scan scan.judging.stage))
@@ -48,14 +45,9 @@ module _ {D : Type 0} (told : D → Told) (laws : LookLaws) (old : Parts D) (n :
   as_told answer other new then answer_is new_is so =
       subst (λ (a : Stepped). StepsSo told old new n was a) (sym answer_is) (subst (λ (x : Parts D). StepsSo told old x n was other) (sym new_is) so)
 
-  module _ (full : MAX_ENTRIES < length old.journal.entries + 1) (new : Parts D) (answer : Stepped) (answer_is : answer ≡ stepped.Undone (stops.Spent (length old.journal.entries)) was) (new_is : new ≡ old) where
-    pub last_spent : (Tells told old.pages → NextIs old.pages.layout old.pages.pages scan did.Finished) → StepsSo told old new n was answer
-    last_spent last = as_told answer (stepped.Undone (stops.Spent (length old.journal.entries)) was) new old answer_is new_is
-        (spent_so told laws old old.pages n looking scan fit find fresh its_open.0 its_open.1 (keeps_same told old.pages) ready full last)
-
-    pub short_spent : StepsSo told old new n was answer
-    short_spent = as_told answer (stepped.Undone (stops.Spent (length old.journal.entries)) was) new old answer_is new_is
-        (short_so told laws old old.pages n looking scan fit find fresh its_open.0 its_open.1 (keeps_same told old.pages) ready full)
+  pub is_spent : MAX_ENTRIES < length old.journal.entries + 1 → (new : Parts D) (answer : Stepped) → answer ≡ stepped.Undone (stops.Spent (length old.journal.entries)) was → new ≡ old → StepsSo told old new n was answer
+  is_spent full new answer answer_is new_is = as_told answer (stepped.Undone (stops.Spent (length old.journal.entries)) was) new old answer_is new_is
+      (spent_so told laws old old.pages n looking scan fit find fresh its_open.0 its_open.1 (keeps_same told old.pages) ready full)
 
   module _ (new : Parts D) (answer : Stepped) (answer_is : answer ≡ stepped.Done (replies.Refused refusals.Memory)) (failed : OfOpen old.transactions n (λ o. new.transactions ≡ with_failed old.transactions n o))
       (entries : new.journal.entries ≡ old.journal.entries ++ refused_entry n scan.judging.query ∷ []) (rest : new ≡ record old { transactions = new.transactions; journal = new.journal })

@@ -1,5 +1,5 @@
 -- what a step of a scan promises, by what its calls ensure
-use Rattle.std.proofs.Common.{◌≡◌, ◌≢◌, inl, inr, ℕ, ◌+◌, ◌<◌, ◌≤◌, false, List, [], ◌∷◌, ◌++◌, length, length-append, Option, None, Some, All, refl, sym, ap, ◌∙◌, subst, arith}
+use Rattle.std.proofs.Common.{◌≡◌, ◌≢◌, ℕ, ◌+◌, ◌<◌, ◌≤◌, false, List, [], ◌∷◌, ◌++◌, length, length-append, Option, None, Some, All, refl, sym, ap, ◌∙◌, subst, arith}
 use Rattle.disk_trait.specs.Told.{Told}
 use Rattle.block_model.specs.declared.reply.Point.{Point}
 use Rattle.block_model.specs.declared.reply.Refusal.TheVariants as refusals
@@ -65,12 +65,11 @@ use Rattle.session_scans.specs.LookLaws.{LookLaws}
 use Rattle.session_scans.specs.Looks.{deletes_of, first_hand_of, hand_before, scan_hand_of, statement_for}
 use Rattle.session_scans.specs.ScanSteps.{IsFresh}
 use Rattle.session_scans.proofs.Ahead.{not_the_last}
-use Rattle.session_scans.proofs.Last.{lacks_room}
 use Rattle.session_scans.proofs.Frames.{LeavesParts, failed_apart, failed_here, leaves_others, over_still, promised_failed, stays_fit, under_way}
 use Rattle.session_scans.proofs.GoesOn.{scan_goes_on}
 use Rattle.session_scans.proofs.Stepped.{MakesStep}
 use Rattle.session_scans.proofs.Led.{ScanLeft}
-use Rattle.session_scans.proofs.Refusals.{lacks_both, refused_entry}
+use Rattle.session_scans.proofs.Refusals.{lacks_room, refused_entry}
 use Rattle.session_scans.proofs.Refused.{RefusedLeft, scan_refused}
 use Rattle.session_scans.proofs.Standing.{LooksThere, kept, scans_at, shows, sight}
 use Rattle.session_scans.proofs.Stands.{IsThere, all_stand}
@@ -313,14 +312,9 @@ module _ {D : Type 0} (told : D → Told) (laws : LookLaws) (old : Parts D) (pag
   -- ---- the journal lacks room
 
   module _ (ready : old.pages.failed ≡ None) (full : MAX_ENTRIES < length old.journal.entries + 1) where
-    pub spent_so : (Tells told old.pages → NextIs old.pages.layout old.pages.pages before did.Finished) → StepsSo told old old n was (stepped.Undone (stops.Spent (length old.journal.entries)) was)
-    spent_so last = spent_is_undone told old n was (length old.journal.entries) fit ready refl (full_then full)
-        (λ names hands_ p is tells shown. inl (lacks_room laws (store names hands_ is) n looking before o (there names hands_ is) p shown (last tells) full))
-
-    -- memory is short for it
-    pub short_so : StepsSo told old old n was (stepped.Undone (stops.Spent (length old.journal.entries)) was)
-    short_so = spent_is_undone told old n was (length old.journal.entries) fit ready refl (full_then full)
-        (λ names hands_ p is tells shown. inr (lacks_both laws (store names hands_ is) n looking before o (there names hands_ is) p shown full))
+    pub spent_so : StepsSo told old old n was (stepped.Undone (stops.Spent (length old.journal.entries)) was)
+    spent_so = spent_is_undone told old n was (length old.journal.entries) fit ready refl (full_then full)
+        (λ names hands_ p is tells shown. lacks_room laws (store names hands_ is) n looking before o (there names hands_ is) p shown full)
 
   -- ---- the pages refuse it
 

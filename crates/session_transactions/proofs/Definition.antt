@@ -121,7 +121,6 @@ module _ (p : Place) (n : ℕ) (query : Query) (answers : List Answer) (first : 
       further = place_after p n query.table None v (p.accounts n) (λ t. true) (course after does).journal;
       steps = ends after does v (λ t. true) is turn (task_then n (p.tables query.table) _ ∙ ap (λ (l : List Row). left_at stands.scan (map (λ (r : Row). r.id) l)) is);
       past = subst (λ (l : List Entry). MAX_ENTRIES < length l) (sym (course_is after does).journal) past;
-      sure = λ on is. cc;
     }
     lacks_for_mark after does (next ∷ rest) is = record {
       hand = at;
@@ -130,7 +129,6 @@ module _ (p : Place) (n : ℕ) (query : Query) (answers : List Answer) (first : 
       further = place_after p n query.table (Some (record at { answers = (course after does).answers })) v (p.accounts n) (λ t. true) (course after does).journal;
       steps = goes_on after does next rest v (λ t. true) is turn (λ rests. marks_or_rests (sym (task_then n (p.tables query.table) _ ∙ ap (λ (l : List Row). left_at stands.scan (map (λ (r : Row). r.id) l)) is) ∙ rests));
       past = subst (λ (l : List Entry). MAX_ENTRIES < length l) (sym (course_is after does).journal) past;
-      sure = λ on is. cc;
     }
       where
         marks_or_rests : Marks stands.scan (next.id ∷ map (λ (r : Row). r.id) rest) ≢ Resting
@@ -147,7 +145,6 @@ module _ (p : Place) (n : ℕ) (query : Query) (answers : List Answer) (first : 
           further = place_after p n query.table None (refused_in n (λ t. false) (p.tables query.table)) (p.accounts n) (λ t. true) (course_met after does).journal;
           steps = conflicts after does (refused_in n (λ t. false) (p.tables query.table)) (λ t. true) refused.0 refused.1;
           past = subst (λ (l : List Entry). MAX_ENTRIES < length l) (sym (course_met_is after does).journal) past;
-          sure = λ on is. cc;
         }
       where
         delete_only : statements.Delete query ≢ statements.Work

@@ -9,13 +9,12 @@ use Rattle.block_model.specs.declared.request.Request.TheVariants as requests
 use Rattle.block_model.specs.DatabaseState.{DatabaseState, OpenTransaction}
 use Rattle.block_model.specs.RequestEffect.{Answer, Committed, RolledBack, effect_at, effect_is, reply_to}
 use Rattle.store_layout.specs.declared.limits.TheConstants.{MAX_ENTRIES}
-use Rattle.store_layout.specs.declared.statement.Statement.{Statement}
 use Rattle.store_layout.specs.StatementRequests.{request_entry}
 use Rattle.snapshot_core.specs.StoredVersions.{transaction_of}
 use Rattle.transactions.specs.Laws.{SessionsAreShown}
 use Rattle.script_semantics.specs.Place.{Place, database_at}
 use Rattle.script_semantics.specs.StatementSteps as steps
-use Rattle.script_semantics.specs.StatementSteps.{Ended, IsAtOnce, IsLooking, LacksRoom, Moved, Outcome, Waits}
+use Rattle.script_semantics.specs.StatementSteps.{Ended, IsAtOnce, LacksRoom}
 use Rattle.session_parts.specs.declared.hand.Hand.{Hand}
 use Rattle.session_parts.specs.declared.hand.Hand.TheVariants as hands
 use Rattle.session_parts.specs.declared.parts.Parts.{Parts}
@@ -25,12 +24,6 @@ use Rattle.session_parts.specs.ShowsPlace.{ShowsPlace}
 use Rattle.session_parts.specs.StoreStates.{hand_in, store_of}
 use Rattle.session_transactions.proofs.AtOnce.{IsOnly, Laws, in_hand, is_step}
 use Rattle.session_transactions.proofs.Ending.{commit_only, rollback_only, some_open}
-
--- what is one request is no scan
-no_scan : (p : Place) (statement : Statement) → IsAtOnce p statement → IsLooking statement → ⊥
-no_scan p _ (steps.Begin some) looking = looking
-no_scan p _ steps.Commit looking = looking
-no_scan p _ steps.Rollback looking = looking
 
 module _ {D : Type 0} (laws : Laws) (parts : Parts D) (n : ℕ) (hand : Hand) (full : MAX_ENTRIES ≤ length parts.journal.entries)
     (names : List (List ℕ)) (hands : List (Option Hand)) (p : Place) (is : hand_in hands n ≡ Some hand) (shown : ShowsPlace (store_of parts names hands) p) where
@@ -48,7 +41,6 @@ module _ {D : Type 0} (laws : Laws) (parts : Parts D) (n : ℕ) (hand : Hand) (f
     further = place_at_once p n (λ u. true) (p.journal ++ e ∷ []);
     steps = is_step laws n hand e answer reply p only answered may shows (λ u. true);
     past = past e;
-    sure = λ on. absurd (no_scan p (statement_of hand) may on.looking);
   }
 
 -- ---- a commit, and a rollback

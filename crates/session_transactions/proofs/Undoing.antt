@@ -1,5 +1,5 @@
 -- Steps that aren't done.
-use Rattle.std.proofs.Common.{◌≡◌, inl, ℕ, ◌+◌, ◌<◌, ◌≤◌, List, length, Option, None, Some, refl, sym, subst, arith}
+use Rattle.std.proofs.Common.{◌≡◌, ℕ, ◌+◌, ◌<◌, ◌≤◌, List, length, Option, None, Some, refl, sym, subst, arith}
 use Rattle.block_model.specs.declared.row.Query.{Query}
 use Rattle.disk_trait.specs.Told.{Told}
 use Rattle.page_map.specs.declared.faults.StoreError.{StoreError}
@@ -52,4 +52,4 @@ pub no_room_for : {D : Type 0} (told : D → Told) (parts : Parts D) (n : ℕ) (
     → StepsSo told parts parts n hand (stepped.Undone fault hand)
 no_room_for told parts n hand fault fits ready is full lacks =
     subst (λ (f : StoreFault). StepsSo told parts parts n hand (stepped.Undone f hand)) (sym is)
-    (spent_is_undone told parts n hand (length parts.journal.entries) fits ready refl full (λ names hands p there tells shown. inl (lacks names hands p there shown)))
+    (spent_is_undone told parts n hand (length parts.journal.entries) fits ready refl full (λ names hands p there tells shown. lacks names hands p there shown))

@@ -1,4 +1,4 @@
-use Rattle.std.proofs.Common.{◌≡◌, inl, [], ◌∷◌, ◌++◌, ◌+◌, ◌<◌, ◌≤◌, List, length, Option, None, Some, refl, sym, ap, subst, ◌∙◌, arith}
+use Rattle.std.proofs.Common.{◌≡◌, [], ◌∷◌, ◌++◌, ◌+◌, ◌<◌, ◌≤◌, List, length, Option, None, Some, refl, sym, ap, subst, ◌∙◌, arith}
 use Rattle.std.specs.Prelude.{IfSome, IsSome, IsSomeAnd}
 use Rattle.std.proofs.lemmas.Bool.{false≢true}
 use Rattle.block_model.specs.declared.reply.Refusal.TheVariants as refusals
@@ -51,7 +51,7 @@ returns-then-not-fits g c =
     let full = past_room (length parts.journal.entries) MAX_ENTRIES (λ (within : length parts.journal.entries + 1 ≤ MAX_ENTRIES). false≢true (sym c.if-not-fits.true ∙ c.fits.ensures.1 within)) in
     let so : StepsSo g.D.Disk.told parts parts c.args.session hand (stepped.Undone c.spent.result hand) = subst (λ (f : StoreFault). StepsSo g.D.Disk.told parts parts c.args.session hand (stepped.Undone f hand)) (sym c.spent.ensures)
     (c.an_undone_step_changes_nothing.ensures.spent parts c.args.session hand (length parts.journal.entries) c.requires.fit c.in-Ok.ensures.outcome.0 refl (past_one (length parts.journal.entries) MAX_ENTRIES full)
-    (λ names hand_list p has tells shown. inl (no_room_so c.steps_of_an_insert.ensures.refusal parts c.args.session c.args.table c.args.values fits.in_hand.1 full names hand_list p has shown))) in
+    (λ names hand_list p has tells shown. no_room_so c.steps_of_an_insert.ensures.refusal parts c.args.session c.args.table c.args.values fits.in_hand.1 full names hand_list p has shown)) in
     record { so = record { stepped = stepped.Undone c.spent.result hand; so = so; left_is = c.undone-then-not-fits.ensures.left; answer_is = c.undone-then-not-fits.ensures.fault }; spare = c.requires.spare; survives = passed_none g.D.Disk.told (IsBefore parts.pages) parts.pages parts.pages c.ready.ensures.stays }
 
 pub machine_for-requires-clause-open : goal.machine_for-requires-clause-open

@@ -6,7 +6,7 @@ use Rattle.session_parts.specs.declared.hand.Stepped.TheVariants as stepped
 use Rattle.session_scans.specs.Looks.{hand_before}
 use Rattle.session_scans.specs.ScanSteps.{parts_before}
 use Rattle.session_scans.proofs.Behind.{refused_entered}
-use Rattle.session_scans.proofs.Short.{short_refused, short_spent}
+use Rattle.session_scans.proofs.Short.{is_spent, short_refused}
 use Rattle.session_scans.proofs.Words.{promised_is, scan_share, share_is}
 use Rattle.session_scans.proofs.refusing.lacks_memory.Goals as goal
 
@@ -17,7 +17,7 @@ returns-then-not-fits-clause-so g c =
     let may = c.requires.may in
     let within-not = λ (within : length parts.journal.entries + 1 ≤ MAX_ENTRIES). false≢true (sym c.if-not-fits.true ∙ c.fits.ensures.1 within) in
     let full : MAX_ENTRIES < length parts.journal.entries + 1 = omega (arith, within-not) in
-    short_spent g.D.Disk.told c.laws_of_looks.ensures (parts_before scan.judging.stage parts) c.args.session c.args.looking scan may.fit may.find may.fresh c.requires.ready full c.undone.new.parts c.undone.result
+    is_spent g.D.Disk.told c.laws_of_looks.ensures (parts_before scan.judging.stage parts) c.args.session c.args.looking scan may.fit may.find may.fresh c.requires.ready full c.undone.new.parts c.undone.result
     (c.undone.ensures.answer ∙ ap (λ (f : StoreFault). stepped.Undone f (hand_before c.args.looking scan scan.judging.stage)) c.spent-fault.ensures) c.undone.ensures.parts
 
 pub returns-clause-so : goal.returns-clause-so

@@ -23,7 +23,7 @@ returns-in-Ok-true-clause-so g c =
     let within-not = λ (within : length parts.journal.entries + 1 ≤ MAX_ENTRIES). false≢true (sym c.if-fits.false ∙ c.fits.ensures.1 within) in
     let full : MAX_ENTRIES < length parts.journal.entries + 1 = omega (arith, within-not) in
     spent_there g.D.Disk.told c.laws_of_looks.ensures parts c.args.session c.args.looking c.args.scan c.requires.may c.requires.ready c.peek.new.pages c.peek.ensures.kept c.peek.new.self c.peek.ensures.same
-    c.undone.new.parts c.undone.result c.spent-fault.result c.undone.ensures.answer c.undone.ensures.parts full c.in-Ok-true.ensures.outcome.1 (c.in-Ok-true.ensures.ends c.in-Ok-true.field-0-test) c.spent-fault.ensures
+    c.undone.new.parts c.undone.result c.spent-fault.result c.undone.ensures.answer c.undone.ensures.parts full c.in-Ok-true.ensures.outcome.1 c.spent-fault.ensures
 
 pub returns-in-Ok-false-clause-so : goal.returns-in-Ok-false-clause-so
 returns-in-Ok-false-clause-so g c =
