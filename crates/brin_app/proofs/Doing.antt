@@ -18,7 +18,7 @@ use Rattle.recovery.specs.Damaged.{IsDamaged}
 use Rattle.recovery.specs.Opens.{Opens, OpensAs}
 use Rattle.recovery.specs.PageOrder.{AreInOrder}
 use Rattle.recovery.specs.StartCauses.{HasStore, IsDamagedStore}
-use Rattle.recovery.specs.Untouched.{IsUntouched}
+use Rattle.recovery.specs.Untouched.{IsUntouched, KeepsFront}
 use Rattle.recovery.specs.declared.fault.StartFault.{StartFault}
 use Rattle.recovery.specs.declared.fault.StartFault.TheVariants as starts
 use Rattle.page_store.specs.Refused.{IsRefused}
@@ -151,7 +151,7 @@ module _ (old : Told) (l k : Option (List ℕ)) (only : (image : List ℕ) → I
   idle_refused_of (Init layout) = λ wrong. record { why = inl refl; disk = refl; idle = idle l k }
   idle_refused_of (Run layout) = λ wrong. record { why = inl refl; disk = refl; idle = idle l k }
   idle_refused_of (Demo layout seed rows) = λ wrong. record { why = inl refl; disk = refl; idle = idle l k }
-  idle_refused_of RunStored = record { none = λ tells none. record { why = inr (inl refl); idle = idle l k }; untouched = λ e. absurd (omega (arith, e)) }
+  idle_refused_of RunStored = record { none = λ tells none. record { why = inr (inl refl); idle = idle l k }; untouched = λ e. absurd (omega (arith, e)); front = λ e. absurd (omega (arith, e)) }
 
   pub idle_spent_of : (task : Task) → IsSpentOf task 7 old l l
   idle_spent_of (Init layout) = λ e. omega (arith, e)
@@ -168,54 +168,54 @@ module _ (old : Told) (l k : Option (List ℕ)) (only : (image : List ℕ) → I
 -- ---- a store that isn't opened
 
 module _ (one : HaveOneLayout) (law : AreNotDamaged) (old new : Told) (l k : Option (List ℕ)) (stay : ImagesStay old new) where
-  pub refused_done : (fault : StartFault) (r w : Type 0) → (fault ≡ starts.NoStore → IsUntouched old new) → IsRefused old new fault → IsDoneSo RunStored (start_status fault) old new l l k k r w
-  refused_done starts.NoStore r w untouched cause = record {
+  pub refused_done : (fault : StartFault) (r w : Type 0) → (fault ≡ starts.NoStore → IsUntouched old new) → ((at : ℕ) → fault ≡ starts.Damaged at → IsTrue old.tells_contents → KeepsFront old new) → IsRefused old new fault → IsDoneSo RunStored (start_status fault) old new l l k k r w
+  refused_done starts.NoStore r w untouched front cause = record {
     known = start_known starts.NoStore;
     output = λ tells layout table holds. absurd (cause.0 tells layout (has_store old layout table holds));
     read_fault = λ e. absurd (omega (arith, e));
     write_fault = λ e. absurd (omega (arith, e));
     disk_fault = λ e. absurd (omega (arith, e));
     no_store = λ _. cause.0;
-    refused_disk = record { none = λ tells none. record { why = inr (inr (inl refl)); idle = idle l k }; untouched = λ e. untouched refl };
+    refused_disk = record { none = λ tells none. record { why = inr (inr (inl refl)); idle = idle l k }; untouched = λ e. untouched refl; front = λ e. absurd (omega (arith, e)) };
     damaged = λ e. absurd (omega (arith, e));
     no_usage = λ e. absurd (omega (arith, e));
     spent = λ tells layout table holds. idle_spent 9 (StartsOver layout holds.pages holds.image.next table) layout l (λ e. omega (arith, e));
     complete = λ _ _ _ tells layout table holds. absurd (cause.0 tells layout (has_store old layout table holds));
   }
-  refused_done (starts.Damaged at) r w untouched cause = record {
+  refused_done (starts.Damaged at) r w untouched front cause = record {
     known = start_known (starts.Damaged at);
     output = λ tells layout table holds. absurd (undamaged one law old layout table at holds (cause.0 tells));
     read_fault = λ e. absurd (omega (arith, e));
     write_fault = λ e. absurd (omega (arith, e));
     disk_fault = λ e. absurd (omega (arith, e));
     no_store = λ e. absurd (omega (arith, e));
-    refused_disk = record { none = λ tells none. record { why = inr (inr (inr refl)); idle = idle l k }; untouched = λ e. absurd (omega (arith, e)) };
+    refused_disk = record { none = λ tells none. record { why = inr (inr (inr refl)); idle = idle l k }; untouched = λ e. absurd (omega (arith, e)); front = λ _. front at refl };
     damaged = λ _ tells. (at, cause.0 tells);
     no_usage = λ e. absurd (omega (arith, e));
     spent = λ tells layout table holds. idle_spent 11 (StartsOver layout holds.pages holds.image.next table) layout l (λ e. omega (arith, e));
     complete = λ _ _ _ tells layout table holds. absurd (undamaged one law old layout table at holds (cause.0 tells));
   }
-  refused_done starts.Disk r w untouched cause = record {
+  refused_done starts.Disk r w untouched front cause = record {
     known = start_known starts.Disk;
     output = λ tells layout table holds. inl (record { why = inl refl; idle = idle l k; any_moment = stay layout table });
     read_fault = λ e. absurd (omega (arith, e));
     write_fault = λ e. absurd (omega (arith, e));
     disk_fault = λ _. cause.1;
     no_store = λ e. absurd (omega (arith, e));
-    refused_disk = record { none = λ tells none. record { why = inl refl; idle = idle l k }; untouched = λ e. absurd (omega (arith, e)) };
+    refused_disk = record { none = λ tells none. record { why = inl refl; idle = idle l k }; untouched = λ e. absurd (omega (arith, e)); front = λ e. absurd (omega (arith, e)) };
     damaged = λ e. absurd (omega (arith, e));
     no_usage = λ e. absurd (omega (arith, e));
     spent = λ tells layout table holds. idle_spent 6 (StartsOver layout holds.pages holds.image.next table) layout l (λ e. omega (arith, e));
     complete = λ _ _ not. absurd (not cause.1);
   }
-  refused_done starts.Memory r w untouched cause = record {
+  refused_done starts.Memory r w untouched front cause = record {
     known = start_known starts.Memory;
     output = λ tells layout table holds. inl (record { why = inr refl; idle = idle l k; any_moment = stay layout table });
     read_fault = λ e. absurd (omega (arith, e));
     write_fault = λ e. absurd (omega (arith, e));
     disk_fault = λ e. absurd (omega (arith, e));
     no_store = λ e. absurd (omega (arith, e));
-    refused_disk = record { none = λ tells none. record { why = inr (inl refl); idle = idle l k }; untouched = λ e. absurd (omega (arith, e)) };
+    refused_disk = record { none = λ tells none. record { why = inr (inl refl); idle = idle l k }; untouched = λ e. absurd (omega (arith, e)); front = λ e. absurd (omega (arith, e)) };
     damaged = λ e. absurd (omega (arith, e));
     no_usage = λ e. absurd (omega (arith, e));
     spent = λ tells layout table holds. idle_spent 7 (StartsOver layout holds.pages holds.image.next table) layout l (λ e. omega (arith, e));
@@ -334,7 +334,7 @@ module _ {D : Type 0} (told : D → Told) (one : HaveOneLayout) (old : Told) (s 
           write_fault = write;
           disk_fault = rose;
           no_store = λ nine. absurd (others.1 nine);
-          refused_disk = record { none = λ tells none. absurd (held_here image tells none); untouched = λ nine. absurd (others.1 nine) };
+          refused_disk = record { none = λ tells none. absurd (held_here image tells none); untouched = λ nine. absurd (others.1 nine); front = λ eleven tells. absurd (damage eleven (same_tells ∙ tells) ready) };
           damaged = λ eleven tells. absurd (damage eleven (same_tells ∙ tells) ready);
           no_usage = others.0;
           spent = λ tells layout table holds.

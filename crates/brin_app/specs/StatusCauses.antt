@@ -6,7 +6,7 @@ use Rattle.block_model.specs.TableState.{TableState}
 use Rattle.disk_trait.specs.Told.{Told}
 use Rattle.store_layout.specs.DiskLayout.{DiskLayout, disk_size}
 use Rattle.recovery.specs.StartCauses.{HasNoStore, IsDamagedStore}
-use Rattle.recovery.specs.Untouched.{IsUntouched}
+use Rattle.recovery.specs.Untouched.{IsUntouched, KeepsFront}
 use Rattle.script_semantics.specs.Place.{Place}
 use Rattle.script_semantics.specs.Starts.{IsStart}
 use Rattle.script_run.specs.declared.engine.AnswerFault.TheVariants.{Full}
@@ -49,10 +49,11 @@ pub record IsRefusedByBytes (status : ℕ) (left left' taken taken' : Option (Li
   pub why : (status ≡ 6) ⊎ ((status ≡ 7) ⊎ ((status ≡ 9) ⊎ (status ≡ 11)))
   pub idle : IsIdle left left' taken taken'
 
--- no store is there to run a script over; and where the status says so, none was written to
+-- No store is there to run a script over; and where the status says so, none was written to, or of a damaged one the pages alone.
 pub record IsRefusedStored (status : ℕ) (old new : Told) (left left' taken taken' : Option (List ℕ)) : Type 0 where
   pub none : IsTrue old.tells_contents → ((layout : DiskLayout) (table : TableState) → HoldsTable old layout table → ⊥) → IsRefusedByBytes status left left' taken taken'
   pub untouched : status ≡ 9 → IsUntouched old new
+  pub front : status ≡ 11 → IsTrue old.tells_contents → KeepsFront old new
 
 abbrev pub IsRefusedSo : Task → ℕ → (old new : Told) → (left left' taken taken' : Option (List ℕ)) → Type 0
 IsRefusedSo (Init layout) status old new left left' taken taken' = old.size ≢ disk_size layout → IsRefusedBySize status old new left left' taken taken'

@@ -7,7 +7,7 @@ ghost use Rattle.recovery.specs.Opens.{OpensAs};
 ghost use Rattle.recovery.specs.PageOrder.{AreInOrder};
 ghost use Rattle.recovery.specs.Reaches.{OpensAsBefore};
 ghost use Rattle.recovery.specs.StartCauses.{HasStore};
-ghost use Rattle.recovery.specs.Untouched.{IsUntouched};
+ghost use Rattle.recovery.specs.Untouched.{IsUntouched, KeepsFront};
 ghost use Rattle.page_store.specs.Refused.{IsRefused};
 
 use crate::forms::forms_of;
@@ -39,6 +39,8 @@ impl<D: Disk + Drop> PageStore<D> {
         ensures any_moment { MatchResult result (λ store. Throughout (D.told disk) (D.told store.disk) (OpensAsBefore (D.told disk))) (λ e. Throughout (D.told disk) (D.told e.1) (OpensAsBefore (D.told disk))) }
         // Where no store is there, nothing was written.
         ensures untouched { IfErr result (λ e. e.0 ≡ StartFault.NoStore → IsUntouched (D.told disk) (D.told e.1)) }
+        // Whatever is answered, only pages were written back.
+        ensures front { MatchResult result (λ store. KeepsFront (D.told disk) (D.told store.disk)) (λ e. KeepsFront (D.told disk) (D.told e.1)) }
         ensures refused { IfErr result (λ e. IsRefused (D.told disk) (D.told e.1) e.0) }
     {
         slots_are_read();

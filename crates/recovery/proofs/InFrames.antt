@@ -13,6 +13,7 @@ use Rattle.recovery.specs.Redoing.{AreFirstOf, AreMarked, CanBeRedone, KeepsMome
 use Rattle.recovery.specs.RedoesChange.{CannotBeNext, RedoesChange}
 use Rattle.recovery.specs.RedoesFrame.{IsAmissNext, IsNextFrame, KeepsMomentsOfFrame, RedoesFrame}
 use Rattle.recovery.proofs.Changes.{NoneBeginsAnother, changes_begin, changes_push, logged_append, logged_frame, logged_once, logged_split, some_bytes}
+use Rattle.recovery.proofs.Steps.{redoing_kept}
 
 -- the changes in front of an offset of the frame
 pub record SoFar (layout : DiskLayout) (before behind : List LogFrame) (frame : LogFrame) (start : Told) (done : List LoggedChange) (at left : ℕ) (disk : Told) (pool : PoolState) (marks : List Bool) : Type 0 where
@@ -160,7 +161,9 @@ module _ (one : NoneBeginsAnother) where
         keeps (before ++ frame ∷ behind) start (done ++ s.own) s.redoing
 
     pub moments_here : KeepsMomentsOfFrame layout frame old pool marks mid
-    moments_here before behind start done next = (f.so_far before behind start done next).redoing.moments
+    moments_here before behind start done next =
+        let s = f.so_far before behind start done next in
+        redoing_kept layout (before ++ frame ∷ behind) start (done ++ s.own) mid pooled s.redoing
 
     -- all of the frame is redone
     pub frame_redone : length frame.changes ≤ at → left ≡ 0 → RedoesFrame layout frame old pool marks mid pooled between

@@ -5,17 +5,15 @@ use Rattle.std.specs.Int.{bytes_high_first}
 use Rattle.byte_fields.specs.Fields.{length-number}
 use Rattle.store_layout.specs.DiskLayout.{DiskLayout}
 use Rattle.disk_trait.specs.Told.{Told}
-use Rattle.disk_trait.specs.Throughout.{Throughout}
 use Rattle.log_area.specs.Frames.{LogFrame, frame_bytes, numbers_of, row_of}
 use Rattle.wal_record.specs.Changes.{LoggedChange}
 use Rattle.buffer_pool.specs.PoolState.{PoolState}
 use Rattle.recovery.specs.LoggedChanges.{AreLogged}
-use Rattle.recovery.specs.Reaches.{OpensAsBefore}
 use Rattle.block_model.specs.declared.place.Place.{Place}
 use Rattle.block_model.specs.NumberMaps.{none_Some, same_Some}
 use Rattle.recovery.specs.Damage.{HasFrameAmiss}
 use Rattle.recovery.specs.ShownPages.{shown_page}
-use Rattle.recovery.specs.Redoing.{CanBeRedone, MakePages, Redoing}
+use Rattle.recovery.specs.Redoing.{CanBeRedone, IsKept, MakePages, Redoing}
 use Rattle.recovery.specs.RedoesFrame.{AreRedone, IsAmissNext, IsNextFrame, KeepsMomentsOfFrame, RedoesFrame}
 
 -- a list taken apart at one of its elements
@@ -72,7 +70,7 @@ module _ (layout : DiskLayout) (frames : List LogFrame) (at : ℕ) (frame : LogF
         marked = r.marked;
       }
 
-  pub frames_moments : (now : Told) → KeepsMomentsOfFrame layout frame mid pool marks now → Throughout start now (OpensAsBefore start)
+  pub frames_moments : (now : Told) → KeepsMomentsOfFrame layout frame mid pool marks now → IsKept layout start now
   frames_moments now keeps = keeps (take at frames) (drop (suc at) frames) start so_far.done next
 
   pub frame_amiss : (area gate : ℕ) → gate ≡ area + length (row_of (take at frames)) → IsAmissNext layout frame mid pool marks → IsTrue mid.tells_contents → HasFrameAmiss layout start.contents area frames gate

@@ -1,11 +1,11 @@
 -- one step of a redo: a page is read, written back, or changed
 use Rattle.std.proofs.Common.{◌≡◌, ◌≢◌, ◌⊎◌, inl, inr, ℕ, ◌≤◌, List, ◌∷◌, length, refl, sym, ◌∙◌, ap, subst, ⊎_elim}
-use Rattle.std.specs.Prelude.{IsTrue, None, Some}
+use Rattle.std.specs.Prelude.{IsTrue, None, Some, take}
 use Rattle.std.proofs.lemmas.Cmp.{nat_cmp_total}
 use Rattle.block_model.specs.declared.limits.TheConstants.{PAGE_SIZE}
 use Rattle.block_model.specs.declared.place.Place.{Place}
 use Rattle.block_model.specs.NumberMaps.{found_after_put, get_put_apart, get_put_here, numbers_apart}
-use Rattle.store_layout.specs.DiskLayout.{DiskLayout, IsPlace, disk_size}
+use Rattle.store_layout.specs.DiskLayout.{DiskLayout, IsPlace, disk_size, first_offset}
 use Rattle.store_layout.specs.PagesFillDisk.{PagesFillDisk}
 use Rattle.store_format.specs.ControlPage.{HasControl}
 use Rattle.disk_trait.specs.Told.{Told}
@@ -30,7 +30,7 @@ use Rattle.recovery.specs.InPool.{IsHeldPage}
 use Rattle.recovery.specs.PageNumbers.{page_number}
 use Rattle.recovery.specs.ShownLaws.{one_number}
 use Rattle.recovery.specs.ShownPages.{shown_page}
-use Rattle.recovery.specs.Redoing.{Redoing}
+use Rattle.recovery.specs.Redoing.{IsKept, Redoing}
 use Rattle.recovery.proofs.Changes.{same_place}
 use Rattle.recovery.proofs.Images.{kept_torn, opens_like}
 use Rattle.recovery.proofs.Places.{other_page, pooled_held, pooled_same, written_page}
@@ -56,10 +56,21 @@ redoing_read layout frames start done disk after pool same r = subst (λ (t : To
           record { size = r.moments.size; tells_contents = r.moments.tells_contents; tells_images = r.moments.tells_images; later = r.moments.later; each = r.moments.each; earlier = r.moments.earlier };
     })
 
+-- ---- what is kept
+
+pub redoing_kept : (layout : DiskLayout) (frames : List LogFrame) (start : Told) (done : List LoggedChange) (disk : Told) (pool : PoolState) → Redoing layout frames start done disk pool → IsKept layout start disk
+redoing_kept layout frames start done disk pool r = record { moments = r.moments; front = λ tells. (r.contents (r.moments.tells_contents ∙ tells)).log }
+
+pub kept_read : (layout : DiskLayout) (start disk after : Told) → after ≡ record disk { faults = after.faults } → IsKept layout start disk → IsKept layout start after
+kept_read layout start disk after same kept = record {
+  moments = moments_read start disk after (OpensAsBefore start) same kept.moments;
+  front = λ tells. ap (λ (t : Told). take (first_offset layout) t.contents) same ∙ kept.front tells;
+}
+
 -- ---- a page is written back
 
 module _ (one_layout : (page : List ℕ) (a b : DiskLayout) → HasControl a page → HasControl b page → a ≡ b) (ways : (area : List ℕ) → OpensInOneWay area) (forgets : (form : Form) (change : LoggedChange) (changes : List LoggedChange) → IsAnew change → ForgetPage form (change ∷ changes)) where
-  pub moments_written : (layout : DiskLayout) → PagesFillDisk layout → (frames : List LogFrame) (start : Told) (done : List LoggedChange) (disk after : Told) (pool : PoolState)
+  moments_written : (layout : DiskLayout) → PagesFillDisk layout → (frames : List LogFrame) (start : Told) (done : List LoggedChange) (disk after : Told) (pool : PoolState)
       → ((t : ℕ) (c : List ℕ) → t ≤ disk.moment → IsTrue (disk.now c) → IsTrue (disk.since t c))
       → HoldsDurablePages layout pool → MayWrite disk pool after → Redoing layout frames start done disk pool → Throughout start after (OpensAsBefore start)
   moments_written layout fill frames start done disk after pool counts held (inl same) r = subst (λ (t : Told). Throughout start t (OpensAsBefore start)) (sym same) r.moments
@@ -73,6 +84,26 @@ module _ (one_layout : (page : List ℕ) (a b : DiskLayout) → HasControl a pag
       let touched = r.touched one.place wrote.1 one.is (ap (held_at pool) one.number ∙ cleanable.held) in
       let kept = kept_torn layout fill done start.contents d.0 image one.place one.is touched (subst (λ (n : ℕ). Torn (writes.place_of 0 n) PAGE_SIZE d.0 image) (sym one.number) d.2) (r.images d.0 d.1) in
       (was.0, was.1, inr (opens_like one_layout ways forgets layout frames start done r.log r.first was.0 image was.1 kept)))
+
+  -- whether all of it came or not
+  front_written : (layout : DiskLayout) → PagesFillDisk layout → (frames : List LogFrame) (start : Told) (done : List LoggedChange) (disk after : Told) (pool : PoolState)
+      → HoldsDurablePages layout pool → MayWrite disk pool after → Redoing layout frames start done disk pool → IsTrue disk.tells_contents
+      → take (first_offset layout) after.contents ≡ take (first_offset layout) start.contents
+  front_written layout fill frames start done disk after pool held (inl same) r tells = ap (λ (t : Told). take (first_offset layout) t.contents) same ∙ (r.contents tells).log
+  front_written layout fill frames start done disk after pool held (inr wrote) r tells =
+      let cleanable = wrote.2 in
+      let one = (held wrote.0 wrote.1 cleanable.held).0 in
+      let touched = r.touched one.place wrote.1 one.is (ap (held_at pool) one.number ∙ cleanable.held) in
+      let torn = subst (λ (n : ℕ). Torn (writes.place_of 0 n) PAGE_SIZE disk.contents after.contents) (sym one.number) (wrote.3.others tells) in
+      (kept_torn layout fill done start.contents disk.contents after.contents one.place one.is touched torn (r.contents tells)).log
+
+  pub kept_written : (layout : DiskLayout) → PagesFillDisk layout → (frames : List LogFrame) (start : Told) (done : List LoggedChange) (disk after : Told) (pool : PoolState)
+      → ((t : ℕ) (c : List ℕ) → t ≤ disk.moment → IsTrue (disk.now c) → IsTrue (disk.since t c))
+      → HoldsDurablePages layout pool → MayWrite disk pool after → Redoing layout frames start done disk pool → IsKept layout start after
+  kept_written layout fill frames start done disk after pool counts held writes_ r = record {
+    moments = moments_written layout fill frames start done disk after pool counts held writes_ r;
+    front = λ tells. front_written layout fill frames start done disk after pool held writes_ r (r.moments.tells_contents ∙ tells);
+  }
 
 -- what is held once a page is clean: it, as a clean page, or what was held before
 cleaned_held : (pool mid : PoolState) (page : ℕ) (held : HeldPage) (number : ℕ) (x : HeldPage) → mid ≡ with_page pool page (record held { log = None }) → held_at mid number ≡ Some x

@@ -3,14 +3,12 @@ use Rattle.std.specs.Prelude.{◌≤◌, ℕ, IsTrue, Bool, List, [], ◌∷◌,
 use Rattle.block_model.specs.Causes.{Rose}
 use Rattle.store_layout.specs.DiskLayout.{DiskLayout}
 use Rattle.disk_trait.specs.Told.{Told}
-use Rattle.disk_trait.specs.Throughout.{Throughout}
 use Rattle.log_area.specs.Frames.{LogFrame}
 use Rattle.wal_record.specs.Changes.{LoggedChange}
 use Rattle.buffer_pool.specs.PoolState.{PoolState}
 use Rattle.recovery.specs.LoggedChanges.{AreLogged}
-use Rattle.recovery.specs.Reaches.{OpensAsBefore}
 use Rattle.recovery.specs.Damage.{HasFrameAmiss, IsAmiss}
-use Rattle.recovery.specs.Redoing.{AreMarked, Redoing}
+use Rattle.recovery.specs.Redoing.{AreMarked, IsKept, Redoing}
 use Rattle.recovery.specs.declared.redo_fault.RedoFault.{RedoFault}
 use Rattle.recovery.specs.declared.redo_fault.RedoFault.TheVariants as faults
 use Rattle.recovery.specs.declared.redo_fault.Stop.{Stop}
@@ -35,10 +33,10 @@ RedoesFrame layout frame disk pool marks after new marked =
     (before behind : List LogFrame) (start : Told) (done : List LoggedChange) → IsNextFrame layout before behind frame start done disk pool marks
     → AreRedone layout (before ++ frame ∷ behind) (before ++ frame ∷ []) start after new marked
 
--- of whatever log this frame is the next, each image at every moment since opens as one of the log's start did
+-- of whatever log this frame is the next, it is so since the log's start
 abbrev pub KeepsMomentsOfFrame : DiskLayout → LogFrame → Told → PoolState → List Bool → Told → Type 0
 KeepsMomentsOfFrame layout frame disk pool marks after =
-    (before behind : List LogFrame) (start : Told) (done : List LoggedChange) → IsNextFrame layout before behind frame start done disk pool marks → Throughout start after (OpensAsBefore start)
+    (before behind : List LogFrame) (start : Told) (done : List LoggedChange) → IsNextFrame layout before behind frame start done disk pool marks → IsKept layout start after
 
 -- of whatever log this frame is the next, it isn't of its form there
 abbrev pub IsAmissNext : DiskLayout → LogFrame → Told → PoolState → List Bool → Type 0
@@ -56,9 +54,9 @@ abbrev pub RedoesLog : DiskLayout → List LogFrame → Told → PoolState → L
 RedoesLog layout frames disk pool marks after new marked =
     (start : Told) → AreRedone layout frames [] start disk pool marks → AreRedone layout frames frames start after new marked
 
--- each image at every moment since opens as one of the log's start did
+-- it is so since the start of the whole log
 abbrev pub KeepsMomentsOfLog : DiskLayout → List LogFrame → Told → PoolState → List Bool → Told → Type 0
-KeepsMomentsOfLog layout frames disk pool marks after = (start : Told) → AreRedone layout frames [] start disk pool marks → Throughout start after (OpensAsBefore start)
+KeepsMomentsOfLog layout frames disk pool marks after = (start : Told) → AreRedone layout frames [] start disk pool marks → IsKept layout start after
 
 -- the fault of a frame whose gate is that byte
 abbrev pub fault_of : Stop → ℕ → RedoFault

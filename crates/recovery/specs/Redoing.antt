@@ -67,7 +67,11 @@ pub record AreMarked (layout : DiskLayout) (done : List LoggedChange) (marks : L
   pub marked : (place : Place) → IsPlace layout place → is_marked marks layout place ≡ true → 0 < length (changes_at place done)
   pub unmarked : (place : Place) → IsPlace layout place → is_marked marks layout place ≡ false → changes_at place done ≡ []
 
--- whatever of a log is redone, each image at every moment since opens as one of its start did
+-- At every moment since the start each image opens as one of the start did; and no byte of the control page and of the areas of the log was written to.
+pub record IsKept (layout : DiskLayout) (start after : Told) : Type 0 where
+  pub moments : Throughout start after (OpensAsBefore start)
+  pub front : IsTrue start.tells_contents → take (first_offset layout) after.contents ≡ take (first_offset layout) start.contents
+
+-- whatever of a log is redone, it is so since its start
 abbrev pub KeepsMoments : DiskLayout → Told → PoolState → Told → Type 0
-KeepsMoments layout disk pool after =
-    (frames : List LogFrame) (start : Told) (done : List LoggedChange) → Redoing layout frames start done disk pool → Throughout start after (OpensAsBefore start)
+KeepsMoments layout disk pool after = (frames : List LogFrame) (start : Told) (done : List LoggedChange) → Redoing layout frames start done disk pool → IsKept layout start after

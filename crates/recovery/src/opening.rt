@@ -9,7 +9,7 @@ ghost use Rattle.recovery.specs.ShownPages.{shown_pages};
 ghost use Rattle.recovery.specs.Begun.{IsBegun};
 ghost use Rattle.recovery.specs.Opened.{IsOpened};
 ghost use Rattle.recovery.specs.StartCauses.{StartCause};
-ghost use Rattle.recovery.specs.Untouched.{IsUntouched};
+ghost use Rattle.recovery.specs.Untouched.{HasFrontOf, IsUntouched, KeepsFront};
 
 use crate::beginning::{Begun, begin};
 use crate::fault::StartFault;
@@ -47,7 +47,10 @@ pub fn open<D: Disk>(alloc: Global, disk: &mut D) -> Result<Opened, StartFault>
     ensures cause { StartCause (D.told disk.old) (D.told disk.new) result }
     // Where no store is there, nothing is written.
     ensures untouched { IfErr result (λ fault. fault ≡ StartFault.NoStore → IsUntouched (D.told disk.old) (D.told disk.new)) }
+    // Whatever is answered, only pages are written back.
+    ensures front { KeepsFront (D.told disk.old) (D.told disk.new) }
 {
+    one_layout();
     let Ok(()) = disk.sync() else {
         return Err(StartFault::Disk);
     };
@@ -65,6 +68,7 @@ fn open_synced<D: Disk>(alloc: Global, disk: &mut D) -> Result<Opened, StartFaul
     ensures any_moment { Throughout (D.told disk.old) (D.told disk.new) (OpensAsBefore (D.told disk.old)) }
     ensures cause { StartCause (D.told disk.old) (D.told disk.new) result }
     ensures untouched { IfErr result (λ fault. fault ≡ StartFault.NoStore → IsUntouched (D.told disk.old) (D.told disk.new)) }
+    ensures front { IsTrue (D.told disk.old).tells_contents → HasFrontOf (D.told disk.old).contents (D.told disk.new).contents }
 {
     match begin(alloc, disk) {
         Ok(begun) => match finish(alloc, disk, begun) {
@@ -84,6 +88,7 @@ fn finish<D: Disk>(alloc: Global, disk: &mut D, begun: Begun) -> Result<Opened, 
     ensures any_moment { Throughout (D.told disk.old) (D.told disk.new) (OpensAsBefore (D.told disk.old)) }
     ensures cause { StartCause (D.told disk.old) (D.told disk.new) result }
     ensures store { IfErr result (λ fault. fault ≡ StartFault.NoStore → ⊥) }
+    ensures front { IsTrue (D.told disk.old).tells_contents → HasFrontOf (D.told disk.old).contents (D.told disk.new).contents }
 {
     one_layout();
     redo_forgets_a_page_begun_anew();

@@ -1,11 +1,11 @@
 //! The store of sessions.
 
-ghost use Rattle.std.specs.Prelude.{◌≡◌, ◌≤◌, ◌<◌, [], length, slice_index_or, None, Err, IfOk, IfErr, IfSome, IsTrue, MatchResult, OnOk, OnErr, IsSome};
+ghost use Rattle.std.specs.Prelude.{◌≡◌, ◌≤◌, ◌<◌, ℕ, [], length, slice_index_or, None, Err, IfOk, IfErr, IfSome, IsTrue, MatchResult, OnOk, OnErr, IsSome};
 ghost use Rattle.std.specs.Option.{is_some};
 ghost use Rattle.store_layout.specs.StatementFits.{IsStatementFor};
 ghost use Rattle.recovery.specs.Opens.{OpensAs};
 ghost use Rattle.recovery.specs.StartCauses.{HasStore};
-ghost use Rattle.recovery.specs.Untouched.{IsUntouched};
+ghost use Rattle.recovery.specs.Untouched.{IsUntouched, KeepsFront};
 ghost use Rattle.page_store.specs.Refused.{IsRefused};
 ghost use Rattle.page_map.specs.Keeps.{Leaves, Tells};
 ghost use Rattle.session_starts.specs.FreshPages.{fresh_pages};
@@ -85,6 +85,8 @@ impl<D: Disk + Drop> Store<D> {
         ensures any_moment { MatchResult result (λ store. ImagesStay (D.told disk) (D.told store.pages.disk)) (λ e. ImagesStay (D.told disk) (D.told e.1)) }
         // Where no store is there, nothing was written.
         ensures untouched { IfErr result (λ e. e.0 ≡ StartFault.NoStore → IsUntouched (D.told disk) (D.told e.1)) }
+        // Of a damaged store only pages were written back.
+        ensures front { IfErr result (λ e. (at : ℕ) → e.0 ≡ StartFault.Damaged at → IsTrue (D.told disk).tells_contents → KeepsFront (D.told disk) (D.told e.1)) }
         ensures refused { IfErr result (λ e. IsRefused (D.told disk) (D.told e.1) e.0) }
     {
         let parts = start_parts(alloc, disk)?;

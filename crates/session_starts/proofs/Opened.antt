@@ -21,6 +21,7 @@ use Rattle.page_map.specs.Keeps.{Keeps, Tells}
 use Rattle.page_map.specs.PageMap.{PageMap, View}
 use Rattle.store_layout.specs.DiskLayout.{DiskLayout}
 use Rattle.recovery.specs.declared.fault.StartFault.{StartFault}
+use Rattle.recovery.specs.declared.fault.StartFault.TheVariants as starts
 use Rattle.recovery.specs.Held.{held_before}
 use Rattle.recovery.specs.Opens.{Opens, OpensAs}
 use Rattle.recovery.specs.Reaches.{OpensAsBefore, ReachesAny}
@@ -90,6 +91,14 @@ module _ {D : Type 0} (told : D → Told) (old : Told) (mid new : View D) (same 
   refused_so (faults.Store errors.Disk) outcome = (omega (arith, rose, later), rose_earlier old.faults (told mid.disk).faults (told new.disk).faults rose outcome.1)
   refused_so (faults.Store (errors.Damaged at)) outcome = (λ tells. absurd (outcome.3 (same ∙ tells)), omega (arith, rose, outcome.2))
   refused_so (faults.Store (errors.Reopen count)) outcome = absurd (none-some count (sym ready ∙ outcome.0))
+
+  -- the pages of statuses of a disk that tells its contents aren't damaged
+  pub undamaged : (fault : MachineFault) (at : ℕ) → IsRefused told mid new fault → start_fault fault ≡ starts.Damaged at → IsTrue old.tells_contents → ⊥
+  undamaged faults.Memory at outcome is tells = cc
+  undamaged (faults.Full relation number) at outcome is tells = outcome
+  undamaged (faults.Store errors.Disk) at outcome is tells = cc
+  undamaged (faults.Store (errors.Damaged byte)) at outcome is tells = outcome.3 (same ∙ tells)
+  undamaged (faults.Store (errors.Reopen count)) at outcome is tells = absurd (none-some count (sym ready ∙ outcome.0))
 
   pub start_refused : (fault : MachineFault) (told_so : StartFault) (disk : D) → IsRefused told mid new fault → told_so ≡ start_fault fault → disk ≡ new.disk → StartRefused old (told disk) told_so
   start_refused fault told_so disk outcome is back =

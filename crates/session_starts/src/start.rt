@@ -5,7 +5,7 @@ ghost use Rattle.store_layout.specs.declared.limits.TheConstants.{MAX_SESSIONS};
 ghost use Rattle.page_map.specs.Keeps.{Tells};
 ghost use Rattle.recovery.specs.Opens.{OpensAs};
 ghost use Rattle.recovery.specs.StartCauses.{HasStore};
-ghost use Rattle.recovery.specs.Untouched.{IsUntouched};
+ghost use Rattle.recovery.specs.Untouched.{IsUntouched, KeepsFront};
 ghost use Rattle.page_store.specs.Refused.{IsRefused};
 ghost use Rattle.session_starts.specs.FreshPages.{fresh_pages};
 ghost use Rattle.session_parts.specs.HandFits.{FitsStore};
@@ -40,6 +40,8 @@ pub fn start_parts<D: Disk + Drop>(alloc: Global, disk: D) -> Result<Parts<D>, (
     ensures any_moment { MatchResult result (λ parts. ImagesStay (D.told disk) (D.told parts.pages.disk)) (λ e. ImagesStay (D.told disk) (D.told e.1)) }
     // Where no store is there, nothing was written.
     ensures untouched { IfErr result (λ e. e.0 ≡ StartFault.NoStore → IsUntouched (D.told disk) (D.told e.1)) }
+    // Of a damaged store only pages were written back.
+    ensures front { IfErr result (λ e. (at : ℕ) → e.0 ≡ StartFault.Damaged at → IsTrue (D.told disk).tells_contents → KeepsFront (D.told disk) (D.told e.1)) }
     ensures refused { IfErr result (λ e. IsRefused (D.told disk) (D.told e.1) e.0) }
 {
     one_layout();

@@ -18,7 +18,7 @@ pub returns-in-Err-clause-done : goal.returns-in-Err-clause-done
 returns-in-Err-clause-done g c =
     answered_done g.D.Disk.told (g.D.Disk.told c.args.disk) _ _ _ _ c.refused.ensures.status c.refused.ensures.disk
     (refused_done c.one_layout.ensures c.a_stored_table_is_not_damaged.ensures (g.D.Disk.told c.args.disk) (g.D.Disk.told c.in-Err.refusal.1) _ _ c.in-Err.ensures.any_moment c.in-Err.refusal.0 _ _
-    c.in-Err.ensures.untouched c.in-Err.ensures.refused)
+    c.in-Err.ensures.untouched c.in-Err.ensures.front c.in-Err.ensures.refused)
 
 pub returns-in-Err-clause-fresh : goal.returns-in-Err-clause-fresh
 returns-in-Err-clause-fresh g c =

@@ -43,7 +43,7 @@ returns-in-Ok-clause-redone g c = λ frames start done r marked first.
     let begun : (IsAnew change) ⊎ (0 < length (changes_at place done)) =
     ⊎_elim (λ (on : get_or c.args.marks.now c.number_of-at.result false ≡ true). inr (marked.marked place is (ap (λ (n : ℕ). get_or c.args.marks.now n false) (sym number) ∙ on))) (λ (anew : IsAnew change). inl anew) (c.if-not-may_stand.ensures.may refl) in (
       change_made c.redo_forgets_a_page_begun_anew.ensures c.redo_goes_on.ensures c.redo_is_a_function.ensures layout fill frames start done old (g.D.Disk.told c.redo_page.new.disk) c.args.pool.now c.redo_page.new.pool place change
-          is own c.requires.ready.held size (c.in-Ok.ensures.any_moment frames start done r) begun c.in-Ok.ensures.redone first r,
+          is own c.requires.ready.held size (c.in-Ok.ensures.any_moment frames start done r).moments begun c.in-Ok.ensures.redone first r,
       subst (λ (n : ℕ). AreMarked layout (done ++ change ∷ []) (set c.args.marks.now n true)) (sym number)
           (marked_more layout fill done c.args.marks.now place change is own (omega (arith, number, c.number_of-at.ensures.within, c.requires.marks)) marked),
     )

@@ -5,6 +5,7 @@ use Rattle.recovery.specs.RedoesFrame.{AreRedone, LogCause}
 use Rattle.recovery.specs.declared.redo_fault.RedoFault.{RedoFault}
 use Rattle.recovery.proofs.Answering.{log_cause}
 use Rattle.recovery.proofs.Logs.{frame_amiss, frames_moments, frames_more, length-row_next, length-row_take}
+use Rattle.recovery.proofs.Steps.{redoing_kept}
 use Rattle.recovery.proofs.frames.redo.Goals as goal
 
 pub frames-init : goal.frames-init
@@ -54,4 +55,6 @@ frames-preserved g c =
     }
 
 pub returns-clause-any_moment : goal.returns-clause-any_moment
-returns-clause-any_moment g c = λ start r. (c.frames.invariant.redone start r).redoing.moments
+returns-clause-any_moment g c = λ start r.
+    let done = c.frames.invariant.redone start r in
+    redoing_kept c.args.layout.now c.args.frames.now start done.done (g.D.Disk.told c.frames.disk) c.frames.pool done.redoing

@@ -10,7 +10,7 @@ use Rattle.recovery.specs.Opens.{OpensAs}
 use Rattle.recovery.specs.Reaches.{OpensAsBefore}
 use Rattle.recovery.specs.ShownPages.{shown_pages}
 use Rattle.recovery.specs.PooledPages.{HoldsDurablePages}
-use Rattle.recovery.proofs.Steps.{moments_read}
+use Rattle.recovery.proofs.Steps.{kept_read, moments_read}
 use Rattle.recovery.specs.Begun.{IsBegun}
 use Rattle.recovery.specs.declared.beginning.Begun.{Begun}
 use Rattle.recovery.specs.declared.opening.Opened.{Opened}
@@ -18,6 +18,7 @@ use Rattle.recovery.specs.Opened.{IsOpened}
 use Rattle.recovery.specs.StartCauses.{HasStore}
 use Rattle.recovery.proofs.Begins.{holds_none}
 use Rattle.recovery.proofs.Finishing.{judge_cause, judge_some, none_redone, opened_at, opened_read, opens_at, redo_cause, redo_some}
+use Rattle.recovery.proofs.Joining.{front_of}
 use Rattle.recovery.proofs.opening.finish.Goals as goal
 
 -- the disk at the start has a store of the layout
@@ -37,8 +38,15 @@ redo_log-requires-clause-ready g c = record {
 pub returns-in-Err-clause-any_moment : goal.returns-in-Err-clause-any_moment
 returns-in-Err-clause-any_moment g c =
     let old = g.D.Disk.told c.args.disk.now in
-    c.redo_log.ensures.any_moment old
-    (none_redone c.args.begun old c.requires.begun c.requires.stable (λ image now. g.met.D.Disk.images_need_contents c.args.disk.now image now) (λ image since. g.met.D.Disk.since_now_is_now c.args.disk.now image since))
+    (c.redo_log.ensures.any_moment old
+    (none_redone c.args.begun old c.requires.begun c.requires.stable (λ image now. g.met.D.Disk.images_need_contents c.args.disk.now image now) (λ image since. g.met.D.Disk.since_now_is_now c.args.disk.now image since))).moments
+
+pub returns-in-Err-clause-front : goal.returns-in-Err-clause-front
+returns-in-Err-clause-front g c = λ tells.
+    let old = g.D.Disk.told c.args.disk.now in
+    front_of c.one_layout.ensures c.args.begun.layout old.contents (g.D.Disk.told c.redo_log.new.disk).contents (c.requires.begun.control tells)
+    ((c.redo_log.ensures.any_moment old
+    (none_redone c.args.begun old c.requires.begun c.requires.stable (λ image now. g.met.D.Disk.images_need_contents c.args.disk.now image now) (λ image since. g.met.D.Disk.since_now_is_now c.args.disk.now image since))).front tells)
 
 pub returns-in-Err-clause-cause : goal.returns-in-Err-clause-cause
 returns-in-Err-clause-cause g c =
@@ -47,12 +55,20 @@ returns-in-Err-clause-cause g c =
     (none_redone c.args.begun old c.requires.begun c.requires.stable (λ image now. g.met.D.Disk.images_need_contents c.args.disk.now image now) (λ image since. g.met.D.Disk.since_now_is_now c.args.disk.now image since))
     (has_store c.args.begun old c.requires.begun) (holds_frames c.args.begun old c.requires.begun) c.requires.begun.begins c.in-Err.ensures.cause
 
+pub returns-in-Err-judge-clause-front : goal.returns-in-Err-judge-clause-front
+returns-in-Err-judge-clause-front g c = λ tells.
+    let old = g.D.Disk.told c.args.disk.now in
+    front_of c.one_layout.ensures c.args.begun.layout old.contents (g.D.Disk.told c.judge.new.disk).contents (c.requires.begun.control tells)
+    ((kept_read c.args.begun.layout old (g.D.Disk.told c.redo_log.new.disk) (g.D.Disk.told c.judge.new.disk) c.judge.ensures.same
+    (c.redo_log.ensures.any_moment old
+    (none_redone c.args.begun old c.requires.begun c.requires.stable (λ image now. g.met.D.Disk.images_need_contents c.args.disk.now image now) (λ image since. g.met.D.Disk.since_now_is_now c.args.disk.now image since)))).front tells)
+
 pub returns-in-Err-judge-clause-any_moment : goal.returns-in-Err-judge-clause-any_moment
 returns-in-Err-judge-clause-any_moment g c =
     let old = g.D.Disk.told c.args.disk.now in
     moments_read old (g.D.Disk.told c.redo_log.new.disk) (g.D.Disk.told c.judge.new.disk) (OpensAsBefore old) c.judge.ensures.same
     (c.redo_log.ensures.any_moment old
-    (none_redone c.args.begun old c.requires.begun c.requires.stable (λ image now. g.met.D.Disk.images_need_contents c.args.disk.now image now) (λ image since. g.met.D.Disk.since_now_is_now c.args.disk.now image since)))
+    (none_redone c.args.begun old c.requires.begun c.requires.stable (λ image now. g.met.D.Disk.images_need_contents c.args.disk.now image now) (λ image since. g.met.D.Disk.since_now_is_now c.args.disk.now image since))).moments
 
 pub returns-in-Err-judge-clause-cause : goal.returns-in-Err-judge-clause-cause
 returns-in-Err-judge-clause-cause g c =
@@ -88,12 +104,20 @@ returns-clause-pages g c = λ tells.
     subst (λ (pool : PoolState). OpensAs c.args.begun.layout old.contents (shown_pages c.args.begun.layout pool (g.D.Disk.told c.judge.new.disk).contents)) (sym c.in-Ok-judge.ensures.pool)
     (subst (λ (t : Told). OpensAs c.args.begun.layout old.contents (shown_pages c.args.begun.layout c.redo_log.new.pool t.contents)) (sym c.in-Ok-judge.ensures.same) opens)
 
+pub returns-clause-front : goal.returns-clause-front
+returns-clause-front g c = λ tells.
+    let old = g.D.Disk.told c.args.disk.now in
+    front_of c.one_layout.ensures c.args.begun.layout old.contents (g.D.Disk.told c.judge.new.disk).contents (c.requires.begun.control tells)
+    ((kept_read c.args.begun.layout old (g.D.Disk.told c.redo_log.new.disk) (g.D.Disk.told c.judge.new.disk) c.judge.ensures.same
+    (c.redo_log.ensures.any_moment old
+    (none_redone c.args.begun old c.requires.begun c.requires.stable (λ image now. g.met.D.Disk.images_need_contents c.args.disk.now image now) (λ image since. g.met.D.Disk.since_now_is_now c.args.disk.now image since)))).front tells)
+
 pub returns-clause-any_moment : goal.returns-clause-any_moment
 returns-clause-any_moment g c =
     let old = g.D.Disk.told c.args.disk.now in
     moments_read old (g.D.Disk.told c.redo_log.new.disk) (g.D.Disk.told c.judge.new.disk) (OpensAsBefore old) c.judge.ensures.same
     (c.redo_log.ensures.any_moment old
-    (none_redone c.args.begun old c.requires.begun c.requires.stable (λ image now. g.met.D.Disk.images_need_contents c.args.disk.now image now) (λ image since. g.met.D.Disk.since_now_is_now c.args.disk.now image since)))
+    (none_redone c.args.begun old c.requires.begun c.requires.stable (λ image now. g.met.D.Disk.images_need_contents c.args.disk.now image now) (λ image since. g.met.D.Disk.since_now_is_now c.args.disk.now image since))).moments
 
 pub returns-in-Err-clause-store : goal.returns-in-Err-clause-store
 returns-in-Err-clause-store g c =

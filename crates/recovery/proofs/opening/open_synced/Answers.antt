@@ -5,7 +5,7 @@ use Rattle.disk_trait.specs.Told.{Told}
 use Rattle.recovery.specs.declared.opening.Opened.{Opened}
 use Rattle.recovery.proofs.Ends.{after_before}
 use Rattle.recovery.proofs.Finishing.{cause_before}
-use Rattle.recovery.proofs.Joining.{moments_reads, untouched_read}
+use Rattle.recovery.proofs.Joining.{front_behind, front_still, moments_reads, untouched_read}
 use Rattle.recovery.proofs.opening.open_synced.Goals as goal
 
 pub finish-requires-clause-stable : goal.finish-requires-clause-stable
@@ -38,3 +38,16 @@ returns-in-Err-finish-clause-untouched g c = λ is. absurd (c.in-Err-finish.ensu
 pub returns-in-Err-clause-untouched : goal.returns-in-Err-clause-untouched
 returns-in-Err-clause-untouched g c = λ is.
     untouched_read (g.D.Disk.told c.args.disk.now) (g.D.Disk.told c.begin.new.disk) (λ image since. g.met.D.Disk.since_now_is_now c.args.disk.now image since) c.begin.ensures.same
+
+pub returns-in-Ok-finish-clause-front : goal.returns-in-Ok-finish-clause-front
+returns-in-Ok-finish-clause-front g c =
+    let same = c.begin.ensures.same in
+    front_behind (g.D.Disk.told c.args.disk.now) (g.D.Disk.told c.begin.new.disk) (g.D.Disk.told c.finish.new.disk) (ap (λ (t : Told). t.contents) same) (ap (λ (t : Told). t.tells_contents) same) c.finish.ensures.front
+
+pub returns-in-Err-finish-clause-front : goal.returns-in-Err-finish-clause-front
+returns-in-Err-finish-clause-front g c =
+    let same = c.begin.ensures.same in
+    front_behind (g.D.Disk.told c.args.disk.now) (g.D.Disk.told c.begin.new.disk) (g.D.Disk.told c.finish.new.disk) (ap (λ (t : Told). t.contents) same) (ap (λ (t : Told). t.tells_contents) same) c.finish.ensures.front
+
+pub returns-in-Err-clause-front : goal.returns-in-Err-clause-front
+returns-in-Err-clause-front g c = λ _. front_still (g.D.Disk.told c.args.disk.now) (g.D.Disk.told c.begin.new.disk) (ap (λ (t : Told). t.contents) c.begin.ensures.same)

@@ -5,7 +5,7 @@ use Rattle.page_layout.specs.PageContents.{IsPageOf}
 use Rattle.recovery.specs.Holds.{Holds}
 use Rattle.recovery.proofs.Places.{durable_pages, lie_on_disk}
 use Rattle.recovery.proofs.Pooling.{pages_held, size_written}
-use Rattle.recovery.proofs.Steps.{moments_written, redoing_read}
+use Rattle.recovery.proofs.Steps.{kept_written, redoing_read}
 use Rattle.recovery.proofs.page.redo_absent.Goals as goal
 
 pub hold-requires-clause-within : goal.hold-requires-clause-within
@@ -35,7 +35,7 @@ returns-in-Ok-hold-clause-any_moment g c = λ frames start done r.
     let layout = c.args.layout.now in
     let old = g.D.Disk.told c.args.disk.now in
     let mid = g.D.Disk.told c.page_before.new.disk in
-    moments_written c.one_layout.ensures c.an_area_opens_in_one_way.ensures c.redo_forgets_a_page_begun_anew.ensures layout c.pages_fill_the_disk.ensures frames start done mid (g.D.Disk.told c.hold.new.disk) c.args.pool.now
+    kept_written c.one_layout.ensures c.an_area_opens_in_one_way.ensures c.redo_forgets_a_page_begun_anew.ensures layout c.pages_fill_the_disk.ensures frames start done mid (g.D.Disk.told c.hold.new.disk) c.args.pool.now
     (λ t image le now. g.met.D.Disk.now_is_since c.page_before.new.disk t image le now) c.requires.ready.held c.hold.ensures.writes (redoing_read layout frames start done old mid c.args.pool.now c.page_before.ensures.same r)
 
 pub returns-in-Err-clause-any_moment : goal.returns-in-Err-clause-any_moment
@@ -43,5 +43,5 @@ returns-in-Err-clause-any_moment g c = λ frames start done r.
     let layout = c.args.layout.now in
     let old = g.D.Disk.told c.args.disk.now in
     let mid = g.D.Disk.told c.page_before.new.disk in
-    moments_written c.one_layout.ensures c.an_area_opens_in_one_way.ensures c.redo_forgets_a_page_begun_anew.ensures layout c.pages_fill_the_disk.ensures frames start done mid (g.D.Disk.told c.hold.new.disk) c.args.pool.now
+    kept_written c.one_layout.ensures c.an_area_opens_in_one_way.ensures c.redo_forgets_a_page_begun_anew.ensures layout c.pages_fill_the_disk.ensures frames start done mid (g.D.Disk.told c.hold.new.disk) c.args.pool.now
     (λ t image le now. g.met.D.Disk.now_is_since c.page_before.new.disk t image le now) c.requires.ready.held c.hold.ensures.writes (redoing_read layout frames start done old mid c.args.pool.now c.page_before.ensures.same r)

@@ -1,14 +1,17 @@
-use Rattle.std.proofs.Common.{◌∙◌, [], MatchResult, Result, sym, ap, subst, arith}
+use Rattle.std.proofs.Common.{◌≡◌, ◌∙◌, ℕ, [], MatchResult, Result, sym, ap, subst, arith}
+use Rattle.std.specs.Prelude.{IfErr, IsTrue}
 use Rattle.std.proofs.lemmas.Result.{err_from_is_err_and}
 use Rattle.session_starts.specs.FreshPages.{fresh_pages}
 use Rattle.store_layout.specs.DiskLayout.{DiskLayout}
 use Rattle.recovery.specs.declared.fault.StartFault.{StartFault}
+use Rattle.recovery.specs.declared.fault.StartFault.TheVariants as starts
+use Rattle.recovery.specs.Untouched.{KeepsFront}
 use Rattle.session_starts.specs.ImageLaws.{ImageIsShown}
 use Rattle.session_parts.specs.declared.parts.Parts.{Parts}
 use Rattle.session_parts.specs.StoreStates.{store_of}
 use Rattle.session_starts.specs.OpenedParts.{ShowsStart}
 use Rattle.session_starts.specs.Started.{ImagesStay}
-use Rattle.session_starts.proofs.Opened.{OneMap, opens_table, start_and_calls, start_refused, start_stays}
+use Rattle.session_starts.proofs.Opened.{OneMap, opens_table, start_and_calls, start_refused, start_stays, undamaged}
 use Rattle.session_starts.proofs.start.start_parts.Goals as goal
 
 pub returns-in_err-pages-clause-any_moment : goal.returns-in_err-pages-clause-any_moment
@@ -57,3 +60,17 @@ returns-in-Err-clause-refused g c =
     let told = g.D.Disk.told in
     start_refused told (told c.args.disk) c.in_ok-pages.pages c.in-Err.pages c.in_ok-pages.ensures.any_moment.tells_contents c.in_ok-pages.ensures.faults c.in-Err.ensures.kept.leaves.faults c.in_ok-pages.ensures.fresh c.in-Err.fault c.start_fault.result c.into_disk.result
     c.in-Err.ensures.outcome c.start_fault.ensures c.into_disk.ensures
+
+pub returns-in_err-pages-clause-front : goal.returns-in_err-pages-clause-front
+returns-in_err-pages-clause-front g c =
+    let told = g.D.Disk.told in
+    let old = told c.args.disk in
+    let p = err_from_is_err_and c.from_residual.result c.from_residual.ensures.1 in
+    subst (λ (r : Result (Parts _) (StartFault × _)). IfErr r (λ e. (at : ℕ) → e.0 ≡ starts.Damaged at → IsTrue old.tells_contents → KeepsFront old (told e.1))) (sym p.1)
+    (subst (λ (e : StartFault × _). (at : ℕ) → e.0 ≡ starts.Damaged at → IsTrue old.tells_contents → KeepsFront old (told e.1)) (sym p.2) (λ at is tells. c.in_err-pages.ensures.front))
+
+pub returns-in-Err-clause-front : goal.returns-in-Err-clause-front
+returns-in-Err-clause-front g c = λ at is tells.
+    let told = g.D.Disk.told in
+    absurd (undamaged told (told c.args.disk) c.in_ok-pages.pages c.in-Err.pages c.in_ok-pages.ensures.any_moment.tells_contents c.in_ok-pages.ensures.faults c.in-Err.ensures.kept.leaves.faults c.in_ok-pages.ensures.fresh c.in-Err.fault at
+    c.in-Err.ensures.outcome (sym c.start_fault.ensures ∙ is) tells)

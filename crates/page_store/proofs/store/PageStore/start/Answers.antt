@@ -7,6 +7,7 @@ use Rattle.page_map.specs.PageMap.{View}
 use Rattle.recovery.specs.Opens.{OpensAs}
 use Rattle.recovery.specs.PageOrder.{AreInOrder}
 use Rattle.recovery.specs.Reaches.{OpensAsBefore}
+use Rattle.recovery.specs.Untouched.{KeepsFront}
 use Rattle.wal_record.specs.Waiting.{Waiting}
 use Rattle.recovery.specs.StartCauses.{HasStore}
 use Rattle.recovery.specs.declared.opening.Opened.{Opened}
@@ -64,3 +65,8 @@ pub returns-clause-any_moment : goal.returns-clause-any_moment
 returns-clause-any_moment g c =
     let old = g.D.Disk.told c.args.disk in
     subst (λ (v : View g.row.D.Denot). Throughout old (g.D.Disk.told v.disk) (OpensAsBefore old)) (sym (c.of_parts.ensures ∙ ap (store_of g.D.Disk.told) c.of_parts-pages.ensures)) c.open.ensures.any_moment
+
+pub returns-clause-front : goal.returns-clause-front
+returns-clause-front g c =
+    let old = g.D.Disk.told c.args.disk in
+    subst (λ (v : View g.row.D.Denot). KeepsFront old (g.D.Disk.told v.disk)) (sym (c.of_parts.ensures ∙ ap (store_of g.D.Disk.told) c.of_parts-pages.ensures)) c.open.ensures.front
