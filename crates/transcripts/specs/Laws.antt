@@ -25,7 +25,7 @@ NextIsSaid = (script : List Line) (said : List Said) (n number : ℕ) (statement
 
 -- no session has more entries than lines
 abbrev pub NoneSaidTwice : Type 0
-NoneSaidTwice = (limits : Limits) (script : List Line) (opening s : DatabaseState) (said : List Said) (n : ℕ) → IsTranscript limits script opening said s
+NoneSaidTwice = (limits : Limits) (names : List (List ℕ)) (script : List Line) (opening s : DatabaseState) (said : List Said) (n : ℕ) → IsTranscript limits names script opening said s
     → length (entries_of n said) ≤ length (lines_of n script)
 
 -- ---- what one entry tells
