@@ -1,3 +1,4 @@
 pub mod Crash
 pub mod Leading
+pub mod OneStep
 pub mod Stepping

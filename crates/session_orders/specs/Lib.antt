@@ -1,3 +1,4 @@
 pub mod CrashRule
 pub mod Leading
+pub mod OneStep
 pub mod Orders

@@ -6,6 +6,7 @@ ghost use Rattle.session_core.specs.Sessions.{NamesASession};
 ghost use Rattle.query_words.specs.LineFits.{IsOrderFor};
 ghost use Rattle.store_layout.specs.StatementFits.{IsStatementFor};
 ghost use Rattle.session_orders.specs.Leading.{LeavesUnmade, PlacesLead, PlacesStop};
+ghost use Rattle.session_orders.specs.OneStep.{IsOfStep, LeavesHands, LeavesTables, TellsRoom};
 ghost use Rattle.session_orders.specs.Orders.{IsCutShort, DoesSo, FinishesSo, IsHalted, IsInHandStill, IsNotMade, StepsSo, fault_of_step, step_answer};
 
 use block_model::Refusal;
@@ -127,6 +128,10 @@ pub fn step<D: Disk + Drop>(store: &mut Store<D>, session: u32) -> Result<Answer
     ensures stops { IfErr result (λ fault. PlacesStop D.told store.old store.new session fault (IsNotMade session fault)) }
     // So damage that the store finds is told as damage.
     ensures unmade { IfErr result (LeavesUnmade D.told store.old store.new) }
+    ensures made { IfOk result IsOfStep }
+    ensures hands { LeavesHands store.old store.new session result }
+    ensures room { IfErr result (TellsRoom store.new session) }
+    ensures tables { LeavesTables D.told store.old store.new session }
 {
     a_shown_store_is_an_image();
     a_commit_makes_its_table();
