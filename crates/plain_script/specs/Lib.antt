@@ -1,0 +1,9 @@
+pub mod PlainLines
+pub mod PlainLineLaws
+pub mod PlainScripts
+pub mod SessionLines
+pub mod HeldScripts
+pub mod KeptLines
+pub mod Gathering
+pub mod ReadingFaults
+pub mod ScriptReads
