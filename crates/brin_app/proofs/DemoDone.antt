@@ -29,7 +29,7 @@ use Rattle.session_core.specs.OpenedParts.{ShowsStart}
 use Rattle.session_core.specs.Started.{ImagesStay, OpensTable}
 use Rattle.brin_app.specs.declared.top.Task.TheVariants.{Demo}
 use Rattle.brin_app.specs.Asking.{IsLineAnswered}
-use Rattle.brin_app.specs.CrashRule.{Stand}
+use Rattle.session_orders.specs.CrashRule.{Stand}
 use Rattle.brin_app.specs.DemoOutput.{AnswersOver, DemoFillsJournal, DemoWrites, IsCutOff, IsDemoOutput, IsDemoRun, IsFreshDemo, IsLeftOff}
 use Rattle.brin_app.specs.DemoSums.{SumsFresh}
 use Rattle.brin_app.specs.ScriptOutput.{EachImageHas, HoldsFresh, IsOldOrEmpty, exit_status}

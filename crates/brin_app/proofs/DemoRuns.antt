@@ -20,14 +20,14 @@ use Rattle.session_parts.specs.ShowsPlace.{ShowsPlace}
 use Rattle.session_parts.specs.StoreStates.{StoreState}
 use Rattle.brin_app.specs.declared.sessions.Sessions.{Sessions}
 use Rattle.brin_app.specs.Asking.{AsksLine, IsLineAnswered}
-use Rattle.brin_app.specs.CrashRule.{Stand}
+use Rattle.session_orders.specs.CrashRule.{Stand}
 use Rattle.brin_app.specs.DemoOutput.{AnswersOver, DemoWrites, IsCutOff, IsDemoRun, IsPlayed, summary_at}
 use Rattle.brin_app.specs.DemoSums.{HasSummed, IsCounted}
-use Rattle.brin_app.specs.Leading.{HasStopCause}
+use Rattle.session_orders.specs.Leading.{HasStopCause}
 use Rattle.brin_app.specs.ScriptOutput.{StopsOver, exit_status}
 use Rattle.brin_app.specs.SessionPlaces.{StopsLine}
 use Rattle.brin_app.specs.Simulations.{EndsAs}
-use Rattle.brin_app.proofs.Leading.{cause_after, leaves_as_is, leaves_on}
+use Rattle.session_orders.proofs.Leading.{cause_after, leaves_as_is, leaves_on}
 use Rattle.brin_app.proofs.Running.{EndsFrom, ShowsFrom, Stays, begun, ends_with, led_from, start, stopped_from, unbegun_at}
 
 -- ---- from the first place on

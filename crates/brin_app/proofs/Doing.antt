@@ -33,12 +33,12 @@ use Rattle.session_core.specs.OpenedParts.{ShowsStart}
 use Rattle.session_core.specs.Started.{HoldsImage, ImagesStay, OpensTable}
 use Rattle.brin_app.specs.declared.top.Task.{Task}
 use Rattle.brin_app.specs.declared.top.Task.TheVariants.{Demo, Init, Run, RunStored}
-use Rattle.brin_app.specs.CrashRule.{Stand}
+use Rattle.session_orders.specs.CrashRule.{Stand}
 use Rattle.brin_app.specs.ScriptOutput.{EachImageHas, HoldsFresh, HoldsTable, IsFreshOutput, IsIdle, IsMade, IsOldOrEmpty, IsOpenedAt, IsScriptRun, IsUnopened, StartsOver}
 use Rattle.brin_app.specs.StatusCauses.{HasSpentCauses, IsCompleteOf, IsDoneSo, IsRefusedSo, IsSpentOf}
 use Rattle.brin_app.specs.Statuses.{IsFit, IsStatus, IsUnfit, start_status}
 use Rattle.brin_app.specs.TaskOutputs.{IsOutputOf}
-use Rattle.brin_app.proofs.Crash.{image_as}
+use Rattle.session_orders.proofs.Crash.{image_as}
 use Rattle.brin_app.proofs.Known.{is_0, is_6, is_9, same_status, start_known}
 use Rattle.brin_app.proofs.Outputs.{idle_spent, run_complete, run_spent}
 

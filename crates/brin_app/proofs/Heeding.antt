@@ -22,10 +22,10 @@ use Rattle.session_core.specs.declared.faults.SessionFault.TheVariants as sessio
 use Rattle.session_core.specs.Sessions.{HasSession}
 use Rattle.session_parts.specs.StoreStates.{StoreState}
 use Rattle.brin_app.specs.Asking.{IsAnswered, IsLineAnswered}
-use Rattle.brin_app.specs.Leading.{PlacesLead, PlacesStop}
-use Rattle.brin_app.specs.Orders.{DoesSo, IsCutShort, IsStoppedSaying, answer_text}
-use Rattle.brin_app.proofs.Crash.{OnlyNow}
-use Rattle.brin_app.proofs.Leading.{led_further, led_still, stops_further}
+use Rattle.session_orders.specs.Leading.{PlacesLead, PlacesStop}
+use Rattle.session_orders.specs.Orders.{DoesSo, IsCutShort, IsStoppedSaying, answer_text}
+use Rattle.session_orders.proofs.Crash.{OnlyNow}
+use Rattle.session_orders.proofs.Leading.{led_further, led_still, stops_further}
 use Rattle.brin_app.proofs.Saying.{cut_order, fault_said, said_order, said_past}
 
 -- nothing is said

@@ -20,7 +20,7 @@ use Rattle.session_core.specs.StopRule.{IsImageWith}
 use Rattle.session_core.specs.StoreImage.{IsStoreImage, database_with}
 use Rattle.brin_app.specs.declared.top.Task.{Task}
 use Rattle.brin_app.specs.declared.top.Task.TheVariants.{Demo, Init, Run, RunStored}
-use Rattle.brin_app.specs.CrashRule.{HasTableOf, IsFurther}
+use Rattle.session_orders.specs.CrashRule.{HasTableOf, IsFurther}
 use Rattle.brin_app.specs.DemoOutput.{IsFreshDemo}
 use Rattle.brin_app.specs.Holding.{HasMade, HasRun, HoldsOn, HoldsOnFor, HoldsStore, HoldsSure, StaysStore}
 use Rattle.brin_app.specs.Moments.{StopsOfRun}
@@ -29,7 +29,7 @@ use Rattle.brin_app.specs.StatusCauses.{IsDoneSo}
 use Rattle.brin_app.specs.Statuses.{IsUnfit, start_status}
 use Rattle.brin_app.specs.Tasks.{Asks}
 use Rattle.brin_app.specs.WantedSizes.{AsksForNew}
-use Rattle.brin_app.proofs.Crash.{image_as}
+use Rattle.session_orders.proofs.Crash.{image_as}
 use Rattle.brin_app.proofs.Doing.{HaveOneLayout, OpenToOneMap, fresh_image, held, table_at}
 use Rattle.brin_app.proofs.Moments.{runs_hold}
 

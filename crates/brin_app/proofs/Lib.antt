@@ -1,5 +1,4 @@
 pub mod Asked
-pub mod Crash
 pub mod DemoDone
 pub mod DemoFits
 pub mod DemoRuns
@@ -7,7 +6,6 @@ pub mod Doing
 pub mod Heeding
 pub mod Holding
 pub mod Known
-pub mod Leading
 pub mod Making
 pub mod Moments
 pub mod Outputs
@@ -17,5 +15,4 @@ pub mod Saying
 pub mod ScriptRoom
 pub mod Simulated
 pub mod Starting
-pub mod Stepping
 pub mod WantedDisk

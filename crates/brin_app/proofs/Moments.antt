@@ -13,11 +13,11 @@ use Rattle.script_semantics.specs.Place.{Place, database_at}
 use Rattle.script_semantics.specs.Starts.{IsStart}
 use Rattle.session_core.specs.StopRule.{IsImageWith}
 use Rattle.store_layout.specs.DiskLayout.{DiskLayout}
-use Rattle.brin_app.specs.CrashRule.{IsCutStretch, IsFurther, IsOfRun, IsOfStop, IsStretch, Stand}
+use Rattle.session_orders.specs.CrashRule.{IsCutStretch, IsFurther, IsOfRun, IsOfStop, IsStretch, Stand}
 use Rattle.brin_app.specs.DemoOutput.{AnswersOver, DemoWrites}
 use Rattle.brin_app.specs.Moments.{HoldsThroughout, RunsHoldThroughout, StopsOfNewRun, StopsOfRun}
 use Rattle.brin_app.specs.ScriptOutput.{IsMadeAt, IsOldOrEmpty, IsOldOrNone, IsOpenedAt, StopsOver, TextsOver}
-use Rattle.brin_app.proofs.Crash.{further_on, image_as, run_earlier, run_later, run_of, still, stop_earlier}
+use Rattle.session_orders.proofs.Crash.{further_on, image_as, run_earlier, run_later, run_of, still, stop_earlier}
 use Rattle.brin_app.proofs.Doing.{table_at}
 use Rattle.brin_app.proofs.Simulated.{ending}
 

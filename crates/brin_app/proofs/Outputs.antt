@@ -10,7 +10,7 @@ use Rattle.script_run.specs.Runs.{RunEnd, Stopped}
 use Rattle.store_layout.specs.DiskLayout.{DiskLayout}
 use Rattle.script_semantics.specs.Place.{Place}
 use Rattle.brin_app.specs.declared.status.TheConstants.{SCRIPT_LIMIT}
-use Rattle.brin_app.specs.CrashRule.{Stand}
+use Rattle.session_orders.specs.CrashRule.{Stand}
 use Rattle.brin_app.specs.ScriptOutput.{IsScriptRun, StopsOver, Texts, TextsOver, exit_status}
 use Rattle.brin_app.specs.StatusCauses.{FillsJournal, FitsLimit, HasSpentCauses, IsComplete, JournalWasFull}
 

@@ -19,13 +19,13 @@ use Rattle.session_parts.specs.ShowsPlace.{ShowsPlace}
 use Rattle.session_parts.specs.StoreStates.{StoreState}
 use Rattle.brin_app.specs.declared.sessions.Sessions.{Sessions}
 use Rattle.brin_app.specs.declared.status.TheConstants.{SCRIPT_LIMIT}
-use Rattle.brin_app.specs.CrashRule.{HasTableOf, IsCutStretch, IsFurther, IsOfRun, IsOfStop, IsStretch, Stand, StopsBetween}
-use Rattle.brin_app.specs.Leading.{HasStopCause, IsLeftBy, PlacesLead, PlacesStop}
+use Rattle.session_orders.specs.CrashRule.{HasTableOf, IsCutStretch, IsFurther, IsOfRun, IsOfStop, IsStretch, Stand, StopsBetween}
+use Rattle.session_orders.specs.Leading.{HasStopCause, IsLeftBy, PlacesLead, PlacesStop}
 use Rattle.brin_app.specs.ScriptOutput.{IsScriptRun, StopsOver, TextsOver, exit_status}
 use Rattle.brin_app.specs.SessionPlaces.{AnswersLine, StopsLine}
 use Rattle.brin_app.specs.Simulations.{EndsAs, Simulates}
-use Rattle.brin_app.proofs.Crash.{further_on, still}
-use Rattle.brin_app.proofs.Leading.{cause_after, leaves_as_is, leaves_on}
+use Rattle.session_orders.proofs.Crash.{further_on, still}
+use Rattle.session_orders.proofs.Leading.{cause_after, leaves_as_is, leaves_on}
 use Rattle.brin_app.proofs.Simulated.{lifted_run}
 
 -- ---- from one store to another

@@ -24,10 +24,10 @@ use Rattle.session_core.specs.declared.faults.SessionFault.{SessionFault}
 use Rattle.session_core.specs.declared.faults.SessionFault.TheVariants as sessions
 use Rattle.session_core.specs.Sessions.{HasSession}
 use Rattle.demo_script.specs.declared.answer.Answer.{Answer}
-use Rattle.brin_app.specs.Leading.{PlacesLead, PlacesStop}
-use Rattle.brin_app.specs.Orders.{DoesSo, IsCutShort, IsLost, IsStoppedSaying, answer_text}
-use Rattle.brin_app.proofs.Crash.{OnlyNow}
-use Rattle.brin_app.proofs.Leading.{led_as, led_further, led_still, lost_behind, stops_as, stops_further}
+use Rattle.session_orders.specs.Leading.{PlacesLead, PlacesStop}
+use Rattle.session_orders.specs.Orders.{DoesSo, IsCutShort, IsLost, IsStoppedSaying, answer_text}
+use Rattle.session_orders.proofs.Crash.{OnlyNow}
+use Rattle.session_orders.proofs.Leading.{led_as, led_further, led_still, lost_behind, stops_as, stops_further}
 
 -- ---- lines that aren't answered
 

@@ -14,8 +14,8 @@ use Rattle.demo_script.specs.declared.answer.Answer.TheVariants as answers
 use Rattle.script_semantics.specs.LineTexts.{Answers}
 use Rattle.script_semantics.specs.Place.{Place}
 use Rattle.brin_app.specs.declared.sessions.Sessions.{Sessions}
-use Rattle.brin_app.specs.Leading.{PlacesLead}
-use Rattle.brin_app.specs.Orders.{answer_text}
+use Rattle.session_orders.specs.Leading.{PlacesLead}
+use Rattle.session_orders.specs.Orders.{answer_text}
 
 -- An order's text is that of its answer, to the session of that name, with the requests that were dropped. A line that isn't read is refused; one that says
 -- nothing has no answer.

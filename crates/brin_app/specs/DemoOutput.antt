@@ -17,7 +17,7 @@ use Rattle.demo_script.specs.Summary.{summary_text}
 use Rattle.script_semantics.specs.Place.{Place, database_at}
 use Rattle.script_semantics.specs.Starts.{IsStart}
 use Rattle.brin_app.specs.Asking.{IsLineAnswered}
-use Rattle.brin_app.specs.CrashRule.{HasTableOf, IsFurther, IsStretch, Stand}
+use Rattle.session_orders.specs.CrashRule.{HasTableOf, IsFurther, IsStretch, Stand}
 use Rattle.brin_app.specs.ScriptOutput.{EachImageHas, IsMadeAt, IsOpenedAt, IsUnmade, IsUnopened, Stops, StopsOver, exit_status}
 
 -- a line of the demo is answered so, over a stretch of the disk's moments of its own

@@ -1,11 +1,8 @@
 pub mod Asking
-pub mod CrashRule
 pub mod DemoOutput
 pub mod DemoSums
 pub mod Holding
-pub mod Leading
 pub mod Moments
-pub mod Orders
 pub mod SessionPlaces
 pub mod ScriptOutput
 pub mod ScriptRoom
@@ -18,4 +15,5 @@ pub mod WantedSizes
 pub mod WordsFaults
 pub use Rattle.script_semantics.specs.Place
 pub use Rattle.session_core.specs.Started
+pub use Rattle.session_orders.specs.CrashRule
 pub use Rattle.store_layout.specs.DiskLayout

@@ -5,7 +5,7 @@ use Rattle.disk_trait.specs.Throughout.{Throughout}
 use Rattle.script_semantics.specs.Place.{Place, database_at}
 use Rattle.script_semantics.specs.Starts.{IsStart}
 use Rattle.store_layout.specs.DiskLayout.{DiskLayout}
-use Rattle.brin_app.specs.CrashRule.{IsOfStop, Stand}
+use Rattle.session_orders.specs.CrashRule.{IsOfStop, Stand}
 use Rattle.brin_app.specs.DemoOutput.{IsDemoRun}
 use Rattle.brin_app.specs.ScriptOutput.{EachImageHas, IsMadeAt, IsOldOrNone, IsOpenedAt, IsScriptRun}
 

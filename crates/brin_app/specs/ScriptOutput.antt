@@ -19,7 +19,7 @@ use Rattle.script_run.specs.Runs.{Ran, RunEnd}
 use Rattle.session_core.specs.StopRule.{IsImageWith}
 use Rattle.session_core.specs.StoreImage.{IsStoreImage, IsTableOn, database_with}
 use Rattle.brin_app.specs.declared.status.TheConstants.{SCRIPT_LIMIT}
-use Rattle.brin_app.specs.CrashRule.{HasTableOf, IsCutStretch, IsFurther, IsStretch, IsSure, Stand}
+use Rattle.session_orders.specs.CrashRule.{HasTableOf, IsCutStretch, IsFurther, IsStretch, IsSure, Stand}
 
 -- the status of each way in which a run ends: too long a script and a full journal have one
 abbrev pub exit_status : RunEnd → ℕ

@@ -5,7 +5,7 @@ use Rattle.script_semantics.specs.LineTexts.{IsLineText}
 use Rattle.script_semantics.specs.Stops.{IsLineStopped}
 use Rattle.script_run.specs.declared.engine.AnswerFault.{AnswerFault}
 use Rattle.brin_app.specs.declared.sessions.Sessions.{Sessions}
-use Rattle.brin_app.specs.Leading.{PlacesLead, PlacesStop}
+use Rattle.session_orders.specs.Leading.{PlacesLead, PlacesStop}
 
 -- the sessions answer a line of their script with its text, from each place that they show
 abbrev pub AnswersLine : {D : Type 0} → (D → Told) → Sessions D → List ℕ → List ℕ → Sessions D → Type 0

@@ -3,11 +3,10 @@
 ghost use Rattle.std.specs.Prelude.{◌≡◌, ◌≢◌, ◌<◌, ◌++◌, Ok, IfErr, OnOk, ℕ, List, length};
 ghost use Rattle.query_words.specs.LineFits.{IsLineFor, IsOrderFor};
 ghost use Rattle.script_semantics.specs.LineTexts.{Answers, Does, fault_text, refused_text};
-ghost use Rattle.brin_app.specs.Leading.{PlacesLead, PlacesStop};
-ghost use Rattle.brin_app.specs.Orders.{IsLost, IsStoppedSaying, answer_text};
+ghost use Rattle.session_orders.specs.Leading.{PlacesLead, PlacesStop};
+ghost use Rattle.session_orders.specs.Orders.{IsLost, IsStoppedSaying, answer_text};
 ghost use Rattle.brin_app.specs.SessionPlaces.{AnswersLine, StopsLine};
 
-use crate::orders::act;
 use crate::sessions::Sessions;
 use block_model::{Name, NoMemory, Refusal, Reply};
 use demo_script::Answer;
@@ -16,6 +15,7 @@ use query_words::{Line, LineFault, Order, read_line};
 use reply_texts::{Dropped, render, render_dropped, render_moved, render_refusal, render_started};
 use script_run::AnswerFault;
 use session_core::{SessionFault, Store};
+use session_orders::act;
 
 /// Appends the text of a line, and does what it says.
 pub(crate) fn answer_line<D: Disk + Drop>(

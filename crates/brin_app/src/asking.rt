@@ -4,11 +4,10 @@ ghost use Rattle.std.specs.Prelude.{◌≡◌, ℕ, Ok, Some, IfOk, IfErr};
 ghost use Rattle.query_words.specs.LineFits.{IsLineFor, IsOrderFor};
 ghost use Rattle.query_words.specs.LineRefusals.{refusal_of};
 ghost use Rattle.brin_app.specs.Asking.{AsksLine, IsAnswered};
-ghost use Rattle.brin_app.specs.Leading.{PlacesLead, PlacesStop};
-ghost use Rattle.brin_app.specs.Orders.{IsStoppedSaying};
+ghost use Rattle.session_orders.specs.Leading.{PlacesLead, PlacesStop};
+ghost use Rattle.session_orders.specs.Orders.{IsStoppedSaying};
 ghost use Rattle.brin_app.specs.SessionPlaces.{StopsLine};
 
-use crate::orders::act;
 use crate::sessions::Sessions;
 use block_model::{Name, Refusal};
 use demo_script::Answer;
@@ -16,6 +15,7 @@ use disk_trait::Disk;
 use query_words::{Line, LineFault, Order, read_line};
 use script_run::AnswerFault;
 use session_core::{SessionFault, Store};
+use session_orders::act;
 
 /// Does what a line says, and tells what it is answered. What is told of a line that says nothing says nothing.
 pub(crate) fn ask_line<D: Disk + Drop>(

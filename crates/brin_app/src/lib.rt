@@ -2,16 +2,15 @@
 //! contract says which status comes when, and that what it writes are the texts of the script's lines (script_semantics), from a place at which
 //! a script starts on; the demo's five lines are the counts of the answers to its script (demo_script). It stands on the words of the command
 //! line (command_line, command_line), the lines (query_words), their texts (reply_texts), the loop over them (script_run), the making of a
-//! store (store_format) and the store of sessions over a disk (session_core).
+//! store (store_format), the store of sessions over a disk (session_core) and what orders of sessions do to it (session_orders).
 //! Each line has moments of its own: in them each image of the disk has the table before the line, or that with its commit, and behind them, and at the
-//! end, that of all requests so far (specs/CrashRule.antt). Behind a fault of the disk the commit that was in hand may be in it as well.
+//! end, that of all requests so far (CrashRule of session_orders). Behind a fault of the disk the commit that was in hand may be in it as well.
 #![tactic(auto)]
 
 mod answers;
 mod asking;
 mod demo;
 mod laws;
-mod orders;
 mod sessions;
 mod status;
 mod top;

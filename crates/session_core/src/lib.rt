@@ -11,6 +11,7 @@ mod sessions;
 mod steps;
 mod store;
 mod submitting;
+mod threads;
 mod vacuuming;
 
 pub use faults::SessionFault;
@@ -21,3 +22,4 @@ pub use session_starts::{
     a_new_store_opens_to_fresh_pages, a_shown_store_is_an_image,
 };
 pub use store::Store;
+pub use threads::a_store_goes_to_threads;

@@ -2,8 +2,8 @@ use Rattle.std.proofs.Common.{inl, inr, refl}
 use Rattle.std.proofs.lemmas.Result.{err_from_is_err_and}
 use Rattle.script_run.specs.declared.engine.AnswerFault.TheVariants.{Memory}
 use Rattle.script_semantics.specs.LineTexts.{Does}
-use Rattle.brin_app.specs.Orders.{DoesSo, IsCutShort, IsLost, answer_text}
-use Rattle.brin_app.proofs.Leading.{led_as, lost_behind, stops_as}
+use Rattle.session_orders.specs.Orders.{DoesSo, IsCutShort, IsLost, answer_text}
+use Rattle.session_orders.proofs.Leading.{led_as, lost_behind, stops_as}
 use Rattle.brin_app.proofs.Saying.{told_order}
 use Rattle.brin_app.proofs.answers.answer_order.Goals as goal
 

@@ -3,8 +3,8 @@ use Rattle.std.specs.Prelude.{Ok, OnOk, ◌≡◌, ◌++◌, ℕ, List}
 use Rattle.std.proofs.lemmas.List.{append-nil}
 use Rattle.query_words.specs.declared.line.Line.{Line}
 use Rattle.script_semantics.specs.LineTexts.{Answers, SaysNothing}
-use Rattle.brin_app.specs.Leading.{PlacesLead}
-use Rattle.brin_app.proofs.Leading.{led_still}
+use Rattle.session_orders.specs.Leading.{PlacesLead}
+use Rattle.session_orders.proofs.Leading.{led_still}
 use Rattle.brin_app.proofs.answers.obey.Goals as goal
 
 pub returns-in-Nothing-clause-ok : goal.returns-in-Nothing-clause-ok

@@ -1,9 +1,9 @@
 use Rattle.std.proofs.Common.{◌≡◌, ap}
 use Rattle.script_semantics.specs.LineTexts.{named}
 use Rattle.script_semantics.specs.Place.{Place}
-use Rattle.brin_app.proofs.Leading.{led_beside}
+use Rattle.session_orders.proofs.Leading.{led_beside}
 use Rattle.session_parts.specs.StoreStates.{StoreState}
-use Rattle.brin_app.proofs.Stepping.{naming_keeps}
+use Rattle.session_orders.proofs.Stepping.{naming_keeps}
 use Rattle.brin_app.proofs.Saying.{say_done, say_lost, say_refused, say_unmade}
 use Rattle.brin_app.proofs.answers.say.Goals as goal
 

@@ -3,9 +3,9 @@ use Rattle.script_semantics.specs.LineTexts.{named}
 use Rattle.script_semantics.specs.Place.{Place}
 use Rattle.session_parts.specs.StoreStates.{StoreState}
 use Rattle.brin_app.proofs.Heeding.{ask_done, ask_lost, ask_refused}
-use Rattle.brin_app.proofs.Leading.{led_beside}
+use Rattle.session_orders.proofs.Leading.{led_beside}
 use Rattle.brin_app.proofs.Saying.{say_unmade}
-use Rattle.brin_app.proofs.Stepping.{naming_keeps}
+use Rattle.session_orders.proofs.Stepping.{naming_keeps}
 use Rattle.brin_app.proofs.asking.ask.Goals as goal
 
 pub returns-in-Ok-clause-ok : goal.returns-in-Ok-clause-ok

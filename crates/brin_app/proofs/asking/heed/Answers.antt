@@ -3,10 +3,10 @@ use Rattle.std.specs.Prelude.{IfOk, IfErr, Ok}
 use Rattle.query_words.specs.declared.line.Line.{Line}
 use Rattle.demo_script.specs.declared.answer.Answer.TheVariants as answers
 use Rattle.brin_app.specs.Asking.{IsAnswered}
-use Rattle.brin_app.specs.Leading.{PlacesLead, PlacesStop}
-use Rattle.brin_app.specs.Orders.{IsStoppedSaying}
+use Rattle.session_orders.specs.Leading.{PlacesLead, PlacesStop}
+use Rattle.session_orders.specs.Orders.{IsStoppedSaying}
 use Rattle.brin_app.proofs.Heeding.{nothing_answered}
-use Rattle.brin_app.proofs.Leading.{led_still}
+use Rattle.session_orders.proofs.Leading.{led_still}
 use Rattle.brin_app.proofs.asking.heed.Goals as goal
 
 pub returns-in-Nothing-clause-ok : goal.returns-in-Nothing-clause-ok

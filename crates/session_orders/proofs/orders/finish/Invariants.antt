@@ -2,8 +2,8 @@ use Rattle.std.proofs.Common.{◌≡◌}
 use Rattle.std.specs.Prelude.{IsSome}
 use Rattle.script_semantics.specs.Moves.{MovedIn}
 use Rattle.session_parts.specs.StoreStates.{hand_at}
-use Rattle.brin_app.specs.Leading.{PlacesLead}
-use Rattle.brin_app.proofs.orders.finish.Given as goal
+use Rattle.session_orders.specs.Leading.{PlacesLead}
+use Rattle.session_orders.proofs.orders.finish.Given as goal
 
 abbrev pub invariant-steps : goal.invariant-steps
 invariant-steps g l = record {

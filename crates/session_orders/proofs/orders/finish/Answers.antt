@@ -3,11 +3,11 @@ use Rattle.std.proofs.lemmas.Result.{err_from_is_err_and}
 use Rattle.script_semantics.specs.Moves.{MovedIn}
 use Rattle.script_run.specs.declared.engine.AnswerFault.TheVariants.{Damaged}
 use Rattle.demo_script.specs.declared.answer.Answer.TheVariants as answers
-use Rattle.brin_app.specs.Leading.{PlacesLead}
-use Rattle.brin_app.specs.Orders.{FinishesSo, IsHalted, IsNotMade, StepsSo}
-use Rattle.brin_app.proofs.Leading.{led_further, led_still, stops_further}
-use Rattle.brin_app.proofs.Stepping.{finished_by, halted, in_hand_there, no_damage}
-use Rattle.brin_app.proofs.orders.finish.Goals as goal
+use Rattle.session_orders.specs.Leading.{PlacesLead}
+use Rattle.session_orders.specs.Orders.{FinishesSo, IsHalted, IsNotMade, StepsSo}
+use Rattle.session_orders.proofs.Leading.{led_further, led_still, stops_further}
+use Rattle.session_orders.proofs.Stepping.{finished_by, halted, in_hand_there, no_damage}
+use Rattle.session_orders.proofs.orders.finish.Goals as goal
 
 pub steps-init : goal.steps-init
 steps-init g c = record {

@@ -2,10 +2,10 @@ use Rattle.std.proofs.Common.{refl, sym}
 use Rattle.query_words.specs.declared.line.Order.TheVariants as orders
 use Rattle.block_model.specs.declared.reply.Refusal.TheVariants as refusals
 use Rattle.demo_script.specs.declared.answer.Answer.TheVariants as answers
-use Rattle.brin_app.specs.Orders.{DoesSo, IsCutShort, IsNotMade, StepsSo}
-use Rattle.brin_app.proofs.Leading.{err_stops, led_still, ok_led}
-use Rattle.brin_app.proofs.Stepping.{no_step, nothing_in_hand, step_cut, stepped}
-use Rattle.brin_app.proofs.orders.step_once.Goals as goal
+use Rattle.session_orders.specs.Orders.{DoesSo, IsCutShort, IsNotMade, StepsSo}
+use Rattle.session_orders.proofs.Leading.{err_stops, led_still, ok_led}
+use Rattle.session_orders.proofs.Stepping.{no_step, nothing_in_hand, step_cut, stepped}
+use Rattle.session_orders.proofs.orders.step_once.Goals as goal
 
 pub returns-then-not-in_hand-clause-ok : goal.returns-then-not-in_hand-clause-ok
 returns-then-not-in_hand-clause-ok g c =

@@ -3,10 +3,10 @@ use Rattle.script_semantics.specs.LineTexts.{Submits}
 use Rattle.script_semantics.specs.Place.{Place}
 use Rattle.query_words.specs.declared.line.Order.TheVariants as orders
 use Rattle.demo_script.specs.declared.answer.Answer.TheVariants as answers
-use Rattle.brin_app.specs.Orders.{DoesSo, FinishesSo, IsCutShort, IsHalted}
-use Rattle.brin_app.proofs.Leading.{err_further, led_beside, ok_further}
-use Rattle.brin_app.proofs.Stepping.{plain, plain_cut, plain_refused, submit_keeps}
-use Rattle.brin_app.proofs.orders.whole.Goals as goal
+use Rattle.session_orders.specs.Orders.{DoesSo, FinishesSo, IsCutShort, IsHalted}
+use Rattle.session_orders.proofs.Leading.{err_further, led_beside, ok_further}
+use Rattle.session_orders.proofs.Stepping.{plain, plain_cut, plain_refused, submit_keeps}
+use Rattle.session_orders.proofs.orders.whole.Goals as goal
 
 pub returns-in-Err-clause-ok : goal.returns-in-Err-clause-ok
 returns-in-Err-clause-ok g c =

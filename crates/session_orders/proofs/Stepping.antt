@@ -35,10 +35,10 @@ use Rattle.session_core.specs.Stops.{StopsSo}
 use Rattle.session_parts.specs.StoreStates.{StoreState, hand_at}
 use Rattle.demo_script.specs.declared.answer.Answer.{Answer}
 use Rattle.demo_script.specs.declared.answer.Answer.TheVariants as answers
-use Rattle.brin_app.specs.CrashRule.{IsFurther}
-use Rattle.brin_app.specs.Leading.{LeavesUnmade, PlacesLead, PlacesStop}
-use Rattle.brin_app.specs.Orders.{DoesSo, FinishesSo, IsCutShort, IsHalted, IsNotMade, StepsSo, fault_of_step, step_answer}
-use Rattle.brin_app.proofs.Crash.{KeepsJournal, answered_between, failed_amid, passes_in_hand, still, unmade_between}
+use Rattle.session_orders.specs.CrashRule.{IsFurther}
+use Rattle.session_orders.specs.Leading.{LeavesUnmade, PlacesLead, PlacesStop}
+use Rattle.session_orders.specs.Orders.{DoesSo, FinishesSo, IsCutShort, IsHalted, IsNotMade, StepsSo, fault_of_step, step_answer}
+use Rattle.session_orders.proofs.Crash.{KeepsJournal, answered_between, failed_amid, passes_in_hand, still, unmade_between}
 
 -- ---- one step
 

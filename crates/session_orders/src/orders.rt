@@ -5,8 +5,8 @@ ghost use Rattle.session_parts.specs.StoreStates.{hand_at};
 ghost use Rattle.session_core.specs.Sessions.{NamesASession};
 ghost use Rattle.query_words.specs.LineFits.{IsOrderFor};
 ghost use Rattle.store_layout.specs.StatementFits.{IsStatementFor};
-ghost use Rattle.brin_app.specs.Leading.{LeavesUnmade, PlacesLead, PlacesStop};
-ghost use Rattle.brin_app.specs.Orders.{IsCutShort, DoesSo, FinishesSo, IsHalted, IsInHandStill, IsNotMade, StepsSo, fault_of_step, step_answer};
+ghost use Rattle.session_orders.specs.Leading.{LeavesUnmade, PlacesLead, PlacesStop};
+ghost use Rattle.session_orders.specs.Orders.{IsCutShort, DoesSo, FinishesSo, IsHalted, IsInHandStill, IsNotMade, StepsSo, fault_of_step, step_answer};
 
 use block_model::Refusal;
 use demo_script::Answer;
@@ -58,7 +58,7 @@ fn whole<D: Disk + Drop>(
 }
 
 /// Takes the statement, or says why it isn't taken.
-fn start<D: Disk + Drop>(store: &mut Store<D>, session: u32, statement: Statement) -> Answer
+pub fn start<D: Disk + Drop>(store: &mut Store<D>, session: u32, statement: Statement) -> Answer
     requires session { session < length store.old.names }
     requires statement { IsStatementFor store.old.pages.layout.schema statement }
     ensures names { store.new.names ≡ store.old.names }
@@ -119,7 +119,7 @@ fn finish<D: Disk + Drop>(store: &mut Store<D>, session: u32) -> Result<Answer, 
 }
 
 /// Makes one step of the session's statement.
-fn step<D: Disk + Drop>(store: &mut Store<D>, session: u32) -> Result<Answer, AnswerFault>
+pub fn step<D: Disk + Drop>(store: &mut Store<D>, session: u32) -> Result<Answer, AnswerFault>
     requires hand { IsSome (hand_at store.old session) }
     ensures names { store.new.names ≡ store.old.names }
     ensures hand { IfOk result (λ answer. IsInHandStill answer (hand_at store.new session)) }

@@ -2,10 +2,10 @@ use Rattle.std.proofs.Common.{None, Some}
 use Rattle.script_semantics.specs.LineTexts.{Submits}
 use Rattle.query_words.specs.declared.line.Order.TheVariants as orders
 use Rattle.demo_script.specs.declared.answer.Answer.TheVariants as answers
-use Rattle.brin_app.specs.Orders.{DoesSo}
-use Rattle.brin_app.proofs.Leading.{led_beside}
-use Rattle.brin_app.proofs.Stepping.{start_refused, started, submit_keeps}
-use Rattle.brin_app.proofs.orders.start.Goals as goal
+use Rattle.session_orders.specs.Orders.{DoesSo}
+use Rattle.session_orders.proofs.Leading.{led_beside}
+use Rattle.session_orders.proofs.Stepping.{start_refused, started, submit_keeps}
+use Rattle.session_orders.proofs.orders.start.Goals as goal
 
 pub returns-in-Ok-clause-ok : goal.returns-in-Ok-clause-ok
 returns-in-Ok-clause-ok g c =

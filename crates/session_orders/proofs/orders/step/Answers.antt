@@ -1,10 +1,10 @@
 use Rattle.std.proofs.Common.{sym, subst}
 use Rattle.script_run.specs.declared.engine.AnswerFault.{AnswerFault}
 use Rattle.demo_script.specs.declared.answer.Answer.{Answer}
-use Rattle.brin_app.specs.Leading.{LeavesUnmade, PlacesLead, PlacesStop}
-use Rattle.brin_app.specs.Orders.{IsNotMade, StepsSo}
-use Rattle.brin_app.proofs.Stepping.{step_leaves, step_led, step_unmade}
-use Rattle.brin_app.proofs.orders.step.Goals as goal
+use Rattle.session_orders.specs.Leading.{LeavesUnmade, PlacesLead, PlacesStop}
+use Rattle.session_orders.specs.Orders.{IsNotMade, StepsSo}
+use Rattle.session_orders.proofs.Stepping.{step_leaves, step_led, step_unmade}
+use Rattle.session_orders.proofs.orders.step.Goals as goal
 
 pub returns-in-Ok-clause-ok : goal.returns-in-Ok-clause-ok
 returns-in-Ok-clause-ok g c =

@@ -11,9 +11,9 @@ use Rattle.script_semantics.specs.Place.{Place}
 use Rattle.session_parts.specs.ShowsPlace.{ShowsPlace}
 use Rattle.session_parts.specs.StepIs.{LeadsOn}
 use Rattle.session_parts.specs.StoreStates.{StoreState}
-use Rattle.brin_app.specs.CrashRule.{IsFurther, StopsBetween}
-use Rattle.brin_app.specs.Leading.{HasStopCause, IsLeftBy, PlacesLead, PlacesStop}
-use Rattle.brin_app.proofs.Crash.{KeepsJournal, OnlyNow, amid_then, between_kept, between_then, further_on, kept_further, still}
+use Rattle.session_orders.specs.CrashRule.{IsFurther, StopsBetween}
+use Rattle.session_orders.specs.Leading.{HasStopCause, IsLeftBy, PlacesLead, PlacesStop}
+use Rattle.session_orders.proofs.Crash.{KeepsJournal, OnlyNow, amid_then, between_kept, between_then, further_on, kept_further, still}
 
 module _ {D : Type 0} (told : D → Told) where
   pub leaves_as_is : (v : View D) → Leaves told v v

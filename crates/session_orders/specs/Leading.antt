@@ -9,7 +9,7 @@ use Rattle.script_semantics.specs.Place.{Place}
 use Rattle.session_parts.specs.ShowsPlace.{ShowsPlace}
 use Rattle.session_parts.specs.StepAnswers.{StaysAsItWas}
 use Rattle.session_parts.specs.StoreStates.{StoreState}
-use Rattle.brin_app.specs.CrashRule.{IsFurther, StopsAmid, StopsBetween}
+use Rattle.session_orders.specs.CrashRule.{IsFurther, StopsAmid, StopsBetween}
 
 -- a place that one store shows leads so to a place that the other shows; and by their journals the crash rule holds between the two
 pub record LeadsTo {D : Type 0} (told : D → Told) (s s' : StoreState D) (P : Place → Place → Type 0) (p : Place) : Type 0 where

@@ -31,7 +31,7 @@ use Rattle.session_core.specs.ImageLaws.{ShownIsImage, StepCommits}
 use Rattle.session_core.specs.StopRule.{AllHaveTable, HasTableOr, IsImageWith, StopsWhole}
 use Rattle.session_core.specs.StoreImage.{IsStoreImage}
 use Rattle.session_core.specs.Stops.{StopsSo}
-use Rattle.brin_app.specs.CrashRule.{HasTableOf, IsFurther, IsOfRun, IsOfStop, StopsAmid, StopsBetween, table_behind}
+use Rattle.session_orders.specs.CrashRule.{HasTableOf, IsFurther, IsOfRun, IsOfStop, StopsAmid, StopsBetween, table_behind}
 
 -- ---- journals
 

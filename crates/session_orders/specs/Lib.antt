@@ -1,0 +1,3 @@
+pub mod CrashRule
+pub mod Leading
+pub mod Orders
