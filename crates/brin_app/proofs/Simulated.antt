@@ -89,14 +89,14 @@ module _ {S P : Type 0} (Shows : S → P → Type 0) (Ends : AnswerFault → S �
 
 -- A run has one end: where lines stop by one of several relations, one of them is that of the whole run.
 module _ {S : Type 0} (R : S → List ℕ → List ℕ → S → Type 0) (U : ℕ → S → List ℕ → AnswerFault → S → Type 0) where
-  abbrev Some : S → List ℕ → AnswerFault → S → Type 0
-  Some a line fault b = (n : ℕ) × U n a line fault b
+  abbrev ByAny : S → List ℕ → AnswerFault → S → Type 0
+  ByAny a line fault b = (n : ℕ) × U n a line fault b
 
-  one_of : (s t : S) (script : List ℕ) (left : Option (List ℕ)) (done : List (List ℕ)) (fault : AnswerFault) → Stopped Some s t script left done fault → (n : ℕ) × Stopped (U n) s t script left done fault
+  one_of : (s t : S) (script : List ℕ) (left : Option (List ℕ)) (done : List (List ℕ)) (fault : AnswerFault) → Stopped ByAny s t script left done fault → (n : ℕ) × Stopped (U n) s t script left done fault
   one_of s t script left done fault (inl at) = (at.stops.0, inl (record { line = at.line; first = at.first; stops = at.stops.1 }))
   one_of s t script left done fault (inr short) = (0, inr short)
 
-  module _ (start after final : S) (limit : ℕ) (end : RunEnd) (left : Option (List ℕ)) (script out : List ℕ) (done texts : List (List ℕ)) (wrote : Wrote R Some start after final limit end left script out done texts) where
+  module _ (start after final : S) (limit : ℕ) (end : RunEnd) (left : Option (List ℕ)) (script out : List ℕ) (done texts : List (List ℕ)) (wrote : Wrote R ByAny start after final limit end left script out done texts) where
     wrote_one : (n : ℕ) → ((fault : AnswerFault) → end ≡ Err (faults.Unanswered fault) → Stopped (U n) final after script left done fault) → Wrote R (U n) start after final limit end left script out done texts
     wrote_one n stops = record {
       lines = wrote.lines;
