@@ -9,13 +9,12 @@ use Rattle.block_model.specs.declared.request.Request.TheVariants as requests
 use Rattle.block_model.specs.DatabaseState.{DatabaseState, OpenTransaction}
 use Rattle.block_model.specs.RequestEffect.{Answer, Committed, RolledBack, effect_at, effect_is, reply_to}
 use Rattle.store_layout.specs.declared.limits.TheConstants.{MAX_ENTRIES}
-use Rattle.store_layout.specs.declared.statement.Statement.{Statement}
 use Rattle.store_layout.specs.StatementRequests.{request_entry}
 use Rattle.snapshot_core.specs.StoredVersions.{transaction_of}
 use Rattle.transactions.specs.Laws.{SessionsAreShown}
 use Rattle.script_semantics.specs.Place.{Place, database_at}
 use Rattle.script_semantics.specs.StatementSteps as steps
-use Rattle.script_semantics.specs.StatementSteps.{Ended, IsAtOnce, LacksRoom, Moved, Outcome, Waits}
+use Rattle.script_semantics.specs.StatementSteps.{Ended, IsAtOnce, LacksRoom}
 use Rattle.session_parts.specs.declared.hand.Hand.{Hand}
 use Rattle.session_parts.specs.declared.hand.Hand.TheVariants as hands
 use Rattle.session_parts.specs.declared.parts.Parts.{Parts}
