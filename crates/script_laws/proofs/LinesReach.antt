@@ -10,11 +10,12 @@ use Rattle.query_words.specs.Lines.{line_of}
 use Rattle.query_words.proofs.FitLemmas.{KnowsValues}
 use Rattle.script_run.specs.Answers.{AreAnswers}
 use Rattle.store_layout.specs.DiskLayout.{DiskLayout}
+use Rattle.store_layout.specs.SessionNumbers.{with_session}
 use Rattle.script_semantics.specs.LineTexts.{Answers, Does, Finishes, Further, IsFinished, IsLineText, IsNotRead, LastStep, NoFinish, NoStep, Orders, PastSessions, Plain, RefusesPlain, RefusesStart, SaysNothing, Starts, StepsOnce, named}
 use Rattle.script_semantics.specs.Place.{Place}
 use Rattle.script_semantics.specs.StatementSteps.{Outcome}
 use Rattle.script_semantics.specs.Stops.{Begun, ComesTo, LineComesTo, MovedTo, OfFinish, OfPlain, OfStep, OnTo, Still}
-use Rattle.script_laws.specs.Reached.{BehindName, BehindStep, BehindSubmit, IsReached}
+use Rattle.script_laws.specs.Reached.{BehindNames, BehindStep, BehindSubmit, IsReached}
 use Rattle.script_laws.proofs.Fits.{read_fits}
 
 module _ (layout : DiskLayout) where
@@ -52,10 +53,10 @@ module _ (layout : DiskLayout) where
   answer_reaches p _ _ _ fit reached (IsNotRead fault) = reached
   answer_reaches p _ _ _ fit reached SaysNothing = reached
   answer_reaches p _ _ _ fit reached (PastSessions name order past) = reached
-  answer_reaches p _ _ _ fit reached (Orders name order text q within does) = does_reaches (named p name) _ name order text q (BehindName p name reached) (fit (lines.Say name order) refl) does
+  answer_reaches p _ _ _ fit reached (Orders name order text q within does) = does_reaches (named p name) _ name order text q (BehindNames p (with_session p.names name) reached) (fit (lines.Say name order) refl) does
 
   within_reaches : (p : Place) (said : Result Line LineFault) (n : ℕ) (q : Place) → FitsRead said → Reaches p → LineComesTo p said n q → Reaches q
-  within_reaches p _ _ _ fit reached (Begun name order q within comes) = comes_reaches (named p name) _ order q (BehindName p name reached) (fit (lines.Say name order) refl) comes
+  within_reaches p _ _ _ fit reached (Begun name order q within comes) = comes_reaches (named p name) _ order q (BehindNames p (with_session p.names name) reached) (fit (lines.Say name order) refl) comes
 
 module _ (knows : KnowsValues) (layout : DiskLayout) where
   pub line_reaches : (p q : Place) (line text : List ℕ) → IsReached layout p → IsLineText layout.schema p line text q → IsReached layout q

@@ -64,7 +64,7 @@ settles_others : (s : ℕ) (w v : TableState) (n : ℕ) → n ≢ s → Settles 
 settles_others s w v n apart (GoesOn old new onward turns only) = others_stay s w v _ _ n apart turns
 settles_others s w v n apart (GivesLock old done turns given rows indexes) = others_stay s w v _ _ n apart turns
 
-step_others : (s : ℕ) (w v : TableState) (n : ℕ) → n ≢ s → TableStep s w v → v.task n ≡ w.task n
+pub step_others : (s : ℕ) (w v : TableState) (n : ℕ) → n ≢ s → TableStep s w v → v.task n ≡ w.task n
 step_others s w v n apart step = settles_others s step.between v n apart step.settles ∙ does_others s w step.between n apart step.does
 
 -- a step that refuses its statement leaves it at nothing
@@ -107,7 +107,7 @@ onward_rests w _ _ is (Scanned scan read nothing) = refl
 onward_rests w _ _ is (ToMarks scan id rest read looks deletes lists) = absurd (cc)
 onward_rests w _ _ is (Marked scan) = refl
 
-settles_rests : (s : ℕ) (w v : TableState) → w.task s ≡ Resting → Settles s w v → v.task s ≡ Resting
+pub settles_rests : (s : ℕ) (w v : TableState) → w.task s ≡ Resting → Settles s w v → v.task s ≡ Resting
 settles_rests s w v rests (GoesOn old new onward turns only) = turns.now ∙ onward_rests w old new (sym turns.was ∙ rests) onward
 settles_rests s w v rests (GivesLock old done turns given rows indexes) = turns.now
 
@@ -175,7 +175,7 @@ pub record Goes (layout : DiskLayout) (p : Place) (n : ℕ) (statement : Stateme
 recounted : (w v : TableState) → Recounts w v → IsTableKept (calm w) → IsTableKept (calm v)
 recounted w v again kept = subst (λ (x : TableState). IsTableKept (calm x)) (sym again.1) kept
 
-recounted_task : (w v : TableState) (n : ℕ) → Recounts w v → v.task n ≡ w.task n
+pub recounted_task : (w v : TableState) (n : ℕ) → Recounts w v → v.task n ≡ w.task n
 recounted_task w v n again = ap (λ (x : TableState). x.task n) again.1
 
 -- a step that has a name, or refuses

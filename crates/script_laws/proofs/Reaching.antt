@@ -12,11 +12,11 @@ use Rattle.store_layout.specs.DiskLayout.{DiskLayout}
 use Rattle.store_layout.specs.FirstBrokenRule.{KeepsLimits}
 use Rattle.coverage.specs.Table.{Resting, TableState}
 use Rattle.coverage.specs.TableCovered.{IsNewTable, IsTableAtRest, IsTableCovered, IsTableKept}
-use Rattle.script_semantics.specs.LineTexts.{NotTaken, Submits, Taken, WantsMemory, in_hand_refusal, named, or_else, with_statement}
+use Rattle.script_semantics.specs.LineTexts.{NotTaken, Submits, Taken, WantsMemory, in_hand_refusal, or_else, with_statement}
 use Rattle.script_semantics.specs.Place.{Hand, Place, new_hand}
 use Rattle.script_semantics.specs.Starts.{IsOpening, IsStart}
 use Rattle.script_semantics.specs.StatementSteps.{AtOnce, Begin, Commit, GoesOn, IsAtOnce, IsRefused, IsWaiting, LacksMemoryAtOnce, MeetsConflict, NoNumber, NothingAsked, Outcome, Replies, Rollback, Steps, StepsTo}
-use Rattle.script_laws.specs.Reached.{AtOpening, AtStart, BehindName, BehindStep, BehindSubmit, IsReached}
+use Rattle.script_laws.specs.Reached.{AtOpening, AtStart, BehindNames, BehindStep, BehindSubmit, IsReached}
 use Rattle.script_laws.proofs.Calm.{calm, calmed, rest_calm, covered_calm}
 use Rattle.script_laws.proofs.Fits.{AreOfTables, IsHome, IsOfTables}
 use Rattle.script_laws.proofs.Orderly.{AreKept, IsOrderly, goes, orderly_then, over, rests, rests_nowhere, rests_still, stays, step_refused}
@@ -112,8 +112,8 @@ module _ (keeps : AreKept) (layout : DiskLayout) (limits : KeepsLimits layout.sc
 
   -- ---- names
 
-  orderly_named : (p : Place) (name : List ℕ) → IsOrderly layout p → IsOrderly layout (named p name)
-  orderly_named p name o = record { same = o.same; kept = o.kept; idle = o.idle; fits = o.fits; home = o.home; alone = o.alone; asked = o.asked }
+  orderly_named : (p : Place) (names : List (List ℕ)) → IsOrderly layout p → IsOrderly layout (record p { names = names })
+  orderly_named p names o = record { same = o.same; kept = o.kept; idle = o.idle; fits = o.fits; home = o.home; alone = o.alone; asked = o.asked }
 
   -- ---- the first place
 
@@ -156,6 +156,6 @@ module _ (keeps : AreKept) (layout : DiskLayout) (limits : KeepsLimits layout.sc
   pub reached_is_orderly : BeginKept → (p : Place) → IsReached layout p → IsOrderly layout p
   reached_is_orderly kept _ (AtStart p start) = orderly_start kept.new p start
   reached_is_orderly kept _ (AtOpening opening p start) = orderly_opening kept.opened opening p start
-  reached_is_orderly kept _ (BehindName p name reached) = orderly_named p name (reached_is_orderly kept p reached)
+  reached_is_orderly kept _ (BehindNames p names reached) = orderly_named p names (reached_is_orderly kept p reached)
   reached_is_orderly kept _ (BehindSubmit p q n statement told reached fits submits) = orderly_submit p n statement told q (reached_is_orderly kept p reached) fits submits
   reached_is_orderly kept _ (BehindStep p q n outcome reached step) = orderly_steps p n outcome q (reached_is_orderly kept p reached) step

@@ -18,7 +18,7 @@ use Rattle.script_semantics.specs.Requests.{Course, next_request}
 use Rattle.script_semantics.specs.StatementSteps.{AtOnce, GoesOn, IsRefused, IsWaiting, LacksMemoryAtOnce, MakesAt, MeetsConflict, NoNumber, NothingAsked, Outcome, Replies, StepsTo}
 use Rattle.script_semantics.specs.Turns.{Leads, Turn, point_of}
 use Rattle.script_semantics.proofs.RowTurns.{row_is_insert}
-use Rattle.script_laws.specs.Reached.{AtOpening, AtStart, BehindName, BehindStep, BehindSubmit, IsReached}
+use Rattle.script_laws.specs.Reached.{AtOpening, AtStart, BehindNames, BehindStep, BehindSubmit, IsReached}
 
 -- a select puts no row
 puts_none : (p q : Place) (n : ℕ) (query : Query) (turn : Turn p n (statements.Select query) q) → point_of turn ≡ Some points.Row → ⊥
@@ -104,6 +104,6 @@ fresh_submit p n statement _ _ fresh (WantsMemory none may) = fresh
 pub reached_is_fresh : (layout : DiskLayout) (p : Place) → IsReached layout p → AreFresh p
 reached_is_fresh layout _ (AtStart p start) = λ n query answers has. absurd (none-some _ (sym (start.hands n) ∙ has))
 reached_is_fresh layout _ (AtOpening opening p start) = λ n query answers has. absurd (none-some _ (sym (start.hands n) ∙ has))
-reached_is_fresh layout _ (BehindName p name reached) = reached_is_fresh layout p reached
+reached_is_fresh layout _ (BehindNames p names reached) = reached_is_fresh layout p reached
 reached_is_fresh layout _ (BehindSubmit p q n statement told reached fits submits) = fresh_submit p n statement told q (reached_is_fresh layout p reached) submits
 reached_is_fresh layout _ (BehindStep p q n outcome reached step) = fresh_step p n step.hand outcome q (reached_is_fresh layout p reached) step.in_hand step.steps

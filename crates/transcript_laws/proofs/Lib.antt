@@ -6,3 +6,6 @@ pub mod Marking
 pub mod Steps
 pub mod Stepping
 pub mod Places
+pub mod Tasks
+pub mod InPlace
+pub mod Schedules

@@ -25,18 +25,19 @@ use Rattle.transcript_laws.specs.StepLaws.{IsAnswered, IsTold, limits_of}
 use Rattle.transcript_laws.proofs.Events.{updated_here, updated_there}
 use Rattle.transcript_laws.proofs.More.{others_ahead, same_copy, taken}
 use Rattle.transcript_laws.proofs.Stepping.{steps_told}
-use Rattle.transcript_laws.proofs.Steps.{begin_allowed}
+use Rattle.transcripts.proofs.Allowed.{begin_allowed}
 
-opening_stays : (p q : Place) (n : ℕ) (hand : Hand) (outcome : Outcome) → StepsTo p n hand outcome q → q.opening ≡ p.opening
-opening_stays p _ n hand _ (GoesOn point c q turn named busy makes leads) = leads.opening
-opening_stays p _ n hand _ (Replies point c reply q turn named rests all replied leads) = leads.opening
-opening_stays p _ n hand _ (MeetsConflict id c q turn named all replied leads) = leads.opening
-opening_stays p _ n hand _ (IsRefused why tag told q turn named so leads) = leads.opening
-opening_stays p _ n hand _ (AtOnce c reply q once all replied stay leads) = leads.opening
-opening_stays p _ n hand _ (NothingAsked q work rest empty stay leads) = leads.opening
-opening_stays p _ n hand _ (LacksMemoryAtOnce q may rest stay leads) = leads.opening
-opening_stays p _ n hand _ (NoNumber q begin number stay leads) = leads.opening
-opening_stays p _ n hand _ (IsWaiting table told on own blocked waits) = refl
+-- layout and opening stay
+pub both_stay : (p q : Place) (n : ℕ) (hand : Hand) (outcome : Outcome) → StepsTo p n hand outcome q → (q.layout ≡ p.layout) × (q.opening ≡ p.opening)
+both_stay p _ n hand _ (GoesOn point c q turn named busy makes leads) = (leads.layout, leads.opening)
+both_stay p _ n hand _ (Replies point c reply q turn named rests all replied leads) = (leads.layout, leads.opening)
+both_stay p _ n hand _ (MeetsConflict id c q turn named all replied leads) = (leads.layout, leads.opening)
+both_stay p _ n hand _ (IsRefused why tag told q turn named so leads) = (leads.layout, leads.opening)
+both_stay p _ n hand _ (AtOnce c reply q once all replied stay leads) = (leads.layout, leads.opening)
+both_stay p _ n hand _ (NothingAsked q work rest empty stay leads) = (leads.layout, leads.opening)
+both_stay p _ n hand _ (LacksMemoryAtOnce q may rest stay leads) = (leads.layout, leads.opening)
+both_stay p _ n hand _ (NoNumber q begin number stay leads) = (leads.layout, leads.opening)
+both_stay p _ n hand _ (IsWaiting table told on own blocked waits) = (refl, refl)
 
 -- all but one stay, so they are the old ones with that one new
 but_one : {A : Type 0} (f g : ℕ → A) (n : ℕ) (x : A) → g n ≡ x → ((m : ℕ) → (m ≡ n) ⊎ (g m ≡ f m)) → updated f n x ≡ g
@@ -53,7 +54,7 @@ pub place_told : (p q : Place) (s : DatabaseState) (next : ℕ → Option Statem
 place_told p q s next n hand outcome opens was has enters step =
     subst (λ (h : ℕ → Option Hand). IsTold (limits_of p.layout) next h (database_at q) s n hand.statement outcome)
     (but_one p.hands q.hands n (q.hands n) refl (enters_its_own p q n hand outcome step).others)
-    (subst (λ (o : DatabaseState). IsTold (limits_of p.layout) next (updated p.hands n (q.hands n)) (serial_run o q.journal) s n hand.statement outcome) (sym (opening_stays p q n hand outcome step))
+    (subst (λ (o : DatabaseState). IsTold (limits_of p.layout) next (updated p.hands n (q.hands n)) (serial_run o q.journal) s n hand.statement outcome) (sym (both_stay p q n hand outcome step).1)
     (steps_told p.layout p.opening s next p.hands n hand (q.hands n) p.journal q.journal outcome opens was has enters))
 
 -- ---- submissions

@@ -43,7 +43,8 @@ use Rattle.transcript_laws.proofs.Events.{puts}
 use Rattle.transcript_laws.proofs.Marking.{AtMarks, all_marks, looked, mark_told}
 use Rattle.transcript_laws.proofs.More.{refused_inserts}
 use Rattle.transcript_laws.proofs.Standing.{IsMarked, IsNew, IsPut, Stands, all_none, all_one, stands, updated_twice}
-use Rattle.transcript_laws.proofs.Steps.{begin_all, begin_allowed, behind, commit_all, delete_allowed, fails, insert_allowed, others, outside_all, put_told, rollback_all, select_all, select_allowed, sound_at, stays}
+use Rattle.transcripts.proofs.Allowed.{begin_allowed, delete_allowed, insert_allowed, select_allowed, sound_at}
+use Rattle.transcript_laws.proofs.Steps.{begin_all, behind, commit_all, fails, others, outside_all, put_told, rollback_all, select_all, stays}
 
 no_answers : (a : Answer) (more : List Answer) → a ∷ more ≡ [] → ⊥
 no_answers a more e = cc

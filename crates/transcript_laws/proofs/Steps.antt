@@ -23,52 +23,13 @@ use Rattle.script_semantics.specs.Place.{Hand, updated}
 use Rattle.script_semantics.specs.Requests.{Course, MakesAll, entered, next_request}
 use Rattle.script_semantics.specs.StatementSteps.{numbers_of}
 use Rattle.transcripts.specs.Told.{IsOutside, IsSound, Limits, Outside, Tells}
+use Rattle.transcripts.proofs.Allowed.{begin_allowed, commit_allowed, end_is, insert_allowed, rollback_allowed, select_allowed, sound_at}
 use Rattle.transcript_laws.specs.Ahead.{IsAhead, IsCopyAhead}
 use Rattle.transcript_laws.specs.Laws.{NextStays}
 use Rattle.transcript_laws.specs.StepLaws.{IsAnswered, limits_of}
 use Rattle.transcript_laws.proofs.Events.{goes, inserts_told}
 use Rattle.transcript_laws.proofs.More.{begins, commits, failures, others_ahead, rollbacks, selects}
 use Rattle.transcript_laws.proofs.Standing.{all_none, all_one}
-
--- ---- what is taken has its transaction
-
--- an insert, a select or a delete: one that hasn't failed
-pub sound_at : (s : DatabaseState) (n : ℕ) (statement : Statement) → ((o : Option OpenTransaction) → submission_refusal o statement ≡ None → (x : OpenTransaction) × (o ≡ Some x) × (x.failed ≡ false))
-    → refusal_at s n statement ≡ None → (x : OpenTransaction) × IsSound s n x
-sound_at s n statement allows taken = let a = allows (map.get s.sessions n) taken in (a.0, record { under_way = a.1; whole = a.2 })
-
-not_failed : (b : Bool) → cond b (Some refusals.Doomed) None ≡ None → b ≡ false
-not_failed true e = absurd (none-some _ (sym e))
-not_failed false e = refl
-
-pub insert_allowed : (table : ℕ) (values : List Value) (o : Option OpenTransaction) → submission_refusal o (statements.Insert table values) ≡ None → (x : OpenTransaction) × (o ≡ Some x) × (x.failed ≡ false)
-insert_allowed table values None e = absurd (none-some _ (sym e))
-insert_allowed table values (Some x) e = (x, refl, not_failed x.failed e)
-
-pub select_allowed : (q : Query) (o : Option OpenTransaction) → submission_refusal o (statements.Select q) ≡ None → (x : OpenTransaction) × (o ≡ Some x) × (x.failed ≡ false)
-select_allowed q None e = absurd (none-some _ (sym e))
-select_allowed q (Some x) e = (x, refl, not_failed x.failed e)
-
-pub delete_allowed : (q : Query) (o : Option OpenTransaction) → submission_refusal o (statements.Delete q) ≡ None → (x : OpenTransaction) × (o ≡ Some x) × (x.failed ≡ false)
-delete_allowed q None e = absurd (none-some _ (sym e))
-delete_allowed q (Some x) e = (x, refl, not_failed x.failed e)
-
--- a begin: none; its end: one
-pub begin_allowed : (o : Option OpenTransaction) → submission_refusal o statements.Begin ≡ None → o ≡ None
-begin_allowed None e = refl
-begin_allowed (Some x) e = absurd (none-some _ (sym e))
-
-commit_allowed : (o : Option OpenTransaction) → submission_refusal o statements.Commit ≡ None → (x : OpenTransaction) × (o ≡ Some x)
-commit_allowed None e = absurd (none-some _ (sym e))
-commit_allowed (Some x) e = (x, refl)
-
-rollback_allowed : (o : Option OpenTransaction) → submission_refusal o statements.Rollback ≡ None → (x : OpenTransaction) × (o ≡ Some x)
-rollback_allowed None e = absurd (none-some _ (sym e))
-rollback_allowed (Some x) e = (x, refl)
-
-end_is : (failed : Bool) (reply : Reply) → Some reply ≡ end_reply ((if failed then RolledBack else Committed) ∷ []) → reply ≡ (if failed then replies.RolledBack else replies.Committed)
-end_is true reply e = same_Some _ _ e
-end_is false reply e = same_Some _ _ e
 
 module _ (layout : DiskLayout) (opening s : DatabaseState) (next : ℕ → Option Statement) (hands : ℕ → Option Hand) (n : ℕ) (journal : List Entry) (opens : IsOpening opening)
     (was : IsAhead next hands (serial_run opening journal) s) where

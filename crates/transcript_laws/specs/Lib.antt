@@ -3,3 +3,5 @@ pub mod Laws
 pub mod StepLaws
 pub mod PlaceLaws
 pub mod EntryLaws
+pub mod Schedule
+pub mod ScheduleLaws

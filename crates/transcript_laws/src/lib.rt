@@ -1,12 +1,15 @@
 //! Laws of transcripts over the definition of steps: how the journal of the steps is ahead of the transcript (specs/Ahead), and that each step keeps it so or tells the
-//! transcript its next entry. It stands on transcripts, script_semantics and model_laws. Each function does nothing.
+//! transcript its next entry; so what a schedule of sessions has told is a right transcript (specs/Schedule). It stands on transcripts, script_semantics, script_laws and
+//! model_laws. Each function does nothing.
 #![tactic(auto)]
 
 ghost use Rattle.transcript_laws.specs.Laws.{BeginsAreTold, CommitsAreTold, ConflictsAreTold, DeletesAreTold, FailedDeletesAreTold, FailuresStayAhead, InsertsAreTold, LooksStayAhead, MarkedRowsAreFree, MarksStayAhead, OthersStayAhead, PutsStayAhead, RefusedInsertsAreTold, RollbacksAreTold, SelectsAreTold, StatementsAreTaken};
 ghost use Rattle.transcript_laws.specs.EntryLaws.{AnswersAreEntries, BeginsAhead};
 ghost use Rattle.transcript_laws.specs.PlaceLaws.{PlacesAreTold, RefusedIsTold, TakenIsAhead};
+ghost use Rattle.transcript_laws.specs.ScheduleLaws.{AnswersAreInPlace, OnlyInsertsDrop, SchedulesAreReached, SchedulesAreTranscripts};
 ghost use Rattle.transcript_laws.specs.StepLaws.{StepsAreTold};
 
+use coverage::table_stays_covered;
 use script_semantics::a_step_enters;
 
 /// The rows that a delete in hand has marked must not conflict where its answer stands; and a row that it can't mark must, or may. Does nothing.
@@ -62,3 +65,24 @@ pub fn an_answer_is_an_entry()
     ensures begins { BeginsAhead }
     ensures entry { AnswersAreEntries }
 {}
+
+/// Wherever a script comes, the answers of each statement in hand fit what it is at in its table; and a statement that ends has dropped no request, unless it is an
+/// insert. Does nothing.
+pub fn answers_are_in_place()
+    ensures place { AnswersAreInPlace }
+    ensures drops { OnlyInsertsDrop }
+{
+    table_stays_covered();
+}
+
+/// In whatever order sessions submit their lines and make their steps, beside each other: what was answered so far, entry by entry, is a right transcript, and its table
+/// is that of the requests so far. All laws of places to which a script comes hold there too. Does nothing.
+pub fn schedules_are_transcripts()
+    ensures reached { SchedulesAreReached }
+    ensures told { SchedulesAreTranscripts }
+{
+    a_step_is_told();
+    a_submission_is_told();
+    an_answer_is_an_entry();
+    answers_are_in_place();
+}

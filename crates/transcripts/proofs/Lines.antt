@@ -47,11 +47,11 @@ within g (x ∷ xs) zero y is = omega arith
 within g (x ∷ xs) (suc i) y is = let h = within g xs i y is in omega arith
 
 pub none_twice : NoneSaidTwice
-none_twice limits script opening _ _ n Empty = omega arith
-none_twice limits script opening _ _ n (Further said s after e statement before next tells) =
+none_twice limits names script opening _ _ n Empty = omega arith
+none_twice limits names script opening _ _ n (Further said s after e statement reply before next text tells) =
     elim (cases_eq e.session n) [
       | inr other ↦ subst (λ (l : List Said). length l ≤ length (lines_of n script)) (sym (left_out (λ (x : Said). x.session == n) said e (ne_eqb e.session n other)))
-          (none_twice limits script opening s said n before)
+          (none_twice limits names script opening s said n before)
       | inl same ↦ subst (λ k. k ≤ length (lines_of n script)) (sym (one_more (λ (x : Said). x.session == n) said e (eq-eqb e.session n same)))
           (within (λ (line : Line). line.statement) (lines_of n script) (length (entries_of n said)) statement
           (subst (λ k. next_statement script said k ≡ Some statement) same (next_is_said script said e.session e.line statement next)))

@@ -1,8 +1,13 @@
 -- The transcript of a script whose sessions work beside each other: one entry after the other, as each answer was kept.
-use Rattle.std.specs.Prelude.{◌≡◌, ℕ, ◌==◌, List, [], ◌∷◌, ◌++◌, map, filter, length, take, slice_get, Option, Some}
+use Rattle.std.specs.Prelude.{◌≡◌, ℕ, ◌==◌, List, [], ◌∷◌, ◌++◌, map, filter, length, take, slice_get, slice_index_or, Option, Some}
 use Rattle.block_model.specs.declared.reply.Reply.{Reply}
+use Rattle.block_model.specs.declared.value.Value.{Value}
 use Rattle.block_model.specs.DatabaseState.{DatabaseState}
+use Rattle.reply_texts.specs.declared.dropped.Dropped.{Dropped}
+use Rattle.reply_texts.specs.DroppedTexts.{dropped_text}
+use Rattle.reply_texts.specs.Texts.{reply_text}
 use Rattle.store_layout.specs.declared.statement.Statement.{Statement}
+use Rattle.store_layout.specs.declared.statement.Statement.TheVariants as statements
 use Rattle.transcripts.specs.Told.{Limits, Tells}
 
 -- a line of the script: whose it is, and what it says
@@ -10,11 +15,11 @@ pub record Line : Type 0 where
   pub session : ℕ
   pub statement : Statement
 
--- an entry: the session, the number of its line in the script, and what it was answered
+-- an entry: the session, the number of its line in the script, and the text that it was answered with
 pub record Said : Type 0 where
   pub session : ℕ
   pub line : ℕ
-  pub reply : Reply
+  pub text : List ℕ
 
 -- the lines, and the entries, of session n
 abbrev pub lines_of : ℕ → List Line → List Line
@@ -32,9 +37,15 @@ pub record IsNext (script : List Line) (said : List Said) (n number : ℕ) (stat
   pub is : slice_get script number ≡ Some (record { session = n; statement = statement })
   pub rank : length (lines_of n (take number script)) ≡ length (entries_of n said)
 
--- From the opening on each entry answers its session's next line, as a whole statement in the database of the entries before it; and they lead to that database.
-pub data IsTranscript (limits : Limits) (script : List Line) (opening : DatabaseState) : List Said → DatabaseState → Type 0 where
-  Empty : IsTranscript limits script opening [] opening
-  Further : (said : List Said) (s after : DatabaseState) (e : Said) (statement : Statement) → IsTranscript limits script opening said s
-      → IsNext script said e.session e.line statement → Tells limits (next_statement script said) s e.session statement e.reply after
-      → IsTranscript limits script opening (said ++ e ∷ []) after
+-- the text of a reply to the session of that name; an insert's alone may have lines of dropped requests before it
+pub data IsTextOf (name : List ℕ) (reply : Reply) : Statement → List ℕ → Type 0 where
+  OfReply : (statement : Statement) → IsTextOf name reply statement (reply_text name reply)
+  BehindDropped : (table : ℕ) (values : List Value) (dropped : List Dropped) → IsTextOf name reply (statements.Insert table values) (dropped_text dropped ++ reply_text name reply)
+
+-- From the opening on each entry has the text of an answer to its session's next line, as a whole statement in the database of the entries before it; and they lead to that
+-- database. The sessions have these names.
+pub data IsTranscript (limits : Limits) (names : List (List ℕ)) (script : List Line) (opening : DatabaseState) : List Said → DatabaseState → Type 0 where
+  Empty : IsTranscript limits names script opening [] opening
+  Further : (said : List Said) (s after : DatabaseState) (e : Said) (statement : Statement) (reply : Reply) → IsTranscript limits names script opening said s
+      → IsNext script said e.session e.line statement → IsTextOf (slice_index_or names e.session []) reply statement e.text
+      → Tells limits (next_statement script said) s e.session statement reply after → IsTranscript limits names script opening (said ++ e ∷ []) after

@@ -9,8 +9,8 @@ pub returns-clause-begins : goal.returns-clause-begins
 returns-clause-begins c = begins_ahead
 
 pub returns-clause-entry : goal.returns-clause-entry
-returns-clause-entry c = λ limits script opening d s said hands e statement before next answered. (
+returns-clause-entry c = λ limits names script opening d s said hands e statement reply before next text answered. (
   answered.0,
-  Further said s answered.0 e statement before next answered.1,
+  Further said s answered.0 e statement reply before next text answered.1,
   answered.2 (next_statement script (said ++ e ∷ [])) (λ m other. others_stay script said e m other),
 )
