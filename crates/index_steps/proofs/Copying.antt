@@ -1,25 +1,23 @@
 -- bytes of a range at a spot, as the protocol sees them there
-use Rattle.std.proofs.Common.{◌≡◌, inl, inr, ℕ, ◌<◌, ◌^◌, Bool, List, length, Some, refl, sym, ap, subst, ◌∙◌, arith}
+use Rattle.std.proofs.Common.{◌≡◌, inl, inr, ℕ, ◌<◌, ◌^◌, Bool, List, length, Some, refl, sym, ap, ◌∙◌, arith}
 use Rattle.std.specs.Prelude.{if◌then◌else◌, Ok, Err}
 use Rattle.std.proofs.lemmas.Bool.{cases_lt, le-ltb, lt-ltb}
 use Rattle.block_model.specs.declared.place.Spot.{Spot}
 use Rattle.byte_fields.specs.Fields.{field_at, number_of}
-use Rattle.store_layout.specs.DiskLayout.{DiskLayout}
 use Rattle.disk_trait.specs.Told.{Told}
 use Rattle.page_map.specs.declared.faults.StoreError.{StoreError}
 use Rattle.page_map.specs.declared.faults.StoreError.TheVariants as errors
-use Rattle.page_map.specs.Outcome.{NamesPage, Refused}
+use Rattle.page_map.specs.Outcome.{Refused}
 use Rattle.page_map.specs.PageMap.{View}
 use Rattle.opclass_any.specs.declared.classes.AnyClass.{AnyClass}
 use Rattle.range_tuple.specs.TupleBytes.{tuple_bytes}
 use Rattle.range_tuple.specs.TupleReading.{is_there, read_of, tuple_in}
 use Rattle.range_tuple.specs.Tuples.{Tuple}
 use Rattle.range_store.specs.Tuples.{IsOfRange}
-use Rattle.coverage.specs.IndexView.{IndexTuple, map_page_of}
-use Rattle.index_contents.specs.IndexContents.{IndexContents, relation_of}
-use Rattle.revmap.specs.MapEntries.{NamesMap}
+use Rattle.coverage.specs.IndexView.{IndexTuple}
+use Rattle.index_contents.specs.IndexContents.{IndexContents}
 use Rattle.index_steps.specs.IndexTuples.{IndexShape, classes_of, range_said}
-use Rattle.index_steps.specs.Readings.{IsMisnamed, IsMisread, IsReadAs, NamesPageOf, ShowsGone, ShowsTuple}
+use Rattle.index_steps.specs.Readings.{IsMisnamed, IsMisread, IsReadAs, ShowsGone, ShowsTuple}
 use Rattle.index_steps.proofs.Views.{seen_range, seen_there, stands_by}
 
 -- a tuple of the range begins with its number
@@ -67,19 +65,3 @@ pub refused_for : {D : Type 0} (told : D → Told) (Cause Other : Type 0) (old n
 refused_for told Cause Other old new errors.Disk weaker refused = refused
 refused_for told Cause Other old new (errors.Reopen faults) weaker refused = refused
 refused_for told Cause Other old new (errors.Damaged at) weaker (was, now, more, cause) = (was, now, more, weaker cause)
-
--- the page at which damage is told
-pub names_page : (layout other : DiskLayout) (index block : ℕ) (error : StoreError) → other ≡ layout → NamesPage other (record { relation = relation_of other index; block = block }) error → NamesPageOf layout index error
-names_page layout other index block error same names = names_of layout index block error (subst (λ (l : DiskLayout). NamesPage l (record { relation = relation_of l index; block = block }) error) same names)
-  where
-    names_of : (layout : DiskLayout) (index block : ℕ) (error : StoreError) → NamesPage layout (record { relation = relation_of layout index; block = block }) error → NamesPageOf layout index error
-    names_of layout index block errors.Disk names = tt
-    names_of layout index block (errors.Reopen faults) names = tt
-    names_of layout index block (errors.Damaged at) names = (block, names)
-
--- a page of the map
-pub names_map : (layout : DiskLayout) (index range : ℕ) (error : StoreError) → NamesMap layout index range error → NamesPageOf layout index error
-names_map layout index range error names = elim (cases_lt (map_page_of range) layout.sizes.index_blocks) [
-  | inl below ↦ names_page layout layout index (map_page_of range) error refl (names.page below)
-  | inr above ↦ names_page layout layout index 0 error refl (names.metapage above)
-]

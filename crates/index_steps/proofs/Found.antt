@@ -3,26 +3,16 @@ use Rattle.std.proofs.Common.{◌≡◌, ℕ, Option, None, Some, List, refl, sy
 use Rattle.std.specs.Prelude.{replicate}
 use Rattle.store_layout.specs.DiskLayout.{DiskLayout}
 use Rattle.disk_trait.specs.Told.{Told}
-use Rattle.page_map.specs.declared.faults.StoreError.{StoreError}
-use Rattle.page_map.specs.declared.faults.StoreError.TheVariants as errors
 use Rattle.page_map.specs.Keeps.{Keeps, Tells}
-use Rattle.page_map.specs.Outcome.{NamesPage}
 use Rattle.page_map.specs.PageMap.{PageMap, View}
 use Rattle.index_layout.specs.declared.format.TheConstants.{MAP_ENTRIES}
 use Rattle.index_contents.specs.IndexContents.{index_page}
 use Rattle.index_contents.specs.MapLaws.{is_of_map}
-use Rattle.index_steps.specs.Readings.{NamesPageOf}
 use Rattle.index_steps.specs.declared.next.NextPage.{NextPage}
 use Rattle.index_steps.specs.declared.next.PageState.{PageState}
 use Rattle.index_steps.specs.declared.next.PageState.TheVariants as states
-use Rattle.index_steps.specs.NextPages.{IsEmptyMap, IsNext, IsOfState, StandsNext, place_in}
+use Rattle.index_steps.specs.NextPages.{IsEmptyMap, IsNext, IsOfState, StandsNext}
 use Rattle.index_steps.specs.StepCauses.{HasLeftOver}
-
--- a page of the index is named
-pub names_of : (layout : DiskLayout) (index : ℕ) (error : StoreError) → (block : ℕ) × NamesPage layout (place_in layout index block) error → NamesPageOf layout index error
-names_of layout index errors.Disk names = tt
-names_of layout index (errors.Reopen faults) names = tt
-names_of layout index (errors.Damaged at) names = names
 
 -- a call that changes no page leaves what stands there
 pub stands_still : {D : Type 0} (told : D → Told) (index block : ℕ) (state : PageState) (old mid : View D) → Keeps told old mid → Tells told old → StandsNext old.layout old.pages index block state → StandsNext mid.layout mid.pages index block state

@@ -1,6 +1,7 @@
 pub mod IndexTuples
 pub mod ShownIndex
 pub mod Readings
+pub mod DamagedPages
 pub mod SwapAnswers
 pub mod MoveEnds
 pub mod PlaceAnswers

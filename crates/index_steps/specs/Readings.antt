@@ -1,7 +1,7 @@
 -- what copying the tuple of a range answers
 use Rattle.std.specs.Prelude.{◌≡◌, ◌≢◌, ℕ, List, Option, None, Some}
 use Rattle.block_model.specs.declared.place.Spot.{Spot}
-use Rattle.store_layout.specs.DiskLayout.{DiskLayout, page_offset}
+use Rattle.store_layout.specs.DiskLayout.{DiskLayout, IsPlace, page_offset}
 use Rattle.page_map.specs.declared.faults.StoreError.{StoreError}
 use Rattle.page_map.specs.declared.faults.StoreError.TheVariants as errors
 use Rattle.range_tuple.specs.TupleBytes.{tuple_bytes}
@@ -33,9 +33,9 @@ pub record IsMisread (shape : IndexShape) (c : IndexContents) (range : ℕ) (x :
   pub of : range_said bytes ≡ range
   pub misread : tuple_in (classes_of shape) bytes ≡ None
 
--- damage is told by the byte at which a page of the index begins
+-- damage is told by the byte at which a page begins that the index may have
 abbrev pub NamesPageOf : DiskLayout → (index : ℕ) → StoreError → Type 0
-NamesPageOf layout index (errors.Damaged at) = (block : ℕ) × (at ≡ page_offset layout (record { relation = relation_of layout index; block = block }))
+NamesPageOf layout index (errors.Damaged at) = (block : ℕ) × IsPlace layout (record { relation = relation_of layout index; block = block }) × (at ≡ page_offset layout (record { relation = relation_of layout index; block = block }))
 NamesPageOf layout index error = Unit {0}
 
 -- bytes stand at the spot that begin with the number of the range

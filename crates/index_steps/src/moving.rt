@@ -43,6 +43,7 @@ pub fn name_moved<D: Disk + Drop>(
     ensures at { IfErr result (NamesPageOf pages.old.layout at.index) }
     ensures outcome { Outcome D.told (Untold D.told pages.old) pages.old pages.new result }
 {
+    pages.layout().known();
     match set(pages, at.index, at.range, Some(from), Some(to)) {
         Ok(()) => Ok(()),
         Err(SetFault::Changed { .. }) => Err(StoreError::Damaged {

@@ -12,6 +12,7 @@ ghost use Rattle.index_layout.specs.declared.format.TheConstants.{MAP};
 ghost use Rattle.index_layout.specs.IndexPages.{IsIndexPage};
 ghost use Rattle.index_layout.specs.IndexReading.{entries_of};
 ghost use Rattle.index_contents.specs.IndexContents.{contents};
+ghost use Rattle.index_steps.specs.Readings.{NamesPageOf};
 ghost use Rattle.index_steps.specs.NextPages.{HasEntry, IsEmptyMap, IsNext, IsNextDamaged, IsOfState, IsStray, damaged_block, place_in};
 
 use block_model::Place;
@@ -60,7 +61,7 @@ pub fn next_page<D: Disk + Drop>(
     ensures undamaged { OnOk result (Tells D.told pages.old → IsNextDamaged pages.old.layout pages.old.pages index → ⊥) }
     ensures kept { Keeps D.told pages.old pages.new }
     ensures survives { Survives D.told (λ passed. passed ≡ pages.old.pages) pages.old pages.new }
-    ensures at { IfErr result (λ error. (block : ℕ) × NamesPage pages.old.layout (place_in pages.old.layout index block) error) }
+    ensures at { IfErr result (NamesPageOf pages.old.layout index) }
     ensures named { IfErr result (λ error. Tells D.told pages.old → NamesPage pages.old.layout (place_in pages.old.layout index (damaged_block (contents pages.old.layout pages.old.pages index).pages)) error) }
     ensures outcome { Outcome D.told (Tells D.told pages.old → IsNextDamaged pages.old.layout pages.old.pages index) pages.old pages.new result }
 {

@@ -109,6 +109,7 @@ pub fn name_new<D: Disk + Drop>(
     ensures at { IfErr result (NamesPageOf pages.old.layout at.index) }
     ensures outcome { Outcome D.told (Untold D.told pages.old) pages.old pages.new result }
 {
+    pages.layout().known();
     match set(pages, at.index, at.range, None, Some(to)) {
         Ok(()) => {
             locks.drop_all(at.actor);

@@ -10,7 +10,7 @@ use Rattle.index_steps.specs.NextPages.{IsNextDamaged}
 use Rattle.page_map.specs.declared.faults.StoreError.TheVariants as errors
 use Rattle.index_steps.specs.Readings.{NamesPageOf}
 use Rattle.index_steps.specs.StepCauses.{HasLeftOver}
-use Rattle.index_steps.proofs.Found.{left_over_there, names_of, not_left_over, stands_still}
+use Rattle.index_steps.proofs.Found.{left_over_there, not_left_over, stands_still}
 use Rattle.index_steps.specs.LockLaws.{same_apart, takes_none}
 use Rattle.index_steps.proofs.Onward.{called_on, called_too, refused_too}
 use Rattle.index_steps.proofs.Refusals.{refused}
@@ -20,7 +20,7 @@ pub returns-in-Err-clause-called : goal.returns-in-Err-clause-called
 returns-in-Err-clause-called g c = λ was.
     let store = c.args.pages.now in
     refused g.D.Disk.told store c.next_page.new.pages c.next_page.ensures.kept c.args.actor c.next_page.ensures.survives (Tells g.D.Disk.told store → HasLeftOver store.layout store.pages c.args.index → ⊥) (hand_at c.args.index stages.Count was) was c.args.locks.now c.args.locks.now c.in-Err.error
-    (same_apart (relation_of store.layout c.args.index) c.args.actor (holder c.args.locks.now)) (takes_none 0 c.args.locks.now c.args.actor) (names_of store.layout c.args.index c.in-Err.error c.in-Err.ensures.at)
+    (same_apart (relation_of store.layout c.args.index) c.args.actor (holder c.args.locks.now)) (takes_none 0 c.args.locks.now c.args.actor) c.in-Err.ensures.at
     (refused_too g.D.Disk.told (Tells g.D.Disk.told store → IsNextDamaged store.layout store.pages c.args.index) (Tells g.D.Disk.told store → HasLeftOver store.layout store.pages c.args.index → ⊥) store c.next_page.new.pages c.in-Err.error
     (λ damaged tells left. c.a_page_of_a_state_is_not_damaged.ensures store.layout store.pages c.args.index _ states.LeftOver left (damaged tells)) c.in-Err.ensures.outcome)
 

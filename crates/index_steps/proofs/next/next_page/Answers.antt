@@ -4,6 +4,7 @@ use Rattle.store_layout.specs.DiskLayout.{DiskLayout}
 use Rattle.page_map.specs.Outcome.{NamesPage}
 use Rattle.index_contents.specs.IndexContents.{contents, relation_of}
 use Rattle.index_steps.proofs.Behind.{begins, counted_there, damaged_meta, damaged_next, damaged_there, none_damaged, none_past, stands_next}
+use Rattle.index_steps.specs.DamagedPages.{names_there}
 use Rattle.index_steps.proofs.next.next_page.Goals as goal
 
 pub returns-then-counted-eq0-clause-named : goal.returns-then-counted-eq0-clause-named
@@ -76,8 +77,8 @@ returns-in-Ok-None-clause-outcome g c =
     )
 
 pub returns-in-Err-state_at-clause-at : goal.returns-in-Err-state_at-clause-at
-returns-in-Err-state_at-clause-at g c = (
-  c.map_pages-counted.result + 1,
-  subst (λ (r : ℕ). NamesPage c.args.pages.now.layout (record { relation = r; block = c.map_pages-counted.result + 1 }) c.in-Err-state_at.error)
-      (c.relation_of-relation.ensures.number ∙ ap (λ (l : DiskLayout). relation_of l c.args.index) c.layout-2.ensures) c.in-Err-state_at.ensures.at,
-)
+returns-in-Err-state_at-clause-at g c =
+    let store = c.args.pages.now in
+    let blocks = ap (λ (s : Sizes). s.index_blocks) (c.sizes.ensures ∙ ap (λ (l : DiskLayout). l.sizes) c.layout-3.ensures) in
+    names_there store.layout c.args.index c.relation_of-relation.result (c.map_pages-counted.result + 1) c.in-Err-state_at.error (c.relation_of-relation.ensures.number ∙ ap (λ (l : DiskLayout). relation_of l c.args.index) c.layout-2.ensures) c.requires.index (omega (arith, c.if-counted-sizes.false, blocks))
+    c.in-Err-state_at.ensures.at

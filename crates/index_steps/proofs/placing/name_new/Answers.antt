@@ -1,7 +1,9 @@
+use Rattle.std.proofs.Common.{subst}
+use Rattle.store_layout.specs.DiskLayout.{DiskLayout, HasBoundedSizes}
 use Rattle.index_contents.specs.IndexContents.{contents, relation_of}
 use Rattle.page_locks.specs.LockHolders.{holder}
 use Rattle.index_steps.specs.IndexTuples.{shape_of}
-use Rattle.index_steps.proofs.Copying.{names_map}
+use Rattle.index_steps.specs.DamagedPages.{names_map}
 use Rattle.index_steps.specs.LockLaws.{gives_apart}
 use Rattle.index_steps.proofs.NewTuples.{new_names, placing_holds, placing_past}
 use Rattle.index_steps.proofs.placing.name_new.Goals as goal
@@ -27,4 +29,5 @@ pub returns-in-Ok-clause-apart : goal.returns-in-Ok-clause-apart
 returns-in-Ok-clause-apart g c = gives_apart (relation_of c.args.pages.now.layout c.args.at.index) c.args.at.actor (holder c.args.locks.now) (holder c.drop_all.new.self) c.drop_all.ensures.given
 
 pub returns-in-Err-Store-clause-at : goal.returns-in-Err-Store-clause-at
-returns-in-Err-Store-clause-at g c = names_map c.args.pages.now.layout c.args.at.index c.args.at.range c.in-Err-Store.error (rw c.in-Err-Store.field-0-is at c.in-Err-Store.ensures.at)
+returns-in-Err-Store-clause-at g c = names_map c.args.pages.now.layout c.args.at.index c.args.at.range c.in-Err-Store.error c.requires.index
+    (subst (λ (l : DiskLayout). HasBoundedSizes l) c.layout.ensures c.known.ensures.sizes).some_index_blocks (rw c.in-Err-Store.field-0-is at c.in-Err-Store.ensures.at)

@@ -5,7 +5,8 @@ use Rattle.range_tuple.specs.TupleReading.{read_of}
 use Rattle.range_tuple.specs.Tuples.{parts_of}
 use Rattle.std.specs.Prelude.{Ok, Err}
 use Rattle.index_steps.specs.IndexTuples.{shape_of}
-use Rattle.index_steps.proofs.Copying.{is_misread, names_page, read_as, shows_gone, shows_tuple}
+use Rattle.index_steps.specs.DamagedPages.{names_page}
+use Rattle.index_steps.proofs.Copying.{is_misread, read_as, shows_gone, shows_tuple}
 use Rattle.index_steps.proofs.Damage.{none_misread, well_read}
 use Rattle.index_steps.proofs.reading.copy_tuple.Goals as goal
 
@@ -15,7 +16,7 @@ returns-in-Ok-false-clause-gone g c = λ is tells.
     shows_gone (shape_of old.layout c.args.index) (contents old.layout old.pages c.args.index) c.args.range c.args.spot (omega arith) (c.in-Ok-false.ensures.gone tells c.in-Ok-false.field-0-test)
 
 pub returns-in-Err-clause-at : goal.returns-in-Err-clause-at
-returns-in-Err-clause-at g c = names_page c.args.pages.now.layout c.args.pages.now.layout c.args.index c.args.spot.block c.in-Err.error refl c.in-Err.ensures.at
+returns-in-Err-clause-at g c = names_page c.args.pages.now.layout c.args.pages.now.layout c.args.index c.args.spot.block c.in-Err.error refl c.requires.index c.in-Err.ensures.reopen c.in-Err.ensures.at
 
 pub returns-in-Ok-clause-there : goal.returns-in-Ok-clause-there
 returns-in-Ok-clause-there g c = λ is tells.

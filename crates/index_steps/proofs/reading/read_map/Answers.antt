@@ -1,8 +1,11 @@
-use Rattle.std.proofs.Common.{refl, sym, ap, ◌∙◌, arith}
+use Rattle.std.proofs.Common.{◌≤◌, refl, sym, ap, subst, ◌∙◌, arith}
+use Rattle.store_layout.specs.DiskLayout.{DiskLayout}
+use Rattle.page_map.specs.Outcome.{IsReopen}
 use Rattle.index_contents.specs.IndexContents.{IndexContents, contents}
 use Rattle.coverage.specs.IndexView.{map_page_of}
 use Rattle.heap_rows.specs.SurvivesLaws.{survives_on}
-use Rattle.index_steps.proofs.Copying.{is_misnamed, names_page, said_of}
+use Rattle.index_steps.specs.DamagedPages.{names_page}
+use Rattle.index_steps.proofs.Copying.{is_misnamed, said_of}
 use Rattle.index_steps.specs.ShownIndex.{same_contents}
 use Rattle.index_steps.proofs.Damage.{unnamed, well_named}
 use Rattle.index_steps.proofs.reading.read_map.Goals as goal
@@ -29,10 +32,11 @@ returns-in-Ok-true-clause-stands g c = λ tells.
     (c.tuple_at.new.out, sym (ap (λ (e : IndexContents). e.bytes c.in-Ok-Some.spot) (same_contents g.D.Disk.told c.args.index old c.entry.new.pages kept tells)) ∙ found.0, said_of c.tuple_at.new.out c.args.range found.1)
 
 pub returns-in-Err-tuple_at-clause-at : goal.returns-in-Err-tuple_at-clause-at
-returns-in-Err-tuple_at-clause-at g c = names_page c.args.pages.now.layout c.entry.new.pages.layout c.args.index c.in-Ok-Some.spot.block c.in-Err-tuple_at.error c.entry.ensures.kept.leaves.layout c.in-Err-tuple_at.ensures.at
+returns-in-Err-tuple_at-clause-at g c = names_page c.args.pages.now.layout c.entry.new.pages.layout c.args.index c.in-Ok-Some.spot.block c.in-Err-tuple_at.error c.entry.ensures.kept.leaves.layout c.requires.index
+    (subst (λ (l : DiskLayout). l.sizes.index_blocks ≤ c.in-Ok-Some.spot.block → IsReopen c.in-Err-tuple_at.error) c.entry.ensures.kept.leaves.layout c.in-Err-tuple_at.ensures.reopen) c.in-Err-tuple_at.ensures.at
 
 pub returns-in-Err-clause-at : goal.returns-in-Err-clause-at
-returns-in-Err-clause-at g c = names_page c.args.pages.now.layout c.args.pages.now.layout c.args.index (map_page_of c.args.range) c.in-Err.error refl c.in-Err.ensures.at
+returns-in-Err-clause-at g c = names_page c.args.pages.now.layout c.args.pages.now.layout c.args.index (map_page_of c.args.range) c.in-Err.error refl c.requires.index c.in-Err.ensures.reopen c.in-Err.ensures.at
 
 pub returns-in-Ok-None-clause-undamaged : goal.returns-in-Ok-None-clause-undamaged
 returns-in-Ok-None-clause-undamaged g c = λ tells.
