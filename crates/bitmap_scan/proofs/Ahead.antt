@@ -23,6 +23,7 @@ use Rattle.heap_rows.specs.StoredRows.{stored_from, stored_rows}
 use Rattle.page_map.specs.declared.faults.MachineFault.TheVariants as faults
 use Rattle.bitmap_scan.specs.Finds.{FaultNamesRead, FindHand, FindSteps, IsFindOf, IsNext, Sight, did_at, visible_matches}
 use Rattle.bitmap_scan.specs.LooksAhead.{ComesTo, NextIs}
+use Rattle.bitmap_scan.specs.ScanAnswers.{NamesNoPage}
 use Rattle.bitmap_scan.specs.ScanSteps.{point_at}
 use Rattle.bitmap_scan.proofs.Finding.{comes_to, goes_on, reads_on}
 use Rattle.bitmap_scan.proofs.Next.{ReadsNext, candidate_within}
@@ -96,5 +97,10 @@ goes_to_range layout pages old ahead comes sight = (
 -- a disk fault of an earlier call names no page
 pub names_reopen : (layout : DiskLayout) (table block : ℕ) (error : StoreError) → IsReopen error → FaultNamesRead layout table block (faults.Store error)
 names_reopen layout table block errors.Disk none = absurd none
-names_reopen layout table block (errors.Reopen n) reopen = inl tt
+names_reopen layout table block (errors.Reopen n) reopen = inr tt
 names_reopen layout table block (errors.Damaged at) none = absurd none
+
+pub names_none : (error : StoreError) → IsReopen error → NamesNoPage (faults.Store error)
+names_none errors.Disk none = tt
+names_none (errors.Reopen n) reopen = tt
+names_none (errors.Damaged at) none = none

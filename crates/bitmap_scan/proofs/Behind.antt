@@ -1,5 +1,5 @@
 -- a refusal behind reads that were done
-use Rattle.std.proofs.Common.{◌≡◌, ℕ, inr, sym, subst, ◌∙◌, arith}
+use Rattle.std.proofs.Common.{◌≡◌, ◌<◌, ℕ, length, inl, inr, sym, subst, ◌∙◌, arith}
 use Rattle.std.specs.Prelude.{None, Some, Err}
 use Rattle.block_model.specs.Causes.{rose_earlier}
 use Rattle.disk_trait.specs.Told.{Told}
@@ -8,10 +8,12 @@ use Rattle.page_map.specs.declared.faults.MachineFault.TheVariants as faults
 use Rattle.page_map.specs.declared.faults.StoreError.{StoreError}
 use Rattle.page_map.specs.declared.faults.StoreError.TheVariants as errors
 use Rattle.page_map.specs.Keeps.{Leaves, Untold}
-use Rattle.page_map.specs.Outcome.{Refused}
+use Rattle.page_map.specs.Outcome.{NamesPage, Refused}
 use Rattle.page_map.specs.PageMap.{View}
 use Rattle.store_layout.specs.DiskLayout.{DiskLayout}
+use Rattle.heap_rows.specs.Heaps.{relation_of}
 use Rattle.tx_table.specs.LeavesRest.{NamesStatuses}
+use Rattle.index_steps.specs.DamagedPages.{table_place}
 use Rattle.bitmap_scan.specs.Finds.{FaultNamesRead, FaultNamesStatuses, FindOutcome}
 
 refused_behind : {D : Type 0} (told : D → Told) (first mid new : View D) (error : StoreError) → Leaves told first mid → first.failed ≡ None → mid.failed ≡ None → Refused told (Untold told mid) mid new error → Refused told (Untold told first) first new error
@@ -24,6 +26,11 @@ pub find_behind : {D : Type 0} (T : Type 0) (told : D → Told) (first mid new :
 find_behind T told first mid new b faults.Memory leaves none ready outcome = (none, outcome.1)
 find_behind T told first mid new b (faults.Full relation number) leaves none ready outcome = absurd outcome
 find_behind T told first mid new b (faults.Store error) leaves none ready outcome = refused_behind told first mid new error leaves none ready outcome
+
+-- damage is told by the page of the block, which the table may have
+pub names_block : (layout : DiskLayout) (table block : ℕ) (error : StoreError) → table < length layout.schema.tables → block < layout.sizes.heap_blocks → NamesPage layout (record { relation = relation_of table; block = block }) error
+    → FaultNamesRead layout table block (faults.Store error)
+names_block layout table block error there below names = inl (table_place layout table block there below, names)
 
 -- damage of a page of statuses is damage that a read of a block finds
 pub names_behind : (old mid : DiskLayout) (table block : ℕ) (fault : MachineFault) → mid ≡ old → FaultNamesStatuses mid fault → FaultNamesRead old table block fault

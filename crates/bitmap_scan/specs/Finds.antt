@@ -7,7 +7,7 @@ use Rattle.block_model.specs.declared.row.Query.{Query}
 use Rattle.block_model.specs.declared.row.Row.{Row}
 use Rattle.block_model.specs.RowMatches.{row_matches}
 use Rattle.disk_trait.specs.Told.{Told}
-use Rattle.store_layout.specs.DiskLayout.{DiskLayout}
+use Rattle.store_layout.specs.DiskLayout.{DiskLayout, IsPlace}
 use Rattle.page_layout.specs.PageContents.{Slot}
 use Rattle.page_layout.specs.RowBytes.{StoredRow}
 use Rattle.page_map.specs.declared.faults.MachineFault.{MachineFault}
@@ -152,9 +152,10 @@ abbrev pub FaultNamesStatuses : DiskLayout → MachineFault → Type 0
 FaultNamesStatuses layout (faults.Store error) = NamesStatuses layout error
 FaultNamesStatuses layout fault = Unit {0}
 
--- or the page of the block that is read
+-- or the page of the block that is read, which the table may have
 abbrev pub FaultNamesRead : DiskLayout → (table block : ℕ) → MachineFault → Type 0
-FaultNamesRead layout table block (faults.Store error) = NamesPage layout (record { relation = relation_of table; block = block }) error ⊎ NamesStatuses layout error
+FaultNamesRead layout table block (faults.Store error) =
+    (IsPlace layout (record { relation = relation_of table; block = block }) × NamesPage layout (record { relation = relation_of table; block = block }) error) ⊎ NamesStatuses layout error
 FaultNamesRead layout table block fault = Unit {0}
 
 -- or, while ranges are judged, a page of the index whose range it is

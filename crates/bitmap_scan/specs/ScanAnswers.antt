@@ -4,6 +4,7 @@ use Rattle.store_layout.specs.DiskLayout.{DiskLayout}
 use Rattle.disk_trait.specs.Told.{Told}
 use Rattle.page_map.specs.declared.faults.MachineFault.{MachineFault}
 use Rattle.page_map.specs.declared.faults.MachineFault.TheVariants as faults
+use Rattle.page_map.specs.declared.faults.StoreError.TheVariants as errors
 use Rattle.page_map.specs.Outcome.{Outcome, Refused}
 use Rattle.page_map.specs.PageMap.{PageMap, View}
 use Rattle.page_locks.specs.declared.did.Did.{Did}
@@ -36,11 +37,16 @@ IsDamagedAt layout pages indexes (stages.Tuple at range spot) =
     IsMisread (shape_of layout (scanned_at indexes at).number) (contents layout pages (scanned_at indexes at).number) range spot
 IsDamagedAt layout pages indexes stage = ⊥
 
--- damage is told by the byte at which a page of the index begins whose range is judged
+-- no damage is told
+abbrev pub NamesNoPage : MachineFault → Type 0
+NamesNoPage (faults.Store (errors.Damaged at)) = ⊥
+NamesNoPage fault = Unit {0}
+
+-- damage is told by the byte at which a page of the index begins whose range is judged; where none is judged no page is read
 abbrev pub NamesPageAt : DiskLayout → List ScannedIndex → Stage → MachineFault → Type 0
 NamesPageAt layout indexes (stages.Map at range) fault = FaultNamesPageOf layout (scanned_at indexes at).number fault
 NamesPageAt layout indexes (stages.Tuple at range spot) fault = FaultNamesPageOf layout (scanned_at indexes at).number fault
-NamesPageAt layout indexes stage fault = Unit {0}
+NamesPageAt layout indexes stage fault = NamesNoPage fault
 
 -- A step is done or refused as the page store does or refuses its reads. No index is full for it, and it is never short of memory.
 abbrev pub ReadOutcome : {D T : Type 0} → (D → Told) → (Cause : Type 0) → View D → View D → Result T MachineFault → Type 0

@@ -15,7 +15,7 @@ ghost use Rattle.bitmap_scan.specs.IndexReaders.{all_scanned, hand_at, scanned};
 ghost use Rattle.bitmap_scan.specs.Judgings.{SaysOfRange};
 ghost use Rattle.bitmap_scan.specs.LooksAhead.{ComesTo};
 ghost use Rattle.bitmap_scan.specs.ScanHands.{IsAtRange, IsBegunAt, IsHand, IsJudging, IsScanOf, first_hand, scanned_indexes};
-ghost use Rattle.bitmap_scan.specs.ScanAnswers.{IsDamagedAt, NamesPageAt, ReadOutcome};
+ghost use Rattle.bitmap_scan.specs.ScanAnswers.{IsDamagedAt, NamesNoPage, NamesPageAt, ReadOutcome};
 ghost use Rattle.bitmap_scan.specs.ScanSteps.{JudgesTo};
 
 use crate::ranges::{begin_with, first_range, leave_out, next_range};
@@ -274,6 +274,7 @@ fn begin<D: Disk + Drop>(
     ensures room { length candidates.new ≡ length candidates.old }
     ensures same { OnErr result (candidates.new ≡ candidates.old) }
     ensures survives { Survives D.told (λ passed. passed ≡ pages.now.pages) pages.now pages.now }
+    ensures names { IfErr result NamesNoPage }
     ensures outcome { ReadOutcome D.told ⊥ pages.now pages.now result }
 {
     match pages.ready() {

@@ -121,8 +121,8 @@ module _ {D : Type 0} (told : D → Told) (shown_law : ShownIsImage) (commit_law
   }
   step_unmade (stops.Damaged at) leads cause hand survives whole = record {
     leaves = leaves;
-    cause = λ tells was. cause.3 tells;
-    places = λ tells was p shown. absurd (cause.3 tells);
+    cause = λ tells was. cause.0.3 tells;
+    places = λ tells was p shown. absurd (cause.0.3 tells);
   }
 
 -- what is kept of the fault
@@ -133,7 +133,7 @@ pub step_leaves : {D : Type 0} (told : D → Told) (s s' : StoreState D) (fault 
 step_leaves told s s' (stops.Spent entries) cause unchanged = unchanged
 step_leaves told s s' stops.Disk cause unchanged = kept s'.pages.failed _ cause.2
 step_leaves told s s' (stops.Reopen faults) cause unchanged = kept s'.pages.failed faults cause.1
-step_leaves told s s' (stops.Damaged at) cause unchanged = (cause.1, cause.3)
+step_leaves told s s' (stops.Damaged at) cause unchanged = (cause.0.1, cause.0.3)
 
 -- ---- all steps
 

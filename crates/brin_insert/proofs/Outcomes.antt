@@ -1,8 +1,8 @@
 -- what a step leaves, and when each error comes, by what its call says
-use Rattle.std.proofs.Common.{◌≡◌, ℕ, ◌/◌, false, List, Option, Some, sym, ap, subst, ◌∙◌}
+use Rattle.std.proofs.Common.{◌≡◌, ◌<◌, ℕ, ◌/◌, false, length, List, Option, Some, sym, ap, subst, ◌∙◌}
 use Rattle.std.specs.Prelude.{Err}
 use Rattle.block_model.specs.declared.place.Spot.{Spot}
-use Rattle.store_layout.specs.DiskLayout.{DiskLayout, page_offset}
+use Rattle.store_layout.specs.DiskLayout.{DiskLayout}
 use Rattle.disk_trait.specs.Told.{Told}
 use Rattle.page_layout.specs.PageContents.{Slot}
 use Rattle.page_map.specs.declared.faults.MachineFault.{MachineFault}
@@ -10,18 +10,20 @@ use Rattle.page_map.specs.declared.faults.MachineFault.TheVariants as faults
 use Rattle.page_map.specs.declared.faults.StoreError.{StoreError}
 use Rattle.page_map.specs.declared.faults.StoreError.TheVariants as errors
 use Rattle.page_map.specs.Keeps.{Tells}
-use Rattle.page_map.specs.Outcome.{NamesPage, Refused}
+use Rattle.page_map.specs.Outcome.{Refused}
 use Rattle.page_map.specs.PageMap.{View}
 use Rattle.page_locks.specs.declared.did.Did.{Did}
 use Rattle.page_locks.specs.LockHolders.{LockState}
 use Rattle.heap_rows.specs.HeapBlocks.{OfBlocks}
+use Rattle.heap_rows.specs.Heaps.{relation_of as heap_of}
+use Rattle.heap_rows.specs.PutAnswers.{NamesTable}
 use Rattle.coverage.specs.Table.{Inserts, Task}
 use Rattle.range_tuple.specs.TupleBytes.{tuple_bytes}
-use Rattle.coverage.specs.IndexView.{map_page_of}
 use Rattle.index_contents.specs.IndexContents.{relation_of}
-use Rattle.index_steps.specs.MapEntries.{map_place}
 use Rattle.index_contents.specs.IndexChanges.{LeavesOthers}
+use Rattle.index_steps.specs.DamagedPages.{table_place}
 use Rattle.index_steps.specs.IndexTuples.{index_at, shape_of}
+use Rattle.index_steps.specs.Readings.{NamesPageOf}
 use Rattle.index_steps.specs.SwapAnswers.{FaultNamesPageOf, MachineOutcome, SaysFullIn}
 use Rattle.brin_insert.specs.declared.insert.Insert.{Insert}
 use Rattle.brin_insert.specs.InsertAnswers.{FaultNamesRelation, IsInsertFull, LeavesOtherRelations, SaysInsertFull, relation_at, relation_in}
@@ -81,9 +83,23 @@ module _ {D : Type 0} (told : D → Told) (store : View D) (locks : LockState) (
   pub index_others : (new : View D) → LeavesOthers told hand.index store new → LeavesOtherRelations told (relation_at store.layout insert) store new
   index_others new others = subst (λ (relation : ℕ). LeavesOtherRelations told relation store new) (sym (index_next store.layout insert x hand placed got)) (record { leaves = others.leaves; pages = others.pages })
 
+-- where it puts the row, damage is told by a page of the heap
+pub heap_names : (layout : DiskLayout) (table relation : ℕ) (fault : MachineFault) → table < length layout.schema.tables → relation ≡ heap_of table → NamesTable layout table fault → FaultNamesRelation layout relation fault
+heap_names layout table relation fault there is names = subst (λ (r : ℕ). FaultNamesRelation layout r fault) (sym is) (named fault names)
+  where
+    named : (fault : MachineFault) → NamesTable layout table fault → FaultNamesRelation layout (heap_of table) fault
+    named (faults.Full other number) names = tt
+    named (faults.Store errors.Disk) names = tt
+    named (faults.Store (errors.Reopen count)) names = tt
+    named (faults.Store (errors.Damaged at)) names = (names.0, table_place layout table names.0 there names.1, names.2)
+    named faults.Memory names = tt
+
 -- where it asks, damage is told by a page of the map
-pub map_names : (layout : DiskLayout) (relation index other range : ℕ) (error : StoreError) → relation ≡ relation_of layout index → other ≡ index → NamesPage layout (map_place layout other range) error → FaultNamesRelation layout relation (faults.Store error)
-map_names layout relation index other range errors.Disk same is names = tt
-map_names layout relation index other range (errors.Reopen count) same is names = tt
-map_names layout relation index other range (errors.Damaged at) same is names =
-    (map_page_of range, names ∙ ap (λ (n : ℕ). page_offset layout (record { relation = relation_of layout n; block = map_page_of range })) is ∙ ap (λ (r : ℕ). page_offset layout (record { relation = r; block = map_page_of range })) (sym same))
+pub map_names : (layout : DiskLayout) (relation index other : ℕ) (error : StoreError) → relation ≡ relation_of layout index → other ≡ index → NamesPageOf layout other error → FaultNamesRelation layout relation (faults.Store error)
+map_names layout relation index other error same is names =
+    subst (λ (r : ℕ). FaultNamesRelation layout r (faults.Store error)) (ap (relation_of layout) is ∙ sym same) (named error names)
+  where
+    named : (error : StoreError) → NamesPageOf layout other error → FaultNamesRelation layout (relation_of layout other) (faults.Store error)
+    named errors.Disk names = tt
+    named (errors.Reopen count) names = tt
+    named (errors.Damaged at) names = names

@@ -4,7 +4,7 @@ use Rattle.block_model.specs.declared.place.Place.{Place}
 use Rattle.block_model.specs.declared.place.Spot.{Spot}
 use Rattle.block_model.specs.declared.reply.Point.{Point}
 use Rattle.block_model.specs.declared.row.Row.{Row}
-use Rattle.store_layout.specs.DiskLayout.{DiskLayout, page_offset}
+use Rattle.store_layout.specs.DiskLayout.{DiskLayout, IsPlace, page_offset}
 use Rattle.disk_trait.specs.Told.{Told}
 use Rattle.page_layout.specs.PageContents.{Slot}
 use Rattle.page_map.specs.declared.faults.MachineFault.{MachineFault}
@@ -143,7 +143,7 @@ abbrev pub SaysInsertFull : (relation : ℕ) → (IsFullBy : ℕ → Type 0) →
 SaysInsertFull relation IsFullBy (faults.Full told number) = (told ≡ relation) × IsFullBy number
 SaysInsertFull relation IsFullBy fault = Unit {0}
 
--- damage is told by the byte at which a page of the relation begins
+-- damage is told by the byte at which a page begins that the relation may have
 abbrev pub FaultNamesRelation : DiskLayout → (relation : ℕ) → MachineFault → Type 0
-FaultNamesRelation layout relation (faults.Store (errors.Damaged at)) = (block : ℕ) × (at ≡ page_offset layout (record { relation = relation; block = block }))
+FaultNamesRelation layout relation (faults.Store (errors.Damaged at)) = (block : ℕ) × IsPlace layout (record { relation = relation; block = block }) × (at ≡ page_offset layout (record { relation = relation; block = block }))
 FaultNamesRelation layout relation fault = Unit {0}

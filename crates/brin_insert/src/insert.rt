@@ -5,16 +5,16 @@ ghost use Rattle.block_model.specs.declared.place.Spot.{Spot as AnySpot};
 ghost use Rattle.store_layout.specs.DiskLayout.{DiskLayout};
 ghost use Rattle.page_layout.specs.RowBytes.{HaveKinds};
 ghost use Rattle.page_map.specs.Keeps.{Keeps, Tells, Untold};
-ghost use Rattle.page_map.specs.Outcome.{NamesPage, Outcome};
+ghost use Rattle.page_map.specs.Outcome.{Outcome};
 ghost use Rattle.heap_rows.specs.Survives.{Survives};
 ghost use Rattle.index_contents.specs.IndexContents.{contents};
-ghost use Rattle.index_steps.specs.MapEntries.{map_place};
 ghost use Rattle.page_locks.specs.LockCounts.{locks_of};
 ghost use Rattle.page_locks.specs.LockHolders.{LockState, count_of, holder};
 ghost use Rattle.heap_rows.specs.HeapBlocks.{OfBlocks};
 ghost use Rattle.heap_rows.specs.Heaps.{kinds_at};
 ghost use Rattle.index_contents.specs.KeepsOrder.{KeepsOrder};
 ghost use Rattle.index_steps.specs.IndexTuples.{TakesValues, shape_of};
+ghost use Rattle.index_steps.specs.Readings.{NamesPageOf};
 ghost use Rattle.index_steps.specs.StepAnswers.{IsOfStore, NeverBlocked};
 ghost use Rattle.index_steps.specs.SwapAnswers.{LeavesLocks, MachineOutcome, StaysWhereFull, TakesAtMost};
 ghost use Rattle.brin_insert.specs.declared.stage.Stage.TheVariants as stages;
@@ -341,7 +341,7 @@ fn ask_at<D: Disk + Drop>(
     ensures capacity { vec_capacity dropped.new ≡ vec_capacity dropped.old }
     ensures kept { Keeps D.told pages.old pages.new }
     ensures survives { Survives D.told (λ passed. passed ≡ pages.old.pages) pages.old pages.new }
-    ensures at { IfErr result (NamesPage pages.old.layout (map_place pages.old.layout index range)) }
+    ensures at { IfErr result (NamesPageOf pages.old.layout index) }
     ensures outcome { Outcome D.told (Untold D.told pages.old) pages.old pages.new result }
 {
     match entry(pages, index, range) {

@@ -102,7 +102,7 @@ module _ {D : Type 0} (told : D → Told) (old new : StoreState D) (n : ℕ) (ha
   was_ready (stepped.Undone (stops.Spent entries) now) cause ready = cause.0
   was_ready (stepped.Undone stops.Disk now) cause ready = cause.0
   was_ready (stepped.Undone (stops.Reopen faults) now) cause ready = absurd (none-some _ (sym ready ∙ cause.1))
-  was_ready (stepped.Undone (stops.Damaged at) now) cause ready = cause.0
+  was_ready (stepped.Undone (stops.Damaged at) now) cause ready = cause.0.0
 
   holder_is : (answer : Stepped) → ((m : ℕ) → IsHolderOf old n m → m < length old.names) → StaysWhereUndone told old new n hand answer → IfOk (answer_of answer) (NamesASession (length old.names))
   holder_is (stepped.Moved point now) session stays = tt

@@ -21,6 +21,7 @@ use Rattle.transactions.specs.TransactionsState.{TransactionsState, with_failed}
 use Rattle.session_parts.specs.declared.hand.Hand.{Hand}
 use Rattle.session_parts.specs.declared.hand.Stepped.TheVariants as stepped
 use Rattle.session_parts.specs.declared.parts.Parts.{Parts}
+use Rattle.session_parts.specs.DamagedPages.{NamesAPage}
 use Rattle.session_parts.specs.Hands.{statement_of}
 use Rattle.session_parts.specs.HandFits.{FitsHand, right_held}
 use Rattle.session_parts.specs.JournalState.{JournalState}
@@ -115,10 +116,10 @@ never_shown told old now errors.Disk refused tells ready after = none-some _ (sy
 never_shown told old now (errors.Reopen faults) refused tells ready after = none-some _ (sym ready ∙ refused.0)
 never_shown told old now (errors.Damaged at) refused tells ready after = refused.3 tells
 
-pub has_cause : {D : Type 0} (told : D → Told) (old new : View D) (error : StoreError) → Refused told (Untold told old) old new error → HasFaultCause told old new (fault_of error)
-has_cause told old now errors.Disk refused = refused
-has_cause told old now (errors.Reopen faults) refused = refused
-has_cause told old now (errors.Damaged at) refused = refused
+pub has_cause : {D : Type 0} (told : D → Told) (old new : View D) (error : StoreError) → Refused told (Untold told old) old new error → NamesAPage old.layout error → HasFaultCause told old new (fault_of error)
+has_cause told old now errors.Disk refused names = refused
+has_cause told old now (errors.Reopen faults) refused names = refused
+has_cause told old now (errors.Damaged at) refused names = (refused, names)
 
 enters_none : {D : Type 0} (told : D → Told) (old new : StoreState D) (n : ℕ) (was hand : Hand) (error : StoreError) → new.journal.entries ≡ old.journal.entries → statement_of hand ≡ statement_of was
     → StaysWhereUndone told old new n was (stepped.Undone (fault_of error) hand)
@@ -142,9 +143,9 @@ pub record LeftUndone {D : Type 0} (told : D → Told) (parts : Parts D) (pages 
 
 module _ {D : Type 0} (told : D → Told) (changes : HandChanges) (of_stores : FitOfStores told) (parts : Parts D) (pages : View D) (locks : LockState) (journal : JournalState) (n : ℕ) (was hand : Hand)
     (left : LeftUndone told parts pages locks journal n was hand) where
-  pub undone_so : (error : StoreError) → Refused told (Untold told parts.pages) parts.pages pages error
+  pub undone_so : (error : StoreError) → Refused told (Untold told parts.pages) parts.pages pages error → NamesAPage parts.pages.layout error
       → StepsSo told parts (with_these parts pages parts.transactions locks journal) n was (stepped.Undone (fault_of error) hand)
-  undone_so error refused = record {
+  undone_so error refused names_page = record {
     steps = λ names hand_list has tells ready after p shown. absurd (never_shown told parts.pages pages error refused tells ready after);
     fit = stays_fit told changes of_stores parts (with_these parts pages parts.transactions locks journal) n was (stepped.Undone (fault_of error) hand) (record {
       session = left.fits.session;
@@ -166,7 +167,7 @@ module _ {D : Type 0} (told : D → Told) (changes : HandChanges) (of_stores : F
       promised = let same = left.share in let promised = left.promised in omega (arith, same, promised);
     });
     stays = λ names hand_list has. enters_none told _ _ n was hand error left.entries left.statement;
-    cause = has_cause told parts.pages pages error refused;
+    cause = has_cause told parts.pages pages error refused names_page;
   }
 
 -- a store that no call changes

@@ -37,6 +37,7 @@ use Rattle.session_parts.specs.declared.hand.Hand.TheVariants as hands
 use Rattle.session_parts.specs.declared.hand.Stepped.TheVariants as stepped
 use Rattle.session_parts.specs.declared.parts.Parts.{Parts}
 use Rattle.session_parts.specs.ShowsPlace.{IsPlaceOf}
+use Rattle.session_parts.specs.DamagedPages.{NamesAPage}
 use Rattle.session_parts.specs.StepAnswers.{StaysReady}
 use Rattle.session_parts.specs.Stepping.{IsFit}
 use Rattle.session_parts.specs.StoreFaults.{fault_of}
@@ -212,9 +213,9 @@ module _ {D : Type 0} (told : D → Told) (parts : Parts D) (n : ℕ) (c : Clean
         (came.0 (u old n c has below p shown) (at_task old n c has below p shown) (here old n c has below p shown).lock (kept_here old n c has below p shown)) so.0))
 
   -- the pages refuse it
-  pub refused : (righted : List (Option ℕ)) → righted ≡ parts.rights → (error : StoreError) → Refused told (Untold told parts.pages) parts.pages pages error
+  pub refused : (righted : List (Option ℕ)) → righted ≡ parts.rights → (error : StoreError) → Refused told (Untold told parts.pages) parts.pages pages error → NamesAPage parts.pages.layout error
       → StepsSo told parts (with_these parts pages righted) n was (stepped.Undone (fault_of error) (hands.Cleans next))
-  refused righted same_rights error refusal =
+  refused righted same_rights error refusal names =
       subst (λ (h : Hand). StepsSo told parts (with_these parts pages righted) n was (stepped.Undone (fault_of error) h)) (sym same_hand)
       (refused_is_undone told parts (with_these parts pages righted) n was error fit (over told parts n c fit pages b left) left.leaves
-      (record { transactions = refl; locks = refl; rights = same_rights; journal = refl; queue = refl; dropped = refl }) refusal)
+      (record { transactions = refl; locks = refl; rights = same_rights; journal = refl; queue = refl; dropped = refl }) refusal names)

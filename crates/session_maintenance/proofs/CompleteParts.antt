@@ -34,6 +34,7 @@ use Rattle.session_parts.specs.declared.hand.Hand.{Hand}
 use Rattle.session_parts.specs.declared.hand.Stepped.{Stepped}
 use Rattle.session_parts.specs.declared.hand.Stepped.TheVariants as stepped
 use Rattle.session_parts.specs.declared.parts.Parts.{Parts}
+use Rattle.session_parts.specs.DamagedPages.{NamesAPage}
 use Rattle.session_parts.specs.Hands.{statement_of}
 use Rattle.session_parts.specs.HandFits.{FitsHand, IsHandFor, locks_held, right_held}
 use Rattle.session_parts.specs.Leaving.{ChangesLocks, GivesLocks, LocksIn}
@@ -251,11 +252,11 @@ module _ {D : Type 0} (told : D → Told) (parts : Parts D) (pages : View D) (lo
   -- the pages refuse it
   module _ (next : Hand) (same : statement_of next ≡ statement_of was) (in_hand : IsHandFor parts.pages.layout (transaction_of parts.transactions.opens n) next) (own : locks_of locks n ≤ locks_held (Some next))
       (share : hand_share (Some next) ≡ 0) (right : right_held parts.pages.layout (Some next) ≡ Some (index_at parts.pages.layout index).table) where
-    pub undone_so : (error : StoreError) → Refused told (Untold told parts.pages) parts.pages pages error → StepsSo told parts new n was (stepped.Undone (fault_of error) next)
-    undone_so error refused = record {
+    pub undone_so : (error : StoreError) → Refused told (Untold told parts.pages) parts.pages pages error → NamesAPage parts.pages.layout error → StepsSo told parts new n was (stepped.Undone (fault_of error) next)
+    undone_so error refused names_page = record {
       steps = λ names hand_list has tells first then p shown. absurd (never_shown told parts.pages pages error refused tells first then);
       fit = stays_fit (stepped.Undone (fault_of error) next) (fits_then (Some next) in_hand own share (held_by (Some next) right));
       others = leaves_others (stepped.Undone (fault_of error) next) share;
       stays = λ names hand_list has. enters_none told _ _ n was next error refl same;
-      cause = has_cause told parts.pages pages error refused;
+      cause = has_cause told parts.pages pages error refused names_page;
     }

@@ -44,6 +44,7 @@ use Rattle.session_parts.specs.declared.hand.Hand.{Hand}
 use Rattle.session_parts.specs.declared.hand.Hand.TheVariants as hands
 use Rattle.session_parts.specs.declared.hand.Stepped.TheVariants as stepped
 use Rattle.session_parts.specs.declared.parts.Parts.{Parts}
+use Rattle.session_parts.specs.DamagedPages.{NamesAPage}
 use Rattle.session_parts.specs.Hands.{statement_of}
 use Rattle.session_parts.specs.HandFits.{right_held, right_in}
 use Rattle.session_parts.specs.ShowsPlace.{IsPlaceOf}
@@ -272,9 +273,9 @@ module _ {D : Type 0} (told : D → Told) (parts : Parts D) (n : ℕ) (a : Desum
   -- the pages refuse it, and its session gives its locks
   pub refused : (shown : IsShown told parts n (hands.Desummarises a)) → TakesSound → (pages : View D) (locks given : LockState) (b : DesummariseState) (left : MachineLeft pages locks b)
       → b ≡ a → given.limit ≡ locks.limit → locks_of given n ≡ 0 → ((m : ℕ) → m ≢ n → locks_of given m ≡ locks_of locks m)
-      → (error : StoreError) → Refused told (Tells told parts.pages → DamageIn parts.pages.layout parts.pages.pages a) parts.pages pages error
+      → (error : StoreError) → Refused told (Tells told parts.pages → DamageIn parts.pages.layout parts.pages.pages a) parts.pages pages error → NamesAPage parts.pages.layout error
       → StepsSo told parts (with_these parts pages given parts.rights) n (hands.Desummarises a) (stepped.Undone (fault_of error) (hands.Desummarises b))
-  refused shown law pages locks given b left same limit none others error refusal =
+  refused shown law pages locks given b left same limit none others error refusal names =
       undone_so told parts pages given parts.rights parts.queue n (hands.Desummarises a) a.index (λ at. task_of parts.pages.layout at a) (count_at a.stage) fit is_it (record {
         others = left.others;
         order = left.order;
@@ -285,4 +286,4 @@ module _ {D : Type 0} (told : D → Told) (parts : Parts D) (n : ℕ) (a : Desum
         theirs = λ m other apart holds. holds;
       }) (hands.Desummarises b) (same_statement pages locks b left) (left.of, subst (λ (x : DesummariseState). IsLeft x.stage) (sym same) fits.in_hand.1) (omega (arith, none)) refl
       (right_stays pages locks b left (ap (λ (x : DesummariseState). x.stage) same)) refl error
-      (refused_untold told (Tells told parts.pages → DamageIn parts.pages.layout parts.pages.pages a) parts.pages pages error (λ ready damage tells. is_sound shown tells ready law (damage tells)) refusal)
+      (refused_untold told (Tells told parts.pages → DamageIn parts.pages.layout parts.pages.pages a) parts.pages pages error (λ ready damage tells. is_sound shown tells ready law (damage tells)) refusal) names

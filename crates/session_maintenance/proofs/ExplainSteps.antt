@@ -26,7 +26,7 @@ use Rattle.coverage.specs.TableCovered.{IsTableKept}
 use Rattle.index_steps.specs.ShownRows.{shown_by}
 use Rattle.bitmap_scan.specs.declared.stage.Stage.TheVariants as stages
 use Rattle.bitmap_scan.specs.Explains.{ExplainHand, ExplainSteps, IsPointOf, ListsBlocks, candidate_blocks, explaining}
-use Rattle.bitmap_scan.specs.ScanAnswers.{IsDamagedAt, ReadOutcome}
+use Rattle.bitmap_scan.specs.ScanAnswers.{IsDamagedAt, NamesPageAt, ReadOutcome}
 use Rattle.bitmap_scan.specs.ScanHands.{IsHand, IsJudging, IsScanOf, ScanHand}
 use Rattle.bitmap_scan.specs.ScanSteps.{point_at}
 use Rattle.bitmap_scan.specs.TableScans.{Beside, task_of}
@@ -36,6 +36,7 @@ use Rattle.session_parts.specs.declared.hand.Hand.TheVariants as hands
 use Rattle.session_parts.specs.declared.hand.Stepped.{Stepped}
 use Rattle.session_parts.specs.declared.hand.Stepped.TheVariants as stepped
 use Rattle.session_parts.specs.declared.parts.Parts.{Parts}
+use Rattle.session_parts.specs.DamagedPages.{NamesAPage, judged_names}
 use Rattle.session_parts.specs.HandFits.{FitsHand, locks_held}
 use Rattle.session_parts.specs.Shares.{share_of}
 use Rattle.session_parts.specs.StepAnswers.{StaysReady}
@@ -170,10 +171,10 @@ module _ {D : Type 0} (told : D → Told) (parts : Parts D) (pages : View D) (n 
   refused_by law shown known (errors.Damaged at) refused = (refused.0, refused.1, refused.2, whole law shown known refused.0 refused.3)
 
   pub undone_so : NotDamaged → IsShown told parts n (hands.Explains before) → IsHand before.judging → (error : StoreError)
-      → Refused told (Tells told parts.pages → IsDamagedAt parts.pages.layout parts.pages.pages before.judging.indexes before.judging.stage) parts.pages pages error
+      → Refused told (Tells told parts.pages → IsDamagedAt parts.pages.layout parts.pages.pages before.judging.indexes before.judging.stage) parts.pages pages error → NamesAPage parts.pages.layout error
       → StepsSo told parts new n (hands.Explains before) (stepped.Undone (fault_of error) (hands.Explains before))
-  undone_so law shown known error refused =
-      refused_is_undone told parts new n (hands.Explains before) error fit over keeps.leaves (record { transactions = refl; locks = refl; rights = refl; journal = refl; queue = refl; dropped = refl }) (refused_by law shown known error refused)
+  undone_so law shown known error refused names =
+      refused_is_undone told parts new n (hands.Explains before) error fit over keeps.leaves (record { transactions = refl; locks = refl; rights = refl; journal = refl; queue = refl; dropped = refl }) (refused_by law shown known error refused) names
 
   -- ---- as the machine's step tells it
 
@@ -198,10 +199,11 @@ module _ {D : Type 0} (told : D → Told) (parts : Parts D) (pages : View D) (n 
       (subst (λ (x : Did). IsPointOf before.judging.stage after.judging.stage x) is at) (subst (λ (x : Did). ListsBlocks before after x) is lists) known same)
 
   pub undone_by : NotDamaged → IsShown told parts n (hands.Explains before) → IsHand before.judging → (fault : MachineFault) (error : StoreError) → fault ≡ faults.Store error
-      → ReadOutcome {T = Did} told Damage parts.pages pages (Err fault) → (answer : Stepped) → answer ≡ stepped.Undone (fault_of error) (hands.Explains before)
+      → ReadOutcome {T = Did} told Damage parts.pages pages (Err fault) → NamesPageAt parts.pages.layout before.judging.indexes before.judging.stage fault → (answer : Stepped) → answer ≡ stepped.Undone (fault_of error) (hands.Explains before)
       → StepsSo told parts new n (hands.Explains before) answer
-  undone_by law shown known fault error is outcome answer answer_is = subst (λ (a : Stepped). StepsSo told parts new n (hands.Explains before) a) (sym answer_is)
-      (undone_so law shown known error (subst (λ (f : MachineFault). ReadOutcome {T = Did} told Damage parts.pages pages (Err f)) is outcome))
+  undone_by law shown known fault error is outcome names answer answer_is = subst (λ (a : Stepped). StepsSo told parts new n (hands.Explains before) a) (sym answer_is)
+      (undone_so law shown known error (subst (λ (f : MachineFault). ReadOutcome {T = Did} told Damage parts.pages pages (Err f)) is outcome)
+      (judged_names parts.pages.layout before.judging.indexes before.judging.stage error (subst (λ (f : MachineFault). NamesPageAt parts.pages.layout before.judging.indexes before.judging.stage f) is names)))
 
   -- it lacks neither a page nor memory
   pub not_full : (fault : MachineFault) (relation number : ℕ) → fault ≡ faults.Full relation number → ReadOutcome {T = Did} told Damage parts.pages pages (Err fault) → ⊥

@@ -53,6 +53,7 @@ use Rattle.script_semantics.specs.StatementSteps.{Steps, Waits, reply_after}
 use Rattle.session_parts.specs.declared.hand.Hand.{Hand}
 use Rattle.session_parts.specs.declared.hand.Stepped.TheVariants as stepped
 use Rattle.session_parts.specs.declared.parts.Parts.{Parts}
+use Rattle.session_parts.specs.DamagedPages.{NamesAPage}
 use Rattle.session_parts.specs.Hands.{statement_of}
 use Rattle.session_parts.specs.HandFits.{IsHandFor, locks_held, right_at, right_held}
 use Rattle.session_parts.specs.Shares.{hand_share}
@@ -350,9 +351,9 @@ module _ {D : Type 0} (told : D → Told) (parts : Parts D) (n : ℕ) (hand : Su
   -- the pages refuse it, and its session gives its locks
   pub refused : (shown : IsShown told parts n (hand a)) → TakesSound → (pages : View D) (locks given : LockState) (b : SummariseState) (left : MachineLeft told parts n a pages locks b)
       → b ≡ record a { hand = b.hand } → given.limit ≡ locks.limit → locks_of given n ≡ 0 → ((m : ℕ) → m ≢ n → locks_of given m ≡ locks_of locks m)
-      → (error : StoreError) → Refused told (Tells told parts.pages → DamageIn parts.pages.layout parts.pages.pages a) parts.pages pages error
+      → (error : StoreError) → Refused told (Tells told parts.pages → DamageIn parts.pages.layout parts.pages.pages a) parts.pages pages error → NamesAPage parts.pages.layout error
       → StepsSo told parts (with_these parts pages given parts.rights) n (hand a) (stepped.Undone (fault_of error) (hand b))
-  refused shown law pages locks given b left same limit none others error refusal =
+  refused shown law pages locks given b left same limit none others error refusal names =
       undone_so told parts pages given parts.rights parts.queue n (hand a) a.index (λ at. task_of parts.pages.layout at a) (count_of a) fit is_it (record {
         others = left.others;
         order = left.order;
@@ -364,4 +365,4 @@ module _ {D : Type 0} (told : D → Told) (parts : Parts D) (n : ℕ) (hand : Su
       }) (hand b) (same_statement pages locks b left)
       (in_hand_then pages locks b left (inr (ap (λ (x : SummariseState). x.standing) same)))
       (omega (arith, none)) (share_then pages locks b left) (right_same pages locks b left (ap (λ (x : SummariseState). x.standing) same)) refl error
-      (refused_untold told (Tells told parts.pages → DamageIn parts.pages.layout parts.pages.pages a) parts.pages pages error (λ ready damage tells. is_sound shown tells ready law (damage tells)) refusal)
+      (refused_untold told (Tells told parts.pages → DamageIn parts.pages.layout parts.pages.pages a) parts.pages pages error (λ ready damage tells. is_sound shown tells ready law (damage tells)) refusal) names

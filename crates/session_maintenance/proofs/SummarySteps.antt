@@ -43,6 +43,7 @@ use Rattle.session_parts.specs.declared.hand.Hand.{Hand}
 use Rattle.session_parts.specs.declared.hand.Hand.TheVariants as hands
 use Rattle.session_parts.specs.declared.hand.Stepped.TheVariants as stepped
 use Rattle.session_parts.specs.declared.parts.Parts.{Parts}
+use Rattle.session_parts.specs.DamagedPages.{NamesAPage}
 use Rattle.session_parts.specs.Hands.{completed_by, statement_of, summary_now}
 use Rattle.session_parts.specs.HandFits.{IsCompletingFor}
 use Rattle.session_parts.specs.HandsInTables.{IsCompletingAt}
@@ -360,9 +361,9 @@ module _ {D : Type 0} (told : D → Told) (parts : Parts D) (n : ℕ) (c : Compl
   -- the pages refuse it, and its session gives its page locks
   pub refused : (shown : IsShown told parts n (hands.Completes c)) → TakesSound → (pages : View D) (locks given : LockState) (b : SummariseState) (left : SummaryLeft told parts n a pages locks b)
       → b ≡ record a { hand = b.hand } → (then : Completing) → HasThen c then b → then.next ≡ c.next → then.ranges ≡ c.ranges → given.limit ≡ locks.limit → locks_of given n ≡ 0 → ((m : ℕ) → m ≢ n → locks_of given m ≡ locks_of locks m)
-      → (error : StoreError) → Refused told (Tells told parts.pages → DamageIn parts.pages.layout parts.pages.pages a) parts.pages pages error
+      → (error : StoreError) → Refused told (Tells told parts.pages → DamageIn parts.pages.layout parts.pages.pages a) parts.pages pages error → NamesAPage parts.pages.layout error
       → StepsSo told parts (with_these parts pages given parts.rights) n (hands.Completes c) (stepped.Undone (fault_of error) (hands.Completes then))
-  refused shown law pages locks given b left same then has_then same_next same_ranges limit none others error refusal =
+  refused shown law pages locks given b left same then has_then same_next same_ranges limit none others error refusal names =
       undone_so told parts pages given parts.rights n (hands.Completes c) a.index of_it.index (IsCompletingAt parts.pages.layout c) (completed_by c) fit is_it (record {
         others = left.others;
         order = left.order;
@@ -374,4 +375,4 @@ module _ {D : Type 0} (told : D → Told) (parts : Parts D) (n : ℕ) (c : Compl
       }) (hands.Completes then) (same_statement pages locks b left then has_then)
       (for_b pages locks b left then has_then same_next same_ranges (λ over. left_it (sym (ap (λ (x : SummariseState). x.standing) same) ∙ over)))
       (omega (arith, none)) refl (ap Some (has_then.table ∙ sym same_table)) error
-      (refused_untold told (Tells told parts.pages → DamageIn parts.pages.layout parts.pages.pages a) parts.pages pages error (λ ready damage tells. is_sound shown tells ready law (damage tells)) refusal)
+      (refused_untold told (Tells told parts.pages → DamageIn parts.pages.layout parts.pages.pages a) parts.pages pages error (λ ready damage tells. is_sound shown tells ready law (damage tells)) refusal) names

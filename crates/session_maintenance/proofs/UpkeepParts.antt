@@ -36,6 +36,7 @@ use Rattle.session_parts.specs.declared.hand.Hand.{Hand}
 use Rattle.session_parts.specs.declared.hand.Stepped.{Stepped}
 use Rattle.session_parts.specs.declared.hand.Stepped.TheVariants as stepped
 use Rattle.session_parts.specs.declared.parts.Parts.{Parts}
+use Rattle.session_parts.specs.DamagedPages.{NamesAPage}
 use Rattle.session_parts.specs.Hands.{statement_of}
 use Rattle.session_parts.specs.HandFits.{FitsHand, IsHandFor, locks_held, right_held}
 use Rattle.session_parts.specs.Leaving.{ChangesLocks, GivesLocks, LocksIn}
@@ -85,10 +86,10 @@ never_shown told old now errors.Disk refused tells ready after = none-some _ (sy
 never_shown told old now (errors.Reopen faults) refused tells ready after = none-some _ (sym ready ∙ refused.0)
 never_shown told old now (errors.Damaged at) refused tells ready after = refused.3 tells
 
-pub has_cause : {D : Type 0} (told : D → Told) (old new : View D) (error : StoreError) → Refused told (Untold told old) old new error → HasFaultCause told old new (fault_of error)
-has_cause told old now errors.Disk refused = refused
-has_cause told old now (errors.Reopen faults) refused = refused
-has_cause told old now (errors.Damaged at) refused = refused
+pub has_cause : {D : Type 0} (told : D → Told) (old new : View D) (error : StoreError) → Refused told (Untold told old) old new error → NamesAPage old.layout error → HasFaultCause told old new (fault_of error)
+has_cause told old now errors.Disk refused names = refused
+has_cause told old now (errors.Reopen faults) refused names = refused
+has_cause told old now (errors.Damaged at) refused names = (refused, names)
 
 pub enters_none : {D : Type 0} (told : D → Told) (old new : StoreState D) (n : ℕ) (was hand : Hand) (error : StoreError) → new.journal.entries ≡ old.journal.entries → statement_of hand ≡ statement_of was
     → StaysWhereUndone told old new n was (stepped.Undone (fault_of error) hand)
@@ -307,11 +308,11 @@ module _ {D : Type 0} (told : D → Told) (parts : Parts D) (pages : View D) (lo
   -- the pages refuse it
   module _ (next : Hand) (same : statement_of next ≡ statement_of was) (in_hand : IsHandFor parts.pages.layout (transaction_of parts.transactions.opens n) next) (own : locks_of locks n ≤ locks_held (Some next))
       (share : hand_share (Some next) ≡ hand_share (Some was)) (right : right_held parts.pages.layout (Some next) ≡ right_held parts.pages.layout (Some was)) (same_rights : rights ≡ parts.rights) where
-    pub undone_so : (error : StoreError) → Refused told (Untold told parts.pages) parts.pages pages error → StepsSo told parts new n was (stepped.Undone (fault_of error) next)
-    undone_so error refused = record {
+    pub undone_so : (error : StoreError) → Refused told (Untold told parts.pages) parts.pages pages error → NamesAPage parts.pages.layout error → StepsSo told parts new n was (stepped.Undone (fault_of error) next)
+    undone_so error refused names_page = record {
       steps = λ names hand_list has tells first then p shown. absurd (never_shown told parts.pages pages error refused tells first then);
       fit = stays_fit (stepped.Undone (fault_of error) next) (fits_then (Some next) in_hand own share (held_same (Some next) right same_rights));
       others = leaves_others (stepped.Undone (fault_of error) next) share;
       stays = λ names hand_list has. enters_none told _ _ n was next error refl same;
-      cause = has_cause told parts.pages pages error refused;
+      cause = has_cause told parts.pages pages error refused names_page;
     }

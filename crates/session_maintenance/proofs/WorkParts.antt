@@ -38,6 +38,7 @@ use Rattle.session_parts.specs.declared.hand.Hand.{Hand}
 use Rattle.session_parts.specs.declared.hand.Hand.TheVariants as hands
 use Rattle.session_parts.specs.declared.hand.Stepped.TheVariants as stepped
 use Rattle.session_parts.specs.declared.parts.Parts.{Parts}
+use Rattle.session_parts.specs.DamagedPages.{NamesAPage}
 use Rattle.session_parts.specs.HandFits.{right_at}
 use Rattle.session_parts.specs.StepAnswers.{StaysReady}
 use Rattle.session_parts.specs.Stepping.{IsFit}
@@ -228,9 +229,9 @@ module _ {D : Type 0} (told : D → Told) (parts : Parts D) (n range : ℕ) (a :
 
     -- the pages refuse it, and its session gives its locks
     pub refused_first : (given : LockState) → given.limit ≡ locks.limit → locks_of given n ≡ 0 → ((m : ℕ) → m ≢ n → locks_of given m ≡ locks_of locks m)
-        → (error : StoreError) → Refused told (Tells told parts.pages → DamageIn parts.pages.layout parts.pages.pages a) parts.pages pages error
+        → (error : StoreError) → Refused told (Tells told parts.pages → DamageIn parts.pages.layout parts.pages.pages a) parts.pages pages error → NamesAPage parts.pages.layout error
         → StepsSo told parts (with_these parts pages given parts.rights) n hands.Working (stepped.Undone (fault_of error) hands.Working)
-    refused_first given limit none others error refusal =
+    refused_first given limit none others error refusal names =
         undone_so told parts pages given parts.rights parts.queue n hands.Working a.index task 0 fit is_there (record {
           others = left.others;
           order = left.order;
@@ -240,7 +241,7 @@ module _ {D : Type 0} (told : D → Told) (parts : Parts D) (n range : ℕ) (a :
           apart = λ other apart. refl;
           theirs = λ m other apart holds. holds;
         }) hands.Working refl tt (omega (arith, none)) refl refl refl error
-        (refused_untold told (Tells told parts.pages → DamageIn parts.pages.layout parts.pages.pages a) parts.pages pages error (λ ready damage tells. not_range (damage tells).0) refusal)
+        (refused_untold told (Tells told parts.pages → DamageIn parts.pages.layout parts.pages.pages a) parts.pages pages error (λ ready damage tells. not_range (damage tells).0) refusal) names
 
     -- no page of the index is left for a tuple; none is put yet, so it can't be where the disk tells its contents
     pub full_first : (given : LockState) (room : ℕ) → (Tells told parts.pages → FullAt parts.pages.layout parts.pages.pages parts.locks n a room) → locks ≡ parts.locks → StaysReady parts.pages pages

@@ -27,6 +27,7 @@ use Rattle.session_parts.specs.declared.hand.Hand.{Hand}
 use Rattle.session_parts.specs.declared.hand.Stepped.{Stepped}
 use Rattle.session_parts.specs.declared.hand.Stepped.TheVariants as stepped
 use Rattle.session_parts.specs.declared.parts.Parts.{Parts}
+use Rattle.session_parts.specs.DamagedPages.{IsPageStart, NamesAPage}
 use Rattle.session_parts.specs.HandFits.{FitsHand, FitsStore, locks_held, right_held}
 use Rattle.session_parts.specs.Hands.{statement_of}
 use Rattle.session_parts.specs.JournalState.{JournalState}
@@ -90,10 +91,10 @@ module _ {D : Type 0} (told : D → Told) where
   not_refused (errors.Reopen faults) old new refused tells before after = none-some _ (sym before ∙ refused.0)
   not_refused (errors.Damaged at) old new refused tells before after = refused.3 tells
 
-  cause_of : (error : StoreError) (hand : Hand) (old new : View D) → Refused told (Untold told old) old new error → HasCause told old new (stepped.Undone (fault_of error) hand)
-  cause_of errors.Disk hand old new refused = refused
-  cause_of (errors.Reopen faults) hand old new refused = refused
-  cause_of (errors.Damaged at) hand old new refused = refused
+  cause_of : (error : StoreError) (hand : Hand) (old new : View D) → Refused told (Untold told old) old new error → NamesAPage old.layout error → HasCause told old new (stepped.Undone (fault_of error) hand)
+  cause_of errors.Disk hand old new refused names = refused
+  cause_of (errors.Reopen faults) hand old new refused names = refused
+  cause_of (errors.Damaged at) hand old new refused names = (refused, names)
 
   undone_by : (error : StoreError) (old new : StoreState D) (n : ℕ) (hand : Hand) → new.journal.entries ≡ old.journal.entries → StaysWhereUndone told old new n hand (stepped.Undone (fault_of error) hand)
   undone_by errors.Disk old new n hand same = (same, refl)
@@ -134,12 +135,12 @@ module _ {D : Type 0} (told : D → Told) where
     }
 
   pub refused_is_undone : RefusedIsUndone told
-  refused_is_undone old new n hand error fits over leaves same refused = record {
+  refused_is_undone old new n hand error fits over leaves same refused names_page = record {
     steps = λ names hands is tells before after p shown. absurd (not_refused error old.pages new.pages refused tells before after);
     fit = λ names hands is. fit_of_stores told new n (Some hand) names (with_hand hands n (Some hand)) (still old new n hand fits over leaves same) (kept_hand hands n hand is);
     others = refused_others old new n hand fits over leaves same (fault_of error);
     stays = λ names hands is. undone_by error (store_of old names hands) (store_of new names (with_hand hands n (Some hand))) n hand (ap (λ (j : JournalState). j.entries) same.journal);
-    cause = cause_of error hand old.pages new.pages refused;
+    cause = cause_of error hand old.pages new.pages refused names_page;
   }
 
   -- ---- no room
@@ -197,7 +198,8 @@ module _ {D : Type 0} (told : D → Told) where
     cause_behind new (stepped.Undone (stops.Spent entries) hand) cause = (ready, cause.1)
     cause_behind new (stepped.Undone stops.Disk hand) cause = (ready, rose_earlier (told old.pages.disk).faults (told mid.pages.disk).faults (told new.disk).faults keeps.leaves.faults cause.1, cause.2)
     cause_behind new (stepped.Undone (stops.Reopen faults) hand) cause = absurd (none-some _ (sym still_ready ∙ cause.0))
-    cause_behind new (stepped.Undone (stops.Damaged at) hand) cause = (ready, cause.1, omega (arith, keeps.leaves.faults, cause.2), λ tells. cause.3 (keeps.leaves.tells ∙ tells))
+    cause_behind new (stepped.Undone (stops.Damaged at) hand) cause =
+        let refused = cause.0 in ((ready, refused.1, omega (arith, keeps.leaves.faults, refused.2), λ tells. refused.3 (keeps.leaves.tells ∙ tells)), subst (λ (l : DiskLayout). IsPageStart l at) keeps.leaves.layout cause.1)
 
     as_it_was : (names : List (List ℕ)) (hands : List (Option Hand)) (new : StoreState D) → StaysAsItWas told (store_of mid names hands) new → StaysAsItWas told (store_of old names hands) new
     as_it_was names hands new w = record {

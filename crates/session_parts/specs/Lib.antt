@@ -8,6 +8,7 @@ pub mod HandsInTables
 pub mod ShowsPlace
 pub mod StepIs
 pub mod HandFits
+pub mod DamagedPages
 pub mod StepAnswers
 pub mod Stepping
 pub mod Leaving

@@ -16,6 +16,7 @@ use Rattle.session_parts.specs.declared.faults.StoreFault.TheVariants as stops
 use Rattle.session_parts.specs.declared.hand.Hand.{Hand}
 use Rattle.session_parts.specs.declared.hand.Stepped.{Stepped}
 use Rattle.session_parts.specs.declared.hand.Stepped.TheVariants as stepped
+use Rattle.session_parts.specs.DamagedPages.{IsPageStart}
 use Rattle.session_parts.specs.Hands.{statement_of}
 use Rattle.session_parts.specs.Shares.{share_of}
 use Rattle.session_parts.specs.StoreStates.{StoreState, dropped_in, hand_at}
@@ -36,12 +37,12 @@ abbrev pub StaysReady : {D : Type 0} → View D → View D → Type 0
 StaysReady old new = (old.failed ≡ None) × (new.failed ≡ None)
 
 -- Why a step isn't done, by the pages' disk. A disk fault comes only where the count of faults rose, and is kept with the count; from then
--- on each step answers it. A page is damaged only where the disk doesn't tell its contents.
+-- on each step answers it. A page is damaged only where the disk doesn't tell its contents, and is told by the byte at which it begins.
 abbrev pub HasFaultCause : {D : Type 0} → (D → Told) → View D → View D → StoreFault → Type 0
 HasFaultCause told old new (stops.Spent entries) = StaysReady old new
 HasFaultCause told old new stops.Disk = Refused told (Untold told old) old new errors.Disk
 HasFaultCause told old new (stops.Reopen faults) = Refused told (Untold told old) old new (errors.Reopen faults)
-HasFaultCause told old new (stops.Damaged at) = Refused told (Untold told old) old new (errors.Damaged at)
+HasFaultCause told old new (stops.Damaged at) = Refused told (Untold told old) old new (errors.Damaged at) × IsPageStart old.layout at
 
 abbrev pub HasCause : {D : Type 0} → (D → Told) → View D → View D → Stepped → Type 0
 HasCause told old new (stepped.Undone fault hand) = HasFaultCause told old new fault

@@ -17,6 +17,7 @@ use Rattle.session_parts.specs.declared.hand.Stepped.{Stepped}
 use Rattle.session_parts.specs.declared.hand.Stepped.TheVariants as stepped
 use Rattle.session_parts.specs.declared.limits.TheConstants.{MAX_LOCKS}
 use Rattle.session_parts.specs.declared.parts.Parts.{Parts}
+use Rattle.session_parts.specs.DamagedPages.{NamesAPage}
 use Rattle.session_parts.specs.HandFits.{FitsHand, FitsStore, locks_held, right_held}
 use Rattle.session_parts.specs.Shares.{share_of}
 use Rattle.session_parts.specs.ShowsPlace.{ShowsPlace}
@@ -62,10 +63,10 @@ pub record SameBesidePages {D : Type 0} (old new : Parts D) : Type 0 where
   pub queue : new.queue ≡ old.queue
   pub dropped : new.dropped ≡ old.dropped
 
--- the pages refuse the step
+-- the pages refuse the step, and tell damage by the byte at which a page begins
 abbrev pub RefusedIsUndone : {D : Type 0} → (D → Told) → Type 0
 RefusedIsUndone {D} told = (old new : Parts D) (n : ℕ) (hand : Hand) (error : StoreError) → IsFit told old n hand → IsOver told new.transactions.tx new.pages
-    → Leaves told old.pages new.pages → SameBesidePages old new → Refused told (Untold told old.pages) old.pages new.pages error
+    → Leaves told old.pages new.pages → SameBesidePages old new → Refused told (Untold told old.pages) old.pages new.pages error → NamesAPage old.pages.layout error
     → StepsSo told old new n hand (stepped.Undone (fault_of error) hand)
 
 -- the journal lacks room for its requests

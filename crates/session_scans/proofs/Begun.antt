@@ -4,7 +4,7 @@ use Rattle.disk_trait.specs.Told.{Told}
 use Rattle.block_model.specs.declared.row.Query.{Query}
 use Rattle.page_map.specs.declared.faults.StoreError.{StoreError}
 use Rattle.page_map.specs.Keeps.{Untold}
-use Rattle.page_map.specs.Outcome.{Refused}
+use Rattle.page_map.specs.Outcome.{IsReopen, Refused}
 use Rattle.page_map.specs.PageMap.{View}
 use Rattle.page_store.specs.Survives.{Survives}
 use Rattle.tx_table.specs.Durable.{IsBefore}
@@ -17,6 +17,7 @@ use Rattle.session_parts.specs.declared.hand.Stepped.{Stepped}
 use Rattle.session_parts.specs.declared.hand.Stepped.TheVariants as stepped
 use Rattle.session_parts.specs.declared.parts.Parts.{Parts}
 use Rattle.session_parts.specs.JournalState.{JournalState}
+use Rattle.session_parts.specs.DamagedPages.{reopen_names}
 use Rattle.session_parts.specs.StoreFaults.{fault_of}
 use Rattle.session_parts.specs.Stepping.{IsFit, IsShown}
 use Rattle.session_parts.specs.UndoneLaws.{StepsSo}
@@ -28,11 +29,11 @@ use Rattle.session_scans.proofs.Mays.{before_first, begun_so, may_begin}
 
 module _ {D : Type 0} (told : D → Told) (parts : Parts D) (n : ℕ) where
   -- the pages refuse it before anything is done
-  pub refused_at_once : (hand : Hand) (fit : IsFit told parts n hand) (error : StoreError) → Refused told (Untold told parts.pages) parts.pages parts.pages error
+  pub refused_at_once : (hand : Hand) (fit : IsFit told parts n hand) (error : StoreError) → IsReopen error → Refused told (Untold told parts.pages) parts.pages parts.pages error
       → (fault : StoreFault) → fault ≡ fault_of error → (other : Hand) → other ≡ hand → StepsSo told parts parts n hand (stepped.Undone fault other)
-  refused_at_once hand fit error refused fault is other other_is =
+  refused_at_once hand fit error reopen refused fault is other other_is =
       subst (λ (a : Stepped). StepsSo told parts parts n hand a) (λ i. stepped.Undone (sym is i) (sym other_is i))
-      (refused_is_undone told parts parts n hand error fit (fit_of_parts told parts n hand fit).over (keeps_same told parts.pages).leaves (record { transactions = refl; locks = refl; rights = refl; journal = refl; queue = refl; dropped = refl }) refused)
+      (refused_is_undone told parts parts n hand error fit (fit_of_parts told parts n hand fit).over (keeps_same told parts.pages).leaves (record { transactions = refl; locks = refl; rights = refl; journal = refl; queue = refl; dropped = refl }) refused (reopen_names parts.pages.layout error reopen))
 
   -- and a crash leaves what one left before
   pub passes_nothing : (mid : Parts D) → mid ≡ record parts { journal = mid.journal } → (pages : View D) → pages ≡ mid.pages → Survives told (λ passed. ⊥) parts.pages parts.pages

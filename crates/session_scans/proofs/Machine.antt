@@ -20,7 +20,7 @@ use Rattle.tx_table.specs.TxState.{TxState}
 use Rattle.tx_table.proofs.Pages.{statuses_one}
 use Rattle.tx_table.proofs.Stores.{keeps_same}
 use Rattle.bitmap_scan.specs.declared.stage.Stage.TheVariants as stages
-use Rattle.bitmap_scan.specs.Finds.{FindHand, FindOutcome, FindSteps, FindsThere, IsFindOf, IsPointIn, OfSight}
+use Rattle.bitmap_scan.specs.Finds.{FaultNamesNext, FindHand, FindOutcome, FindSteps, FindsThere, IsFindOf, IsPointIn, OfSight}
 use Rattle.bitmap_scan.specs.LastStatuses.{Remembers}
 use Rattle.bitmap_scan.specs.LooksAhead.{NextIs}
 use Rattle.bitmap_scan.specs.ScanAnswers.{IsDamagedAt, ReadOutcome}
@@ -31,6 +31,7 @@ use Rattle.session_parts.specs.declared.hand.Hand.{Hand}
 use Rattle.session_parts.specs.declared.hand.Stepped.{Stepped}
 use Rattle.session_parts.specs.declared.hand.Stepped.TheVariants as stepped
 use Rattle.session_parts.specs.declared.parts.Parts.{Parts}
+use Rattle.session_parts.specs.DamagedPages.{NamesAPage, next_names}
 use Rattle.session_parts.specs.HandsInTables.{sight_of}
 use Rattle.session_parts.specs.StoreFaults.{fault_of}
 use Rattle.session_parts.specs.StoreStates.{ShownStore, shown_of, store_of}
@@ -68,6 +69,10 @@ module _ {D : Type 0} (told : D → Told) (Cause : Type 0) (old new : View D) wh
 
   pub refused_read : (error : StoreError) (fault : MachineFault) → fault ≡ faults.Store error → ReadOutcome {D = D} {T = Bool} told Cause old new (Err fault) → Refused told Cause old new error
   refused_read error fault is outcome = subst (λ (f : MachineFault). ReadOutcome {D = D} {T = Bool} told Cause old new (Err f)) is outcome
+
+-- the page at which it tells damage
+pub names_there : (layout : DiskLayout) (hand : FindHand) (next : Option ℕ) (error : StoreError) (fault : MachineFault) → fault ≡ faults.Store error → FaultNamesNext layout hand next fault → NamesAPage layout error
+names_there layout hand next error fault is names = next_names layout hand next error (subst (λ (f : MachineFault). FaultNamesNext layout hand next f) is names)
 
 -- ---- what it did, by transactions that are those of the parts
 
@@ -146,12 +151,12 @@ module _ {D : Type 0} (told : D → Told) (laws : LookLaws) (parts : Parts D) (n
 
       -- the pages refuse it
       pub refused_by_pages : NotDamaged → IsHand scan.judging → (error : StoreError) → fault ≡ fault_of error
-          → Refused told (Tells told parts.pages → IsDamagedAt parts.pages.layout parts.pages.pages scan.judging.indexes scan.judging.stage) parts.pages pages error
+          → Refused told (Tells told parts.pages → IsDamagedAt parts.pages.layout parts.pages.pages scan.judging.indexes scan.judging.stage) parts.pages pages error → NamesAPage parts.pages.layout error
           → ScanStepsSo told parts new n looking scan answer
-      refused_by_pages law known error is refused =
+      refused_by_pages law known error is refused names =
           let its : (o : Open) × (transaction_of parts.transactions.opens n ≡ Some o) = its_open told laws old n looking scan may.fit may.find may.fresh ready in
           as_told answer (stepped.Undone (fault_of error) was) new (parts_before scan.judging.stage mid) (undone_is (fault_of error) is) parts_are
-          (undone_so told laws old pages n looking scan may.fit may.find may.fresh its.0 its.1 keeps law may.shown known error refused)
+          (undone_so told laws old pages n looking scan may.fit may.find may.fresh its.0 its.1 keeps law may.shown known error refused names)
 
       -- the journal lacks room for what it may enter
       pub spent_there : MAX_ENTRIES < length parts.journal.entries + 1 → pages.failed ≡ None → (Tells told parts.pages → NextIs parts.pages.layout parts.pages.pages scan did.Finished)

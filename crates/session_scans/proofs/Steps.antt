@@ -45,6 +45,7 @@ use Rattle.session_parts.specs.declared.hand.Hand.{Hand}
 use Rattle.session_parts.specs.declared.hand.Stepped.{Stepped}
 use Rattle.session_parts.specs.declared.hand.Stepped.TheVariants as stepped
 use Rattle.session_parts.specs.declared.parts.Parts.{Parts}
+use Rattle.session_parts.specs.DamagedPages.{NamesAPage}
 use Rattle.session_parts.specs.HandFits.{FitsHand, locks_held}
 use Rattle.session_parts.specs.Hands.{statement_of}
 use Rattle.session_parts.specs.JournalState.{JournalState}
@@ -342,7 +343,7 @@ module _ {D : Type 0} (told : D → Told) (laws : LookLaws) (old : Parts D) (pag
   refused_by law shown known (errors.Damaged at) refused = (refused.0, refused.1, refused.2, undamaged law shown known refused.0 refused.3)
 
   pub undone_so : NotDamaged → IsShown told old n was → IsHand before.judging → (error : StoreError)
-      → Refused told (Tells told old.pages → IsDamagedAt old.pages.layout old.pages.pages before.judging.indexes before.judging.stage) old.pages pages error
+      → Refused told (Tells told old.pages → IsDamagedAt old.pages.layout old.pages.pages before.judging.indexes before.judging.stage) old.pages pages error → NamesAPage old.pages.layout error
       → StepsSo told old (record old { pages = pages }) n was (stepped.Undone (fault_of error) was)
-  undone_so law shown known error refused =
-      refused_is_undone told old (record old { pages = pages }) n was error fit over keeps.leaves (record { transactions = refl; locks = refl; rights = refl; journal = refl; queue = refl; dropped = refl }) (refused_by law shown known error refused)
+  undone_so law shown known error refused names =
+      refused_is_undone told old (record old { pages = pages }) n was error fit over keeps.leaves (record { transactions = refl; locks = refl; rights = refl; journal = refl; queue = refl; dropped = refl }) (refused_by law shown known error refused) names

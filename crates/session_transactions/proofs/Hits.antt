@@ -1,8 +1,8 @@
 -- The rows that a delete found, by their hits.
-use Rattle.std.proofs.Common.{◌≡◌, ℕ, zero, suc, List, [], ◌∷◌, drop, map, Option, None, Some, refl, sym, ap, ◌∙◌}
+use Rattle.std.proofs.Common.{◌≡◌, ◌<◌, ℕ, zero, suc, All, List, [], ◌∷◌, drop, map, Option, None, Some, refl, sym, ap, subst, ◌∙◌}
 use Rattle.std.specs.List.{slice_get}
 use Rattle.std.proofs.lemmas.List.{drop-map}
-use Rattle.std.proofs.lemmas.Option.{none-some, same_Some}
+use Rattle.std.proofs.lemmas.Option.{get_or_from_slice_get, none-some, same_Some, slice_get_within}
 use Rattle.block_model.specs.declared.row.Row.{Row}
 use Rattle.block_model.specs.declared.row.RowId.{RowId}
 use Rattle.session_parts.specs.declared.hand.Hit.{Hit}
@@ -44,3 +44,7 @@ pub rows_from : (rows : List Row) (hits : List Hit) (k : ℕ) (hit : Hit) → ma
     → IsFirstOf (drop k rows) hit.id (ids_of (drop (suc k) hits))
 rows_from rows hits k hit is there = first_of (drop k rows) hit.id (ids_of (drop (suc k) hits))
     (sym (drop-map (λ (r : Row). r.id) k rows) ∙ ap (drop k) is ∙ drop-map (λ (h : Hit). h.id) k hits ∙ ap ids_of (hits_from hits k hit there))
+
+-- each of them lies on such a block
+pub hit_within : (limit : ℕ) (hits : List Hit) (k : ℕ) (hit : Hit) → All (λ (h : Hit). h.spot.block < limit) hits → slice_get hits k ≡ Some hit → hit.spot.block < limit
+hit_within limit hits k hit within is = subst (λ (h : Hit). h.spot.block < limit) (get_or_from_slice_get hits k hit hit is) (within k hit (slice_get_within hits k hit is))

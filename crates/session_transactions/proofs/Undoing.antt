@@ -17,6 +17,7 @@ use Rattle.session_parts.specs.declared.parts.Parts.{Parts}
 use Rattle.session_parts.specs.Hands.{statement_of}
 use Rattle.session_parts.specs.Shares.{look_share}
 use Rattle.session_parts.specs.ShowsPlace.{ShowsPlace}
+use Rattle.session_parts.specs.DamagedPages.{NamesAPage}
 use Rattle.session_parts.specs.StepAnswers.{most_entered}
 use Rattle.session_parts.specs.Stepping.{IsFit}
 use Rattle.session_parts.specs.StoreFaults.{fault_of}
@@ -26,16 +27,10 @@ use Rattle.session_parts.proofs.Undone.{fit_of_parts, refused_is_undone, spent_i
 
 -- the pages refuse the step
 pub refused_by : {D : Type 0} (told : D → Told) (old new : Parts D) (n : ℕ) (hand : Hand) (error : StoreError) (fault : StoreFault) → IsFit told old n hand → IsOver told new.transactions.tx new.pages
-    → Leaves told old.pages new.pages → SameBesidePages old new → Refused told (Untold told old.pages) old.pages new.pages error → fault ≡ fault_of error → StepsSo told old new n hand (stepped.Undone fault hand)
-refused_by told old new n hand error fault fits over leaves same refused is =
-    subst (λ (f : StoreFault). StepsSo told old new n hand (stepped.Undone f hand)) (sym is) (refused_is_undone told old new n hand error fits over leaves same refused)
-
--- they refuse it before anything is done
-pub not_ready : {D : Type 0} (told : D → Told) (parts : Parts D) (n : ℕ) (hand : Hand) (error : StoreError) (fault : StoreFault) → IsFit told parts n hand
-    → Refused told (Untold told parts.pages) parts.pages parts.pages error → fault ≡ fault_of error → StepsSo told parts parts n hand (stepped.Undone fault hand)
-not_ready told parts n hand error fault fits refused is =
-    refused_by told parts parts n hand error fault fits (fit_of_parts told parts n hand fits).over (record { layout = refl; tells = refl; faults = omega arith })
-    (record { transactions = refl; locks = refl; rights = refl; journal = refl; queue = refl; dropped = refl }) refused is
+    → Leaves told old.pages new.pages → SameBesidePages old new → Refused told (Untold told old.pages) old.pages new.pages error → NamesAPage old.pages.layout error → fault ≡ fault_of error
+    → StepsSo told old new n hand (stepped.Undone fault hand)
+refused_by told old new n hand error fault fits over leaves same refused names is =
+    subst (λ (f : StoreFault). StepsSo told old new n hand (stepped.Undone f hand)) (sym is) (refused_is_undone told old new n hand error fits over leaves same refused names)
 
 -- a full journal has no room for one more, and where there is none for a mark with its look there is none for two
 pub none_more : (long : ℕ) → MAX_ENTRIES ≤ long → MAX_ENTRIES < long + 1

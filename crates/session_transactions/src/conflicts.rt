@@ -1,6 +1,6 @@
 //! Whether another transaction keeps the session's from deleting a row.
 
-ghost use Rattle.std.specs.Prelude.{◌≡◌, ◌<◌, List, None, Some, IsSome, length, IfOk};
+ghost use Rattle.std.specs.Prelude.{◌≡◌, ◌<◌, List, None, Some, IsSome, length, IfErr, IfOk};
 ghost use Rattle.page_store.specs.Survives.{Survives};
 ghost use Rattle.page_layout.specs.PageContents.{Slot};
 ghost use Rattle.page_layout.specs.RowBytes.{StoredRow};
@@ -14,6 +14,7 @@ ghost use Rattle.snapshot_core.specs.StoredVersions.{transaction_of};
 ghost use Rattle.snapshot_core.specs.declared.statuses.Status.{Status as AnyStatus};
 ghost use Rattle.tx_table.specs.Durable.{IsBefore};
 ghost use Rattle.transactions.specs.TransactionsState.{OfOpen};
+ghost use Rattle.session_parts.specs.DamagedPages.{NamesAPage};
 ghost use Rattle.session_transactions.specs.HitConflicts.{HitConflicts};
 
 use disk_trait::Disk;
@@ -42,6 +43,7 @@ pub(crate) fn hit_conflicts<D: Disk + Drop>(
     ensures conflicts { IfOk result (λ conflicts. OfOpen transactions.now session (λ o. HitConflicts D.told pages.old transactions.now.tx.first table hit o.t conflicts)) }
     ensures kept { Keeps D.told pages.old pages.new }
     ensures survives { Survives D.told (IsBefore pages.old) pages.old pages.new }
+    ensures names { IfErr result (NamesAPage pages.old.layout) }
     ensures outcome { Outcome D.told (Untold D.told pages.old) pages.old pages.new result }
 {
     let own = transactions.open(session).t;

@@ -19,7 +19,6 @@ pub mod Joined
 pub mod Grown
 pub mod DesummariseStepped
 pub mod DesummariseLocking
-pub mod DesummariseFaults
 pub mod DesummariseShown
 pub mod DesummariseSettling
 pub mod DesummariseTables

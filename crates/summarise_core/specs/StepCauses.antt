@@ -1,6 +1,6 @@
 -- what a step of a summarise at a range needs, and when each error comes
 use Rattle.std.specs.Prelude.{◌≡◌, ◌⊎◌, ℕ, ◌≤◌, None}
-use Rattle.store_layout.specs.DiskLayout.{DiskLayout}
+use Rattle.store_layout.specs.DiskLayout.{DiskLayout, IsPlace}
 use Rattle.page_map.specs.declared.faults.MachineFault.{MachineFault}
 use Rattle.page_map.specs.declared.faults.MachineFault.TheVariants as faults
 use Rattle.page_map.specs.Outcome.{NamesPage}
@@ -37,9 +37,10 @@ DamageAt layout pages index range hand stages.Pass = (hand.extent ≤ hand.next)
 DamageAt layout pages index range hand (stages.Copy x) = IsMisread (shape_of layout index) (contents layout pages index) range x
 DamageAt layout pages index range hand stage = ⊥
 
--- damage is told by the byte at which a page of the heap of the index's table begins
+-- damage is told by the byte at which a page begins that the heap of the index's table may have
 abbrev pub FaultNamesHeapPage : DiskLayout → (index : ℕ) → MachineFault → Type 0
-FaultNamesHeapPage layout index (faults.Store error) = (block : ℕ) × NamesPage layout (record { relation = relation_of (table_of layout index); block = block }) error
+FaultNamesHeapPage layout index (faults.Store error) =
+    (block : ℕ) × IsPlace layout (record { relation = relation_of (table_of layout index); block = block }) × NamesPage layout (record { relation = relation_of (table_of layout index); block = block }) error
 FaultNamesHeapPage layout index fault = Unit {0}
 
 -- damage is told by the byte at which a page of the index begins; in the pass, which reads rows too, also by that of a page of the heap

@@ -176,6 +176,7 @@ fn clear<D: Disk + Drop>(
         Ok(()) => {}
         Err(held) => return Ok((Stage::Clear(spot), Did::Blocked(held))),
     }
+    pages.layout().known();
     match set(pages, at.index, at.range, Some(spot), None) {
         Ok(()) => Ok((Stage::Drop(spot), Did::Moved(Point::Clear))),
         Err(SetFault::Changed { .. }) => {

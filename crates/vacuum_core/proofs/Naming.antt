@@ -18,26 +18,27 @@ use Rattle.heap_rows.specs.LeavesOthers.{LeavesOthers as LeavesOtherTables}
 use Rattle.index_contents.specs.IndexChanges.{LeavesOtherPages}
 use Rattle.index_contents.specs.IndexContents.{contents, contents_in, index_page, relation_of}
 use Rattle.index_contents.specs.KeepsOrder.{KeepsOrder}
+use Rattle.index_steps.specs.DamagedPages.{status_place, table_place}
 use Rattle.index_steps.specs.Readings.{NamesPageOf}
 use Rattle.vacuum_core.specs.declared.standing.Standing.{Standing}
 use Rattle.vacuum_core.specs.declared.standing.Standing.TheVariants as standings
 use Rattle.vacuum_core.specs.NextPages.{IsWithin, NamesPageOfSome}
 use Rattle.vacuum_core.specs.Vacuums.{IsNextPlace, NamesPageRead, StandsWell, VacuumState, standing_at}
 
-pub names_table : (layout : DiskLayout) (table block : ℕ) (error : StoreError) → NamesPage layout (record { relation = table_relation table; block = block }) error → NamesPageRead layout table error
-names_table layout table block errors.Disk names = tt
-names_table layout table block (errors.Reopen faults) names = tt
-names_table layout table block (errors.Damaged at) names = (record { relation = table_relation table; block = block }, names, inl refl)
+pub names_table : (layout : DiskLayout) (table block : ℕ) (error : StoreError) → table < length layout.schema.tables → block < layout.sizes.heap_blocks → NamesPage layout (record { relation = table_relation table; block = block }) error → NamesPageRead layout table error
+names_table layout table block errors.Disk there below names = tt
+names_table layout table block (errors.Reopen faults) there below names = tt
+names_table layout table block (errors.Damaged at) there below names = (record { relation = table_relation table; block = block }, table_place layout table block there below, names, inl refl)
 
 pub names_statuses : (layout : DiskLayout) (table : ℕ) (error : StoreError) → NamesStatuses layout error → NamesPageRead layout table error
 names_statuses layout table errors.Disk names = tt
 names_statuses layout table (errors.Reopen faults) names = tt
-names_statuses layout table (errors.Damaged at) names = (record { relation = status_relation; block = names.0 }, names.2, inr (inl refl))
+names_statuses layout table (errors.Damaged at) names = (record { relation = status_relation; block = names.0 }, status_place layout names.0 names.1, names.2, inr (inl refl))
 
 pub names_index : (layout : DiskLayout) (table index : ℕ) (error : StoreError) → NamesPageOf layout index error → NamesPageRead layout table error
 names_index layout table index errors.Disk names = tt
 names_index layout table index (errors.Reopen faults) names = tt
-names_index layout table index (errors.Damaged at) names = (record { relation = relation_of layout index; block = names.0 }, names.1, inr (inr (index, refl)))
+names_index layout table index (errors.Damaged at) names = (record { relation = relation_of layout index; block = names.0 }, names.1, names.2, inr (inr (index, refl)))
 
 pub names_some : (layout : DiskLayout) (table : ℕ) (error : StoreError) → NamesPageOfSome layout error → NamesPageRead layout table error
 names_some layout table error names = names_index layout table names.0 error names.1

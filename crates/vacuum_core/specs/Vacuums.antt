@@ -4,7 +4,7 @@ use Rattle.block_model.specs.declared.place.Place.{Place}
 use Rattle.block_model.specs.declared.reply.Point.{Point}
 use Rattle.block_model.specs.declared.reply.Point.TheVariants as points
 use Rattle.disk_trait.specs.Told.{Told}
-use Rattle.store_layout.specs.DiskLayout.{DiskLayout, page_offset}
+use Rattle.store_layout.specs.DiskLayout.{DiskLayout, IsPlace, page_offset}
 use Rattle.page_layout.specs.PageContents.{Slot}
 use Rattle.page_map.specs.Keeps.{Keeps}
 use Rattle.page_map.specs.PageMap.{PageMap, View}
@@ -211,9 +211,9 @@ BlockedAt told a actor old new locks standing answer = Unit {0}
 abbrev pub IsOfVacuum : DiskLayout → (table relation : ℕ) → Type 0
 IsOfVacuum layout table relation = (relation ≡ table_relation table) ⊎ ((relation ≡ status_relation) ⊎ ((index : ℕ) × (relation ≡ relation_of layout index)))
 
--- damage is told by the byte of the disk at which a page of one of these begins
+-- damage is told by the byte of the disk at which a page begins that one of these may have
 abbrev pub NamesPageRead : DiskLayout → (table : ℕ) → StoreError → Type 0
-NamesPageRead layout table (errors.Damaged at) = (place : Place) × (at ≡ page_offset layout place) × IsOfVacuum layout table place.relation
+NamesPageRead layout table (errors.Damaged at) = (place : Place) × IsPlace layout place × (at ≡ page_offset layout place) × IsOfVacuum layout table place.relation
 NamesPageRead layout table error = Unit {0}
 
 -- a vacuum is refused by the page store alone

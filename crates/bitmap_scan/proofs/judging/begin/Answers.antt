@@ -6,6 +6,7 @@ use Rattle.bitmap_scan.specs.IndexReaders.{all_scanned, hand_at}
 use Rattle.bitmap_scan.specs.ScanHands.{scanned_indexes}
 use Rattle.bitmap_scan.specs.ScanSteps.{JudgesTo}
 use Rattle.bitmap_scan.proofs.JudgedRanges.{begins}
+use Rattle.bitmap_scan.proofs.Ahead.{names_none}
 use Rattle.bitmap_scan.proofs.judging.begin.Goals as goal
 
 pub returns-clause-judged : goal.returns-clause-judged
@@ -16,3 +17,6 @@ returns-clause-judged g c = λ tells query before on is.
     subst (λ (stage : Stage). JudgesTo store.layout store.pages (hand_at query c.args.readers.now stages.Extent before c.args.candidates.now) (hand_at query c.args.readers.now stage extent c.begin_with.new.candidates)) (sym c.first_range.ensures)
     (begins store.layout store.pages query (all_scanned c.args.readers.now) there before extent c.args.candidates.now c.begin_with.new.candidates
     (λ blocks has. c.blocks-extent.ensures.count tells blocks (subst (λ (t : ℕ). HasBlocks store.layout store.pages t blocks) on has)) c.begin_with.ensures)
+
+pub returns-in-Err-clause-names : goal.returns-in-Err-clause-names
+returns-in-Err-clause-names g c = names_none c.in-Err.error c.in-Err.ensures.reopen

@@ -13,6 +13,7 @@ use Rattle.store_layout.specs.DiskLayout.{DiskLayout}
 use Rattle.brin_insert.specs.declared.insert.Insert.{Insert}
 use Rattle.block_model.specs.declared.reply.Point.TheVariants as points
 use Rattle.brin_insert.specs.AskedFor.{InsertAsks}
+use Rattle.brin_insert.specs.InsertAnswers.{relation_at}
 use Rattle.brin_insert.specs.InsertHands.{InsertHand}
 use Rattle.brin_insert.specs.Inserts.{IsInsertFor}
 use Rattle.session_parts.specs.declared.hand.Hand.{Hand}
@@ -23,6 +24,7 @@ use Rattle.session_parts.specs.declared.faults.StoreFault.TheVariants as stops
 use Rattle.session_parts.specs.declared.faults.StoreFault.{StoreFault}
 use Rattle.session_parts.specs.StoreFaults.{fault_of}
 use Rattle.disk_trait.specs.Told.{Told}
+use Rattle.session_parts.specs.DamagedPages.{relation_names, reopen_names}
 use Rattle.session_parts.specs.UndoneLaws.{StepsSo}
 use Rattle.std.proofs.lemmas.Bool.{false≢true}
 use Rattle.block_model.specs.declared.place.Spot.{Spot}
@@ -59,7 +61,8 @@ returns-in-Err g c =
     let is : c.undone.result ≡ stepped.Undone (fault_of c.in-Err.error) hand = c.undone.ensures ∙ ap (λ (f : StoreFault). stepped.Undone f hand) c.fault_of.ensures in
     let fits = c.an_undone_step_changes_nothing.ensures.parts parts c.args.session hand c.requires.fit in
     let so : StepsSo g.D.Disk.told parts parts c.args.session hand c.undone.result = subst (λ (a : Stepped). StepsSo g.D.Disk.told parts parts c.args.session hand a) (sym is)
-    (c.an_undone_step_changes_nothing.ensures.refused parts parts c.args.session hand c.in-Err.error c.requires.fit fits.over (leaves_same g.D.Disk.told parts.pages) (record { transactions = refl; locks = refl; rights = refl; journal = refl; queue = refl; dropped = refl }) c.in-Err.ensures.outcome) in
+    (c.an_undone_step_changes_nothing.ensures.refused parts parts c.args.session hand c.in-Err.error c.requires.fit fits.over (leaves_same g.D.Disk.told parts.pages) (record { transactions = refl; locks = refl; rights = refl; journal = refl; queue = refl; dropped = refl }) c.in-Err.ensures.outcome
+    (reopen_names parts.pages.layout c.in-Err.error c.in-Err.ensures.reopen)) in
     record { steps = so.steps; fit = so.fit; others = so.others; stays = so.stays; cause = so.cause; spare = c.requires.spare; survives = passed_none g.D.Disk.told (IsBefore parts.pages) parts.pages parts.pages c.ready.ensures.stays }
 
 -- the step may be made
@@ -305,5 +308,5 @@ returns-in-Err-Store g c =
     subst (λ (l : List (ℕ × ℕ)). StepsSo g.D.Disk.told parts (record then { queue = l }) c.args.session hand c.undone-in-Err-Store.result) (sym c.in-Err-Store.ensures.queue)
     (subst (λ (a : Stepped). StepsSo g.D.Disk.told parts then c.args.session hand a) (sym is)
     (undone_so g.D.Disk.told c.one_hand_changes.ensures laws.stores parts c.step.new.pages c.drop_all.new.self parts.journal c.args.session hand (hands.Inserts after) undone c.in-Err-Store.error
-    (rw c.in-Err-Store.field-0-is at c.in-Err-Store.ensures.outcome))) in
+    (rw c.in-Err-Store.field-0-is at c.in-Err-Store.ensures.outcome) (relation_names parts.pages.layout (relation_at parts.pages.layout c.args.insert) c.in-Err-Store.error (rw c.in-Err-Store.field-0-is at c.in-Err-Store.ensures.at)))) in
     record { steps = so.steps; fit = so.fit; others = so.others; stays = so.stays; cause = so.cause; spare = c.requires.spare; survives = c.step.ensures.survives }

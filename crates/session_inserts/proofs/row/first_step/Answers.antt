@@ -19,7 +19,7 @@ use Rattle.script_semantics.specs.Names.{table_name}
 use Rattle.index_steps.specs.ShownRows.{shown_by}
 use Rattle.coverage.specs.Table.{Task}
 use Rattle.brin_insert.specs.declared.insert.Insert.{Insert}
-use Rattle.brin_insert.specs.InsertAnswers.{IsInsertFull, WaitsForNoRow}
+use Rattle.brin_insert.specs.InsertAnswers.{IsInsertFull, WaitsForNoRow, relation_at}
 use Rattle.brin_insert.specs.InsertLocks.{held_by, stage_of}
 use Rattle.brin_insert.specs.Inserts.{HasStepAt, IsInsertFor, task_at, work_of}
 use Rattle.brin_insert.proofs.OwnLocks.{no_stage}
@@ -30,6 +30,7 @@ use Rattle.session_parts.specs.declared.hand.Hand.TheVariants as hands
 use Rattle.session_parts.specs.declared.hand.Stepped.TheVariants as stepped
 use Rattle.session_parts.specs.declared.parts.Parts.{Parts}
 use Rattle.session_parts.specs.StepIs.{answer_of}
+use Rattle.session_parts.specs.DamagedPages.{relation_names}
 use Rattle.session_parts.specs.UndoneLaws.{StepsSo}
 use Rattle.session_inserts.specs.Promised.{unpromised}
 use Rattle.page_store.specs.Survives.{Survives}
@@ -302,7 +303,7 @@ returns-in-Err-Store g c =
     subst (λ (l : List (ℕ × ℕ)). StepsSo g.D.Disk.told (unpromised parts) (record beside { queue = l }) c.args.session hand (stepped.Undone c.fault_of.result hand)) (sym c.in-Err-Store.ensures.queue)
     (subst (λ (f : StoreFault). StepsSo g.D.Disk.told (unpromised parts) beside c.args.session hand (stepped.Undone f hand)) (sym c.fault_of.ensures)
     (undone_so g.D.Disk.told c.one_hand_changes.ensures laws.stores (unpromised parts) c.step.new.pages c.drop_all.new.self c.release-in-Err-Store.new.self c.args.session hand hand undone c.in-Err-Store.error
-    (rw c.in-Err-Store.field-0-is at c.in-Err-Store.ensures.outcome))) in
+    (rw c.in-Err-Store.field-0-is at c.in-Err-Store.ensures.outcome) (relation_names parts.pages.layout (relation_at parts.pages.layout c.in-Some.insert) c.in-Err-Store.error (rw c.in-Err-Store.field-0-is at c.in-Err-Store.ensures.at)))) in
     let then = put_settles g.D.Disk.told (unpromised parts) new c.args.session c.args.spare.now c.in-Some.insert c.undone.new.left c.undone.result c.in-Some.is
     (record { stepped = stepped.Undone c.fault_of.result hand; so = so; left_is = c.undone.ensures.left ∙ ap (λ (h : Hand). Some h) hand_is; answer_is = c.undone.ensures.fault }) in
     record { so = then; spare = c.step.ensures.made; survives = c.step.ensures.survives }

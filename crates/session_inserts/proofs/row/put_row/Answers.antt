@@ -22,6 +22,7 @@ use Rattle.session_parts.specs.declared.hand.Hand.TheVariants as hands
 use Rattle.session_parts.specs.declared.hand.Stepped.TheVariants as stepped
 use Rattle.session_parts.specs.declared.parts.Parts.{Parts}
 use Rattle.session_parts.specs.Stepping.{IsFit, IsShown}
+use Rattle.session_parts.specs.DamagedPages.{reopen_names}
 use Rattle.session_parts.specs.UndoneLaws.{StepsSo}
 use Rattle.session_inserts.specs.Promised.{unpromised}
 use Rattle.session_inserts.specs.Settling.{SettlesSo}
@@ -40,7 +41,8 @@ returns-in-Err g c =
     let hand = hands.Puts c.args.table c.args.values in
     let fits = c.an_undone_step_changes_nothing.ensures.parts parts c.args.session hand c.requires.fit in
     let so : StepsSo g.D.Disk.told parts parts c.args.session hand (stepped.Undone c.fault_of.result hand) = subst (λ (f : StoreFault). StepsSo g.D.Disk.told parts parts c.args.session hand (stepped.Undone f hand)) (sym c.fault_of.ensures)
-    (c.an_undone_step_changes_nothing.ensures.refused parts parts c.args.session hand c.in-Err.error c.requires.fit fits.over (leaves_same g.D.Disk.told parts.pages) (record { transactions = refl; locks = refl; rights = refl; journal = refl; queue = refl; dropped = refl }) c.in-Err.ensures.outcome) in
+    (c.an_undone_step_changes_nothing.ensures.refused parts parts c.args.session hand c.in-Err.error c.requires.fit fits.over (leaves_same g.D.Disk.told parts.pages) (record { transactions = refl; locks = refl; rights = refl; journal = refl; queue = refl; dropped = refl }) c.in-Err.ensures.outcome
+    (reopen_names parts.pages.layout c.in-Err.error c.in-Err.ensures.reopen)) in
     record { so = record { stepped = stepped.Undone c.fault_of.result hand; so = so; left_is = c.undone.ensures.left; answer_is = c.undone.ensures.fault }; spare = c.requires.spare; survives = passed_none g.D.Disk.told (IsBefore parts.pages) parts.pages parts.pages c.ready.ensures.stays }
 
 pub returns-then-not-fits : goal.returns-then-not-fits

@@ -14,6 +14,7 @@ use Rattle.session_parts.specs.declared.hand.Hand.TheVariants as hands
 use Rattle.session_parts.specs.declared.hand.Stepped.{Stepped}
 use Rattle.session_parts.specs.declared.hand.Stepped.TheVariants as stepped
 use Rattle.session_parts.specs.declared.faults.StoreFault.{StoreFault}
+use Rattle.session_parts.specs.DamagedPages.{reopen_names, vacuum_names}
 use Rattle.session_parts.specs.StoreFaults.{fault_of}
 use Rattle.session_parts.specs.UndoneLaws.{StepsSo}
 use Rattle.session_parts.proofs.Undone.{refused_is_undone}
@@ -35,7 +36,7 @@ returns-in-Err g c =
     let is : c.undone.result ≡ stepped.Undone (fault_of c.in-Err.error) hand = c.undone.ensures ∙ ap (λ (f : StoreFault). stepped.Undone f hand) c.fault_of.ensures in
     let so : StepsSo told parts parts c.args.session hand c.undone.result = subst (λ (a : Stepped). StepsSo told parts parts c.args.session hand a) (sym is)
     (refused_is_undone told parts parts c.args.session hand c.in-Err.error c.requires.fit (fits told parts c.args.session c.args.cleaning c.requires.fit).over (leaves_same told parts.pages)
-    (record { transactions = refl; locks = refl; rights = refl; journal = refl; queue = refl; dropped = refl }) c.in-Err.ensures.outcome) in
+    (record { transactions = refl; locks = refl; rights = refl; journal = refl; queue = refl; dropped = refl }) c.in-Err.ensures.outcome (reopen_names parts.pages.layout c.in-Err.error c.in-Err.ensures.reopen)) in
     record { steps = so.steps; fit = so.fit; others = so.others; stays = so.stays; cause = so.cause; survives = survives_still told parts.pages c.ready.ensures.stays }
 
 -- the step may be made
@@ -185,7 +186,8 @@ returns-in-Err-Store g c =
     c.undone-in-Err-Store.ensures ∙ ap (λ (f : StoreFault). stepped.Undone f (hands.Cleans (record { vacuum = c.step.new.self; summaries = c.args.cleaning.summaries }))) c.fault_of-in-Err-Store.ensures in
     let said : StepsSo told parts (with_these parts c.step.new.pages c.step.new.rights) c.args.session (hands.Cleans c.args.cleaning) c.undone-in-Err-Store.result =
     subst (λ (a : Stepped). StepsSo told parts (with_these parts c.step.new.pages c.step.new.rights) c.args.session (hands.Cleans c.args.cleaning) a) (sym is)
-    (refused told parts c.args.session c.args.cleaning c.requires.fit c.step.new.pages c.step.new.self (record { of_then = e.of; table = e.same_table; others = e.others; leaves = e.leaves; order = e.order }) it.stays c.step.new.rights it.rights c.in-Err-Store.error (rw c.in-Err-Store.field-0-is at it.outcome)) in
+    (refused told parts c.args.session c.args.cleaning c.requires.fit c.step.new.pages c.step.new.self (record { of_then = e.of; table = e.same_table; others = e.others; leaves = e.leaves; order = e.order }) it.stays c.step.new.rights it.rights c.in-Err-Store.error (rw c.in-Err-Store.field-0-is at it.outcome)
+    (vacuum_names parts.pages.layout c.args.cleaning.vacuum.table c.in-Err-Store.error (rw c.in-Err-Store.field-0-is at it.at))) in
     let so : StepsSo told parts (record parts { pages = c.step.new.pages; locks = c.step.new.locks; rights = c.step.new.rights }) c.args.session (hands.Cleans c.args.cleaning) c.undone-in-Err-Store.result =
     subst (λ (l : LockState). StepsSo told parts (record parts { pages = c.step.new.pages; locks = l; rights = c.step.new.rights }) c.args.session (hands.Cleans c.args.cleaning) c.undone-in-Err-Store.result) (sym e.locks)
     said in

@@ -12,6 +12,7 @@ use Rattle.session_parts.specs.declared.hand.Hand.TheVariants as hands
 use Rattle.session_parts.specs.declared.hand.Stepped.{Stepped}
 use Rattle.session_parts.specs.declared.hand.Stepped.TheVariants as stepped
 use Rattle.session_parts.specs.declared.faults.StoreFault.{StoreFault}
+use Rattle.session_parts.specs.DamagedPages.{index_names}
 use Rattle.session_parts.specs.StoreFaults.{fault_of}
 use Rattle.session_parts.specs.UndoneLaws.{StepsSo}
 use Rattle.session_parts.proofs.Undone.{fit_of_parts}
@@ -172,7 +173,8 @@ returns-in-Err-Store g c =
     (sym c.in-Err-Store.ensures.rights)
     (refused told parts c.args.session c.args.desummarise c.requires.fit below c.requires.shown c.a_kept_table_takes_a_desummarise.ensures c.step.new.pages c.step.new.locks c.drop_all.new.self c.step.new.self
     (record { of = e.of; index = e.same_index; block = e.same_block; others = e.others; order = e.order; leaves = e.locks; counts = e.counts })
-    c.in-Err-Store.ensures.stays c.drop_all.ensures.limit c.drop_all.ensures.none (λ m other. c.drop_all.ensures.counts.others m other) c.in-Err-Store.error (rw c.in-Err-Store.field-0-is at c.in-Err-Store.ensures.outcome))) in
+    c.in-Err-Store.ensures.stays c.drop_all.ensures.limit c.drop_all.ensures.none (λ m other. c.drop_all.ensures.counts.others m other) c.in-Err-Store.error (rw c.in-Err-Store.field-0-is at c.in-Err-Store.ensures.outcome)
+    (index_names parts.pages.layout c.args.desummarise.index c.in-Err-Store.error (rw c.in-Err-Store.field-0-is at c.in-Err-Store.ensures.at)))) in
     record { steps = so.steps; fit = so.fit; others = so.others; stays = so.stays; cause = so.cause; survives = e.survives }
 
 -- it lacks neither a page nor memory

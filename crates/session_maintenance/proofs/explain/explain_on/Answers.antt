@@ -69,7 +69,7 @@ pub returns-in-Err-Store : goal.returns-in-Err-Store
 returns-in-Err-Store g c =
     let e = c.step.ensures in
     let so = undone_by g.D.Disk.told c.args.parts.now c.step.new.pages c.args.session c.args.explain c.step.new.self c.requires.fit e.kept
-    c.a_kept_table_is_scanned.ensures c.requires.shown c.known.ensures c.in-Err-Store.field-0 c.in-Err-Store.error c.in-Err-Store.field-0-is c.in-Err-Store.ensures.outcome c.undone.result
+    c.a_kept_table_is_scanned.ensures c.requires.shown c.known.ensures c.in-Err-Store.field-0 c.in-Err-Store.error c.in-Err-Store.field-0-is c.in-Err-Store.ensures.outcome c.in-Err-Store.ensures.names c.undone.result
     (c.undone.ensures ∙ ap (λ (f : StoreFault). stepped.Undone f (hands.Explains c.step.new.self)) c.fault_of.ensures
     ∙ ap (λ (x : ExplainHand). stepped.Undone (fault_of c.in-Err-Store.error) (hands.Explains x)) c.in-Err-Store.ensures.same) in
     record { steps = so.steps; fit = so.fit; others = so.others; stays = so.stays; cause = so.cause; survives = e.survives }

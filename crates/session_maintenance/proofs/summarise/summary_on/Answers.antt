@@ -19,6 +19,7 @@ use Rattle.session_parts.specs.declared.hand.Stepped.{Stepped}
 use Rattle.session_parts.specs.declared.hand.Stepped.TheVariants as stepped
 use Rattle.session_parts.specs.declared.faults.StoreFault.{StoreFault}
 use Rattle.session_parts.specs.declared.parts.Parts.{Parts}
+use Rattle.session_parts.specs.DamagedPages.{reopen_names, summary_names}
 use Rattle.session_parts.specs.StoreFaults.{fault_of}
 use Rattle.session_parts.specs.UndoneLaws.{StepsSo}
 use Rattle.session_parts.proofs.Undone.{fit_of_parts, refused_is_undone}
@@ -42,7 +43,7 @@ returns-in-Err g c =
     c.undone.ensures ∙ ap (λ (f : StoreFault). stepped.Undone f c.hand_for.result) c.fault_of.ensures ∙ ap (stepped.Undone (fault_of c.in-Err.error)) c.hand_for.ensures in
     let so : StepsSo told parts parts c.args.session hand c.undone.result = subst (λ (a : Stepped). StepsSo told parts parts c.args.session hand a) (sym is)
     (refused_is_undone told parts parts c.args.session hand c.in-Err.error c.requires.fit (fit_of_parts told parts c.args.session hand c.requires.fit).over (leaves_same told parts.pages)
-    (record { transactions = refl; locks = refl; rights = refl; journal = refl; queue = refl; dropped = refl }) c.in-Err.ensures.outcome) in
+    (record { transactions = refl; locks = refl; rights = refl; journal = refl; queue = refl; dropped = refl }) c.in-Err.ensures.outcome (reopen_names parts.pages.layout c.in-Err.error c.in-Err.ensures.reopen)) in
     record { so = so; survives = survives_still told parts.pages c.ready.ensures.stays }
 
 -- the step may be made
@@ -267,7 +268,8 @@ returns-in-Err-Store g c =
     (sym c.in-Err-Store.ensures.rights)
     (refused told parts c.args.session (hand_for c.args.asker) by c.args.summarise c.requires.fit below c.requires.shown c.a_kept_table_takes_a_summarise.ensures.sound c.step.new.pages c.step.new.locks c.drop_all.new.self c.step.new.self
     (record { of = e.of; index = e.same_index; wish = e.same_wish; others = e.others; order = e.order; leaves = e.locks; counts = e.counts })
-    c.in-Err-Store.ensures.stays.0 c.drop_all.ensures.limit c.drop_all.ensures.none (λ m other. c.drop_all.ensures.counts.others m other) c.in-Err-Store.error (rw c.in-Err-Store.field-0-is at c.in-Err-Store.ensures.outcome))) in
+    c.in-Err-Store.ensures.stays.0 c.drop_all.ensures.limit c.drop_all.ensures.none (λ m other. c.drop_all.ensures.counts.others m other) c.in-Err-Store.error (rw c.in-Err-Store.field-0-is at c.in-Err-Store.ensures.outcome)
+    (summary_names parts.pages.layout c.args.summarise.index c.args.summarise.hand.stage c.in-Err-Store.error (rw c.in-Err-Store.field-0-is at c.in-Err-Store.ensures.at)))) in
     record { so = so; survives = e.survives }
 
 -- it takes no memory

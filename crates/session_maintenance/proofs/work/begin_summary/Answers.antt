@@ -16,6 +16,7 @@ use Rattle.session_parts.specs.declared.hand.Stepped.{Stepped}
 use Rattle.session_parts.specs.declared.hand.Stepped.TheVariants as stepped
 use Rattle.session_parts.specs.declared.faults.StoreFault.{StoreFault}
 use Rattle.session_parts.specs.declared.parts.Parts.{Parts}
+use Rattle.session_parts.specs.DamagedPages.{summary_names}
 use Rattle.session_parts.specs.StoreFaults.{fault_of}
 use Rattle.session_parts.specs.UndoneLaws.{StepsSo}
 use Rattle.session_parts.proofs.Undone.{fit_of_parts}
@@ -165,7 +166,8 @@ returns-in-Err-Store g c =
     (sym c.in-Err-Store.ensures.rights)
     (refused_first told parts c.args.session c.args.range c.args.summarise c.requires.fit below c.requires.begins c.requires.of c.requires.range c.step.new.pages c.step.new.locks c.step.new.self
     (record { of = e.of; index = e.same_index; wish = e.same_wish; others = e.others; order = e.order; leaves = e.locks; counts = e.counts })
-    c.drop_all.new.self c.drop_all.ensures.limit c.drop_all.ensures.none (λ m other. c.drop_all.ensures.counts.others m other) c.in-Err-Store.error (rw c.in-Err-Store.field-0-is at c.in-Err-Store.ensures.outcome))) in
+    c.drop_all.new.self c.drop_all.ensures.limit c.drop_all.ensures.none (λ m other. c.drop_all.ensures.counts.others m other) c.in-Err-Store.error (rw c.in-Err-Store.field-0-is at c.in-Err-Store.ensures.outcome)
+    (summary_names parts.pages.layout c.args.summarise.index c.args.summarise.hand.stage c.in-Err-Store.error (rw c.in-Err-Store.field-0-is at c.in-Err-Store.ensures.at)))) in
     record { so = so; survives = e.survives }
 
 -- it waits for no page, has the summarise lock, and takes no memory

@@ -5,6 +5,7 @@ use Rattle.session_parts.specs.declared.hand.Hand.TheVariants as hands
 use Rattle.session_parts.specs.declared.hand.Stepped.{Stepped}
 use Rattle.session_parts.specs.declared.hand.Stepped.TheVariants as stepped
 use Rattle.session_parts.specs.declared.faults.StoreFault.{StoreFault}
+use Rattle.session_parts.specs.DamagedPages.{reopen_names}
 use Rattle.session_parts.specs.StoreFaults.{fault_of}
 use Rattle.session_parts.specs.UndoneLaws.{StepsSo}
 use Rattle.session_parts.proofs.Undone.{fit_of_parts, refused_is_undone}
@@ -22,7 +23,7 @@ returns-in-Err g c =
     let is : c.undone.result ≡ stepped.Undone (fault_of c.in-Err.error) hands.Working = c.undone.ensures ∙ ap (λ (f : StoreFault). stepped.Undone f hands.Working) c.fault_of.ensures in
     let so : StepsSo told parts parts c.args.session hands.Working c.undone.result = subst (λ (a : Stepped). StepsSo told parts parts c.args.session hands.Working a) (sym is)
     (refused_is_undone told parts parts c.args.session hands.Working c.in-Err.error c.requires.fit (fit_of_parts told parts c.args.session hands.Working c.requires.fit).over (leaves_same told parts.pages)
-    (record { transactions = refl; locks = refl; rights = refl; journal = refl; queue = refl; dropped = refl }) c.in-Err.ensures.outcome) in
+    (record { transactions = refl; locks = refl; rights = refl; journal = refl; queue = refl; dropped = refl }) c.in-Err.ensures.outcome (reopen_names parts.pages.layout c.in-Err.error c.in-Err.ensures.reopen)) in
     record { steps = so.steps; fit = so.fit; others = so.others; stays = so.stays; cause = so.cause; survives = survives_still told parts.pages c.ready.ensures.stays }
 
 -- a request came first

@@ -4,7 +4,7 @@ use Rattle.session_scans.proofs.begins.begin.Goals as goal
 
 pub returns-in-Err-clause-so : goal.returns-in-Err-clause-so
 returns-in-Err-clause-so g c =
-    refused_at_once g.D.Disk.told c.args.parts.now c.args.session (first_hand_of c.args.looking c.args.query) c.requires.fit c.in-Err.error c.in-Err.ensures.outcome c.fault_of.result c.fault_of.ensures c.first_hand.result c.first_hand.ensures
+    refused_at_once g.D.Disk.told c.args.parts.now c.args.session (first_hand_of c.args.looking c.args.query) c.requires.fit c.in-Err.error c.in-Err.ensures.reopen c.in-Err.ensures.outcome c.fault_of.result c.fault_of.ensures c.first_hand.result c.first_hand.ensures
 
 pub scan_on-requires-clause-may : goal.scan_on-requires-clause-may
 scan_on-requires-clause-may g c =

@@ -5,7 +5,7 @@ use Rattle.store_layout.specs.declared.limits.TheConstants.{MAX_ENTRIES}
 use Rattle.page_locks.specs.declared.did.Did.TheVariants as did
 use Rattle.tx_table.proofs.Parts.{before_then}
 use Rattle.bitmap_scan.specs.ScanAnswers.{IsDamagedAt}
-use Rattle.session_scans.proofs.Machine.{made_behind, may_then, next_then, refused_by_pages, refused_read, spent_there}
+use Rattle.session_scans.proofs.Machine.{made_behind, may_then, names_there, next_then, refused_by_pages, refused_read, spent_there}
 use Rattle.session_scans.proofs.scanning.scan_on.Goals as goal
 
 pub step_on-requires-in-Ok-false-clause-may : goal.step_on-requires-in-Ok-false-clause-may
@@ -43,3 +43,4 @@ returns-in-Err-Store-clause-so g c =
     refused_by_pages told c.laws_of_looks.ensures parts c.args.session c.args.looking scan c.requires.may c.requires.ready c.peek.new.pages c.peek.ensures.kept c.peek.new.self c.peek.ensures.same
     c.undone-in-Err-Store.new.parts c.undone-in-Err-Store.result c.fault_of.result c.undone-in-Err-Store.ensures.answer c.undone-in-Err-Store.ensures.parts c.a_kept_table_is_scanned.ensures c.known.ensures.hand
     c.in-Err-Store.error c.fault_of.ensures (refused_read told damaged parts.pages c.peek.new.pages c.in-Err-Store.error c.in-Err-Store.field-0 c.in-Err-Store.field-0-is c.in-Err-Store.ensures.outcome)
+    (names_there parts.pages.layout scan scan.next c.in-Err-Store.error c.in-Err-Store.field-0 c.in-Err-Store.field-0-is c.in-Err-Store.ensures.names)

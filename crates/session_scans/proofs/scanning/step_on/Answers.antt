@@ -6,7 +6,7 @@ use Rattle.page_map.specs.PageMap.{View}
 use Rattle.tx_table.specs.Durable.{IsBefore}
 use Rattle.bitmap_scan.specs.ScanAnswers.{IsDamagedAt}
 use Rattle.session_scans.proofs.Finished.{finished_pages, finished_so}
-use Rattle.session_scans.proofs.Machine.{did_scan, done_well, goes_on, made_behind, may_then, refused_by_pages, refused_there, remembered_by, short_well}
+use Rattle.session_scans.proofs.Machine.{did_scan, done_well, goes_on, made_behind, may_then, names_there, refused_by_pages, refused_there, remembered_by, short_well}
 use Rattle.session_scans.proofs.scanning.step_on.Goals as goal
 
 pub step-requires-clause-remembers : goal.step-requires-clause-remembers
@@ -74,3 +74,4 @@ returns-in-Err-Store-clause-so g c =
     refused_by_pages told c.laws_of_looks.ensures parts c.args.session c.args.looking scan c.requires.may c.requires.ready c.step.new.pages c.step.ensures.kept c.step.new.self c.in-Err-Store.ensures.same
     c.undone.new.parts c.undone.result c.fault_of.result c.undone.ensures.answer c.undone.ensures.parts c.a_kept_table_is_scanned.ensures c.known.ensures.hand c.in-Err-Store.error c.fault_of.ensures
     (refused_there told damaged parts.pages c.step.new.pages scan.next c.in-Err-Store.error c.in-Err-Store.field-0 c.in-Err-Store.field-0-is c.in-Err-Store.ensures.outcome)
+    (names_there parts.pages.layout scan scan.next c.in-Err-Store.error c.in-Err-Store.field-0 c.in-Err-Store.field-0-is c.in-Err-Store.ensures.names)

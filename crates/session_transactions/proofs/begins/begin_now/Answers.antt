@@ -1,11 +1,12 @@
 use Rattle.std.proofs.Common.{Err, refl, sym, subst}
 use Rattle.script_semantics.specs.Place.{database_at}
 use Rattle.tx_table.specs.declared.faults.BeginFault.{BeginFault}
-use Rattle.tx_table.specs.BeginAnswers.{BeginOutcome}
+use Rattle.tx_table.specs.BeginAnswers.{BeginOutcome, NamesStatusPage}
 use Rattle.block_model.specs.declared.reply.Reply.TheVariants as replies
 use Rattle.session_parts.specs.declared.hand.Hand.TheVariants as hands
 use Rattle.session_parts.specs.declared.hand.Stepped.TheVariants as stepped
 use Rattle.session_parts.specs.declared.parts.Parts.{Parts}
+use Rattle.session_parts.specs.DamagedPages.{statuses_names}
 use Rattle.session_parts.specs.UndoneLaws.{StepsSo}
 use Rattle.session_transactions.proofs.Beginning.{begun, the_begin_laws}
 use Rattle.session_transactions.proofs.Undoing.{refused_by}
@@ -34,5 +35,6 @@ returns-in-Store g c =
     subst (λ active. StepsSo told old new c.args.session (hands.Begins c.args.numbers) (stepped.Undone c.fault_of.result (hands.Begins active))) (sym c.in-Err.ensures.back)
     (refused_by told old new c.args.session (hands.Begins c.args.numbers) c.in-Store.error c.fault_of.result c.requires.fit c.begin.ensures.over c.begin.ensures.rest.leaves
     (record { transactions = c.in-Err.ensures.same; locks = refl; rights = refl; journal = refl; queue = refl; dropped = refl })
-    (subst (λ (f : BeginFault). BeginOutcome told old.transactions.tx.next old.pages c.begin.new.pages (Err f)) c.in-Store.is c.in-Err.ensures.outcome).1 c.fault_of.ensures) in
+    (subst (λ (f : BeginFault). BeginOutcome told old.transactions.tx.next old.pages c.begin.new.pages (Err f)) c.in-Store.is c.in-Err.ensures.outcome).1
+    (statuses_names old.pages.layout c.in-Store.error (subst (λ (f : BeginFault). NamesStatusPage old.pages.layout f) c.in-Store.is c.in-Err.ensures.names)) c.fault_of.ensures) in
     record { steps = r.steps; fit = r.fit; others = r.others; stays = r.stays; cause = r.cause; survives = c.begin.ensures.survives }

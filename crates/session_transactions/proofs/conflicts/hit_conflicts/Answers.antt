@@ -4,9 +4,11 @@ use Rattle.block_model.specs.declared.row.RowId.{RowId}
 use Rattle.page_map.specs.PageMap.{PageMap}
 use Rattle.snapshot_core.specs.declared.sessions.Open.{Open}
 use Rattle.store_layout.specs.DiskLayout.{DiskLayout}
+use Rattle.tx_table.specs.LeavesRest.{NamesStatuses}
 use Rattle.tx_table.specs.Statuses.{HasStatuses, shown_status}
 use Rattle.tx_table.specs.TxState.{TxState}
 use Rattle.tx_table.proofs.Parts.{before_then}
+use Rattle.session_parts.specs.DamagedPages.{heap_names, statuses_names}
 use Rattle.session_transactions.proofs.Judging.{by_status}
 use Rattle.session_transactions.proofs.conflicts.hit_conflicts.Goals as goal
 
@@ -27,3 +29,10 @@ returns-in-Ok-status-clause-survives g c = before_then g.D.Disk.told c.args.page
 
 pub returns-in-Err-status-clause-survives : goal.returns-in-Err-status-clause-survives
 returns-in-Err-status-clause-survives g c = before_then g.D.Disk.told c.args.pages.now c.deleter_of.new.pages c.status.new.pages c.deleter_of.ensures.kept c.deleter_of.ensures.survives c.status.ensures.survives
+
+pub returns-in-Err-clause-names : goal.returns-in-Err-clause-names
+returns-in-Err-clause-names g c = heap_names c.args.pages.now.layout c.args.table c.args.hit.spot.block c.in-Err.error c.requires.table c.requires.block c.in-Err.ensures.at
+
+pub returns-in-Err-status-clause-names : goal.returns-in-Err-status-clause-names
+returns-in-Err-status-clause-names g c =
+    statuses_names c.args.pages.now.layout c.in-Err-status.error (subst (λ (l : DiskLayout). NamesStatuses l c.in-Err-status.error) c.deleter_of.ensures.kept.leaves.layout c.in-Err-status.ensures.at)

@@ -4,6 +4,7 @@ use Rattle.script_semantics.specs.Place.{database_at}
 use Rattle.session_parts.specs.declared.hand.Hand.TheVariants as hands
 use Rattle.session_parts.specs.declared.hand.Stepped.TheVariants as stepped
 use Rattle.session_parts.specs.declared.parts.Parts.{Parts}
+use Rattle.session_parts.specs.DamagedPages.{statuses_names}
 use Rattle.session_parts.specs.UndoneLaws.{StepsSo}
 use Rattle.session_parts.proofs.Undone.{fit_of_parts}
 use Rattle.session_transactions.proofs.Ending.{rolls_back}
@@ -33,5 +34,5 @@ returns-in-Err g c =
     let new : Parts _ = record old { pages = c.rollback.new.pages; transactions = c.rollback.new.self } in
     let r : StepsSo told old new c.args.session hands.RollsBack (stepped.Undone c.fault_of.result hands.RollsBack) =
     refused_by told old new c.args.session hands.RollsBack c.in-Err.error c.fault_of.result c.requires.fit c.rollback.ensures.over c.rollback.ensures.rest.leaves
-    (record { transactions = c.in-Err.ensures.same; locks = refl; rights = refl; journal = refl; queue = refl; dropped = refl }) c.in-Err.ensures.outcome c.fault_of.ensures in
+    (record { transactions = c.in-Err.ensures.same; locks = refl; rights = refl; journal = refl; queue = refl; dropped = refl }) c.in-Err.ensures.outcome (statuses_names old.pages.layout c.in-Err.error c.in-Err.ensures.at) c.fault_of.ensures in
     record { steps = r.steps; fit = r.fit; others = r.others; stays = r.stays; cause = r.cause; survives = c.rollback.ensures.survives }

@@ -67,7 +67,7 @@ returns-in-Err-hit_conflicts-clause-steps g c =
     let keeps = c.hit_conflicts.ensures.kept in
     (refused_by told old new c.args.session (hands.Marks c.args.marking) c.in-Err-hit_conflicts.error c.fault_of-in-Err-hit_conflicts.result c.requires.fit
     (over_still told old.transactions.tx old.pages c.hit_conflicts.new.pages (fit_of_parts told old c.args.session (hands.Marks c.args.marking) c.requires.fit).over keeps) keeps.leaves
-    (record { transactions = refl; locks = refl; rights = refl; journal = refl; queue = refl; dropped = refl }) c.in-Err-hit_conflicts.ensures.outcome c.fault_of-in-Err-hit_conflicts.ensures).steps
+    (record { transactions = refl; locks = refl; rights = refl; journal = refl; queue = refl; dropped = refl }) c.in-Err-hit_conflicts.ensures.outcome c.in-Err-hit_conflicts.ensures.names c.fault_of-in-Err-hit_conflicts.ensures).steps
 
 pub returns-in-Err-hit_conflicts-clause-fit : goal.returns-in-Err-hit_conflicts-clause-fit
 returns-in-Err-hit_conflicts-clause-fit g c =
@@ -77,4 +77,14 @@ returns-in-Err-hit_conflicts-clause-fit g c =
     let keeps = c.hit_conflicts.ensures.kept in
     (refused_by told old new c.args.session (hands.Marks c.args.marking) c.in-Err-hit_conflicts.error (fault_of c.in-Err-hit_conflicts.error) c.requires.fit
     (over_still told old.transactions.tx old.pages c.hit_conflicts.new.pages (fit_of_parts told old c.args.session (hands.Marks c.args.marking) c.requires.fit).over keeps) keeps.leaves
-    (record { transactions = refl; locks = refl; rights = refl; journal = refl; queue = refl; dropped = refl }) c.in-Err-hit_conflicts.ensures.outcome refl).fit
+    (record { transactions = refl; locks = refl; rights = refl; journal = refl; queue = refl; dropped = refl }) c.in-Err-hit_conflicts.ensures.outcome c.in-Err-hit_conflicts.ensures.names refl).fit
+
+pub returns-in-Err-hit_conflicts-clause-cause : goal.returns-in-Err-hit_conflicts-clause-cause
+returns-in-Err-hit_conflicts-clause-cause g c =
+    let told = g.D.Disk.told in
+    let old : Parts _ = c.args.parts.now in
+    let new : Parts _ = record old { pages = c.hit_conflicts.new.pages } in
+    let keeps = c.hit_conflicts.ensures.kept in
+    (refused_by told old new c.args.session (hands.Marks c.args.marking) c.in-Err-hit_conflicts.error c.fault_of-in-Err-hit_conflicts.result c.requires.fit
+    (over_still told old.transactions.tx old.pages c.hit_conflicts.new.pages (fit_of_parts told old c.args.session (hands.Marks c.args.marking) c.requires.fit).over keeps) keeps.leaves
+    (record { transactions = refl; locks = refl; rights = refl; journal = refl; queue = refl; dropped = refl }) c.in-Err-hit_conflicts.ensures.outcome c.in-Err-hit_conflicts.ensures.names c.fault_of-in-Err-hit_conflicts.ensures).cause

@@ -4,10 +4,12 @@ use Rattle.snapshot_core.specs.declared.sessions.Open.{Open}
 use Rattle.session_parts.specs.declared.hand.Hand.TheVariants as hands
 use Rattle.session_parts.specs.declared.hand.Stepped.TheVariants as stepped
 use Rattle.session_parts.specs.declared.parts.Parts.{Parts}
+use Rattle.session_parts.specs.DamagedPages.{heap_names}
 use Rattle.session_parts.specs.UndoneLaws.{StepsSo}
 use Rattle.session_parts.proofs.Undone.{fit_of_parts}
 use Rattle.session_transactions.proofs.Finals.{marks_so}
 use Rattle.session_transactions.proofs.Frames.{over_marked}
+use Rattle.session_transactions.proofs.Hits.{hit_within}
 use Rattle.session_transactions.proofs.Lacking.{more_entries}
 use Rattle.session_transactions.proofs.Undoing.{refused_by}
 use Rattle.session_transactions.proofs.marks.mark_hit.Goals as goal
@@ -28,8 +30,11 @@ pub returns-in-Err : goal.returns-in-Err
 returns-in-Err g c =
     let told = g.D.Disk.told in
     let old : Parts _ = c.args.parts.now in
+    let in_hand = (fit_of_parts told old c.args.session (hands.Marks c.args.marking) c.requires.fit).in_hand in
     let r : StepsSo told old (record old { pages = c.mark.new.pages }) c.args.session (hands.Marks c.args.marking) (stepped.Undone c.fault_of.result (hands.Marks c.args.marking)) =
     refused_by told old (record old { pages = c.mark.new.pages }) c.args.session (hands.Marks c.args.marking) c.in-Err.error c.fault_of.result c.requires.fit
     (over_marked told old.transactions.tx c.args.marking.query.table old.pages c.mark.new.pages (fit_of_parts told old c.args.session (hands.Marks c.args.marking) c.requires.fit).over c.mark.ensures.others)
-    c.mark.ensures.others.leaves (record { transactions = refl; locks = refl; rights = refl; journal = refl; queue = refl; dropped = refl }) c.in-Err.ensures.outcome c.fault_of.ensures in
+    c.mark.ensures.others.leaves (record { transactions = refl; locks = refl; rights = refl; journal = refl; queue = refl; dropped = refl }) c.in-Err.ensures.outcome
+    (heap_names old.pages.layout c.args.marking.query.table c.next_hit-hit.result.spot.block c.in-Err.error in_hand.1.table (hit_within old.pages.layout.sizes.heap_blocks c.args.marking.hits.items c.args.marking.next c.next_hit-hit.result in_hand.1.within c.next_hit-hit.ensures) c.in-Err.ensures.at)
+    c.fault_of.ensures in
     record { steps = r.steps; fit = r.fit; others = r.others; stays = r.stays; cause = r.cause; survives = c.mark.ensures.survives }

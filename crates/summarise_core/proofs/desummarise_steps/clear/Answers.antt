@@ -1,6 +1,6 @@
 use Rattle.std.proofs.Common.{◌≡◌, ◌≢◌, ℕ, List, [], ◌∷◌, Option, Some, sym, ap, subst, ◌∙◌, arith}
 use Rattle.block_model.specs.declared.place.Place.{Place}
-use Rattle.store_layout.specs.DiskLayout.{DiskLayout}
+use Rattle.store_layout.specs.DiskLayout.{DiskLayout, HasBoundedSizes}
 use Rattle.page_map.specs.declared.faults.StoreError.{StoreError}
 use Rattle.page_map.specs.PageMap.{PageMap}
 use Rattle.page_locks.specs.LockChanges.{IsFirstHeld, TakesAll}
@@ -8,10 +8,10 @@ use Rattle.page_locks.specs.LockHolders.{holder}
 use Rattle.coverage.specs.IndexView.{map_page_of}
 use Rattle.page_store.specs.SurvivesLaws.{survives_still}
 use Rattle.index_contents.specs.IndexContents.{contents, relation_of}
+use Rattle.index_steps.specs.DamagedPages.{names_map}
 use Rattle.index_steps.specs.IndexTuples.{shape_of}
 use Rattle.index_steps.specs.Readings.{NamesPageOf}
 use Rattle.index_steps.specs.LockLaws.{few_more, gives_apart, takes_apart}
-use Rattle.summarise_core.proofs.DesummariseFaults.{names_map}
 use Rattle.summarise_core.proofs.DesummariseLocking.{leaves_then, takes_then}
 use Rattle.summarise_core.proofs.DesummariseStepped.{is_blocked, is_cleared, is_lost}
 use Rattle.summarise_core.proofs.desummarise_steps.clear.Goals as goal
@@ -96,7 +96,8 @@ returns-in-Err-Changed-clause-own g c = λ few. let none = c.drop_all.ensures.no
 pub returns-in-Err-Store-clause-at : goal.returns-in-Err-Store-clause-at
 returns-in-Err-Store-clause-at g c =
     subst (λ (e : StoreError). NamesPageOf c.args.pages.now.layout c.args.at.index e) (sym c.in-Err-Store.error-is)
-    (names_map c.args.pages.now.layout c.args.at.index c.args.at.range c.in-Err-Store.error (rw c.in-Err-Store.field-0-is at c.in-Err-Store.ensures.at))
+    (names_map c.args.pages.now.layout c.args.at.index c.args.at.range c.in-Err-Store.error c.requires.index (subst (λ (l : DiskLayout). HasBoundedSizes l) c.layout-2.ensures c.known.ensures.sizes).some_index_blocks
+    (rw c.in-Err-Store.field-0-is at c.in-Err-Store.ensures.at))
 
 pub returns-in-Err-clause-survives : goal.returns-in-Err-clause-survives
 returns-in-Err-clause-survives g c = survives_still g.D.Disk.told c.args.pages.now c.ready.ensures.stays

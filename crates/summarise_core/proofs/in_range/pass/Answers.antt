@@ -1,4 +1,4 @@
-use Rattle.std.proofs.Common.{◌≡◌, ℕ, List, All, get_or, length, take, refl, sym, ap, subst, ◌∙◌}
+use Rattle.std.proofs.Common.{◌≡◌, ◌<◌, ℕ, List, All, get_or, length, take, refl, sym, ap, subst, ◌∙◌}
 use Rattle.std.specs.Prelude.{Some}
 use Rattle.block_model.specs.declared.value.Value.{Value}
 use Rattle.heap_rows.specs.declared.rows.Stored.{Stored}
@@ -14,6 +14,7 @@ use Rattle.range_tuple.specs.TupleBytes.{tuple_bytes}
 use Rattle.range_tuple.specs.TupleReading.{tuple_in}
 use Rattle.range_tuple.specs.Tuples.{IsTuple, Tuple}
 use Rattle.index_contents.specs.IndexContents.{contents}
+use Rattle.index_steps.specs.DamagedPages.{table_place}
 use Rattle.index_steps.specs.IndexTuples.{TakesValues, classes_of, shape_of}
 use Rattle.index_steps.specs.ShownIndex.{lock_in}
 use Rattle.summarise_core.specs.BlockRows.{AreKnown, IsTakenBy, values_of}
@@ -93,4 +94,8 @@ returns-in-Err-clause-at g c =
     let store = c.args.pages.now in
     let layout : c.layout-layout.result.now ≡ store.layout = c.layout-layout.ensures in
     let number : c.table_of-table.result ≡ table_of store.layout c.args.at.index = c.table_of-table.ensures.number ∙ ap (λ (l : DiskLayout). table_of l c.args.at.index) layout in
-    (c.args.block, subst (λ (t : ℕ). NamesPage store.layout (record { relation = relation_of t; block = c.args.block }) c.in-Err.error) number c.in-Err.ensures.at)
+    let there = subst (λ (l : DiskLayout). c.table_of-table.result < length l.schema.tables) layout c.table_of-table.ensures.there in (
+      c.args.block,
+      table_place store.layout (table_of store.layout c.args.at.index) c.args.block (subst (λ (t : ℕ). t < length store.layout.schema.tables) number there) c.requires.block,
+      subst (λ (t : ℕ). NamesPage store.layout (record { relation = relation_of t; block = c.args.block }) c.in-Err.error) number c.in-Err.ensures.at,
+    )

@@ -5,12 +5,15 @@ use Rattle.page_store.specs.SurvivesLaws.{survives_on}
 use Rattle.page_map.specs.Keeps.{Tells, keeps_on}
 use Rattle.heap_rows.specs.DroppedRows.{AreAscending, AreInUse, FreesSlots, with_slots_free}
 use Rattle.heap_rows.specs.HeapBlocks.{OfBlocks}
-use Rattle.heap_rows.specs.Heaps.{kinds_at, no_table, slots_a_page}
+use Rattle.heap_rows.specs.Heaps.{kinds_at, no_table, relation_of, slots_a_page}
 use Rattle.heap_rows.specs.declared.rows.Stored.{Stored}
 use Rattle.vacuum_core.specs.DeadRows.{DropsFrom, IsPicked, dead_slots, living}
 use Rattle.vacuum_core.proofs.Onward.{statuses_before}
 use Rattle.vacuum_core.proofs.Picking.{few_picked}
 use Rattle.vacuum_core.proofs.Pruned.{dead_ascend, dead_used, few_rows, prune_drops, prunes_the_dead, tables_then}
+use Rattle.page_map.specs.Outcome.{NamesPage}
+use Rattle.tx_table.specs.LeavesRest.{NamesStatuses}
+use Rattle.vacuum_core.proofs.Naming.{names_statuses, names_table}
 use Rattle.vacuum_core.proofs.pruning.prune.Goals as goal
 
 pub returns-in-Err-list_dead-clause-survives : goal.returns-in-Err-list_dead-clause-survives
@@ -73,3 +76,17 @@ returns-in-Err-drop_dead-clause-survives g c =
     let kept = keeps_on g.D.Disk.told store c.rows_of.new.pages c.list_dead.new.pages c.in-Ok.ensures.kept c.in-Ok-list_dead.ensures.kept in
     let first = survives_on g.D.Disk.told store c.rows_of.new.pages c.list_dead.new.pages c.in-Ok.ensures.kept c.in-Ok.ensures.survives c.in-Ok-list_dead.ensures.survives in
     survives_on g.D.Disk.told store c.list_dead.new.pages c.drop_dead.new.pages kept first c.in-Err-drop_dead.ensures.survives
+
+pub returns-in-Err-clause-at : goal.returns-in-Err-clause-at
+returns-in-Err-clause-at g c = names_table c.args.pages.now.layout c.args.table c.args.block c.in-Err.error c.requires.table c.requires.block c.in-Err.ensures.at
+
+pub returns-in-Err-list_dead-clause-at : goal.returns-in-Err-list_dead-clause-at
+returns-in-Err-list_dead-clause-at g c =
+    names_statuses c.args.pages.now.layout c.args.table c.in-Err-list_dead.error (subst (λ (l : DiskLayout). NamesStatuses l c.in-Err-list_dead.error) c.in-Ok.ensures.kept.leaves.layout c.in-Err-list_dead.ensures.at)
+
+pub returns-in-Err-drop_dead-clause-at : goal.returns-in-Err-drop_dead-clause-at
+returns-in-Err-drop_dead-clause-at g c =
+    let store = c.args.pages.now in
+    let kept = keeps_on g.D.Disk.told store c.rows_of.new.pages c.list_dead.new.pages c.in-Ok.ensures.kept c.in-Ok-list_dead.ensures.kept in
+    names_table store.layout c.args.table c.args.block c.in-Err-drop_dead.error c.requires.table c.requires.block
+    (subst (λ (l : DiskLayout). NamesPage l (record { relation = relation_of c.args.table; block = c.args.block }) c.in-Err-drop_dead.error) kept.leaves.layout c.in-Err-drop_dead.ensures.at)

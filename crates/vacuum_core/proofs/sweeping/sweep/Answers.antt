@@ -11,6 +11,8 @@ use Rattle.page_store.specs.SurvivesLaws.{survives_on}
 use Rattle.index_contents.specs.IndexContents.{relation_of}
 use Rattle.vacuum_core.proofs.SlotBytes.{none_there, some_there}
 use Rattle.vacuum_core.proofs.SweptStore.{place_of, sweep_can, sweep_counts, sweep_done, sweep_of_none, sweep_order}
+use Rattle.index_steps.specs.DamagedPages.{names_there}
+use Rattle.page_map.specs.Outcome.{NamesPage}
 use Rattle.vacuum_core.proofs.sweeping.sweep.Goals as goal
 
 pub returns-in-Err-list_unnamed-clause-survives : goal.returns-in-Err-list_unnamed-clause-survives
@@ -72,3 +74,10 @@ returns-in-Err-drop_tuples-clause-survives g c =
     let kept = keeps_on g.D.Disk.told store c.copy_page.new.pages c.list_unnamed.new.pages c.in-Ok.ensures.kept c.in-Ok-list_unnamed.ensures.kept in
     let first = survives_on g.D.Disk.told store c.copy_page.new.pages c.list_unnamed.new.pages c.in-Ok.ensures.kept c.in-Ok.ensures.survives c.in-Ok-list_unnamed.ensures.survives in
     survives_on g.D.Disk.told store c.list_unnamed.new.pages c.drop_tuples.new.pages kept first c.in-Err-drop_tuples.ensures.survives
+
+pub returns-in-Err-drop_tuples-clause-at : goal.returns-in-Err-drop_tuples-clause-at
+returns-in-Err-drop_tuples-clause-at g c =
+    let store = c.args.pages.now in
+    let kept = keeps_on g.D.Disk.told store c.copy_page.new.pages c.list_unnamed.new.pages c.in-Ok.ensures.kept c.in-Ok-list_unnamed.ensures.kept in
+    names_there store.layout c.args.index c.relation_of-relation.result c.args.block c.in-Err-drop_tuples.error (c.relation_of-relation.ensures.number ∙ ap (λ (l : DiskLayout). relation_of l c.args.index) (c.layout.ensures ∙ kept.leaves.layout)) c.requires.index c.requires.block
+    (subst (λ (l : DiskLayout). NamesPage l (place_of c.relation_of-relation.result c.args.block) c.in-Err-drop_tuples.error) kept.leaves.layout c.in-Err-drop_tuples.ensures.at)

@@ -83,7 +83,7 @@ returns-in-Err-clause-at g c =
     let e = c.index-work.result.now in
     let asking = c.requires.made.asks c.requires.asking in
     let got = got_there old.works.items old.at e (slice_get_within old.works.items old.at asking.hand asking.work) c.index-work.ensures in
-    map_names store.layout _ e.index c.index-index.result (c.range_in-range.result - 1) c.in-Err.error (index_next store.layout old x e c.in-Some.is got) c.index-index.ensures c.in-Err.ensures.at
+    map_names store.layout _ e.index c.index-index.result c.in-Err.error (index_next store.layout old x e c.in-Some.is got) c.index-index.ensures c.in-Err.ensures.at
 
 pub returns-in-Ok-clause-made : goal.returns-in-Ok-clause-made
 returns-in-Ok-clause-made g c =

@@ -1,8 +1,9 @@
-use Rattle.std.proofs.Common.{◌≡◌, ◌<◌, ℕ, suc, ◌+◌, ◌/◌, List, length, length-set, Some, set, refl, sym, ap, subst, ◌∙◌, arith}
+use Rattle.std.proofs.Common.{◌≡◌, ◌<◌, ℕ, suc, ◌+◌, ◌/◌, List, length, length-set, Option, Some, set, refl, sym, ap, subst, ◌∙◌, arith}
 use Rattle.std.specs.Vec.{with_item}
 use Rattle.std.proofs.lemmas.Bool.{false≢true}
 use Rattle.std.proofs.lemmas.Option.{slice_get_within}
 use Rattle.block_model.specs.declared.reply.Point.TheVariants as points
+use Rattle.block_model.specs.declared.place.Spot.{Spot}
 use Rattle.block_model.specs.declared.value.Value.{Value}
 use Rattle.store_layout.specs.DiskLayout.{DiskLayout}
 use Rattle.page_map.specs.Keeps.{Tells, Untold}
@@ -16,6 +17,7 @@ use Rattle.index_steps.specs.SwapAnswers.{LeavesLocks}
 use Rattle.range_tuple.specs.TupleBytes.{tuple_bytes}
 use Rattle.brin_insert.specs.declared.stage.Stage.{Stage}
 use Rattle.brin_insert.specs.declared.stage.Stage.TheVariants as stages
+use Rattle.brin_insert.specs.InsertAnswers.{relation_at, relation_in}
 use Rattle.brin_insert.specs.InsertSteps.{IsAtWork}
 use Rattle.brin_insert.specs.Inserts.{AsksIn, work_of}
 use Rattle.index_steps.specs.ShownRows.{rows_in}
@@ -24,7 +26,7 @@ use Rattle.brin_insert.proofs.InTable.{blocked, finished, moved, row_stepped, st
 use Rattle.brin_insert.proofs.Numbers.{number_within}
 use Rattle.brin_insert.specs.InsertLocks.{held_by, stage_of, taken_by}
 use Rattle.brin_insert.proofs.OwnLocks.{given_there, no_more, no_stage_drops, none_held, own_complete, own_there, stage_there, taken_there}
-use Rattle.brin_insert.proofs.Outcomes.{index_full, index_names, index_next, index_others, machine_for}
+use Rattle.brin_insert.proofs.Outcomes.{heap_names, index_full, index_names, index_next, index_others, machine_for}
 use Rattle.brin_insert.proofs.Ordered.{keeps_by_heap, keeps_by_index}
 use Rattle.brin_insert.proofs.Placed.{first_free, first_within, not_first, not_within, placed_first, placed_still, waits_later, waits_not}
 use Rattle.brin_insert.proofs.Reaching.{left_by}
@@ -358,6 +360,12 @@ returns-in-Err-step-clause-still_left g c =
     let below : old.at < length old.works.items = slice_get_within old.works.items old.at e got in
     let found = got_set old.works.items old.at next below in
     left_with old.place (set old.works.items old.at next) old.at x next c.in-Some.is found (subst (λ (q : Stage). IsAtWork q) (sym c.in-Err-step.ensures.same_stage) (is_at_work old x e c.in-Some.is c.requires.left got))
+
+pub returns-in-Err-clause-at : goal.returns-in-Err-clause-at
+returns-in-Err-clause-at g c =
+    let store = c.args.pages.now in
+    let old = c.args.self.now in
+    heap_names store.layout old.row.table (relation_at store.layout old) c.in-Err.fault c.requires.made.table (ap (λ (o : Option Spot). relation_in store.layout old.row.table o (work_of old)) c.in-None.is) c.in-Err.ensures.names
 
 pub returns-in-Err-step-clause-at : goal.returns-in-Err-step-clause-at
 returns-in-Err-step-clause-at g c =
