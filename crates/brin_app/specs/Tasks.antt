@@ -50,7 +50,7 @@ HasDemoNumbers command = Unit {0}
 abbrev pub IsWrong : Command → Type 0
 IsWrong (commands.Init sizes declared) = HasNoLayout sizes declared
 IsWrong (commands.Run sizes declared) = HasNoLayout sizes declared
-IsWrong (commands.Threads sizes declared) = Unit {0} -- no task does what `threads` asks for yet: all its words are wrong ones
+IsWrong (commands.Threads sizes declared) = Unit {0}  -- no task does what `threads` asks for yet: all its words are wrong ones
 IsWrong commands.ThreadsStored = Unit {0}
 IsWrong command = ⊥
 

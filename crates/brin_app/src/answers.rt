@@ -9,7 +9,6 @@ ghost use Rattle.session_orders.specs.Leading.{PlacesLead, PlacesStop};
 ghost use Rattle.session_orders.specs.Orders.{IsLost, IsStoppedSaying, answer_text};
 ghost use Rattle.brin_app.specs.SessionPlaces.{AnswersLine, StopsLine};
 
-use session_orders::act;
 use crate::sessions::Sessions;
 use block_model::{Name, NoMemory, Refusal, Reply};
 use demo_script::Answer;
@@ -18,6 +17,7 @@ use query_words::{Line, LineFault, Order, read_line};
 use reply_texts::{Dropped, render, render_dropped, render_moved, render_refusal, render_started};
 use script_run::AnswerFault;
 use session_core::{SessionFault, Store};
+use session_orders::act;
 
 /// Appends the text of a line, and does what it says.
 pub(crate) fn answer_line<D: Disk + Drop>(

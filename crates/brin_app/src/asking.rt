@@ -10,7 +10,6 @@ ghost use Rattle.session_orders.specs.Leading.{PlacesLead, PlacesStop};
 ghost use Rattle.session_orders.specs.Orders.{IsStoppedSaying};
 ghost use Rattle.brin_app.specs.SessionPlaces.{StopsLine};
 
-use session_orders::act;
 use crate::sessions::Sessions;
 use block_model::{Name, Refusal};
 use demo_script::Answer;
@@ -18,6 +17,7 @@ use disk_trait::Disk;
 use query_words::{Line, LineFault, Order, read_line};
 use script_run::AnswerFault;
 use session_core::{SessionFault, Store};
+use session_orders::act;
 
 /// Does what a line says, and tells what it is answered. What is told of a line that says nothing says nothing.
 pub(crate) fn ask_line<D: Disk + Drop>(

@@ -70,7 +70,7 @@ module _ {D : Type 0} (told : D → Told) (s s' : StoreState D) (n : ℕ) where
   room_told (stops.Reopen faults) some there same journal still = tt
   room_told (stops.Damaged at) some there same journal still = tt
 
--- ---- images
+  -- ---- images
 
   either_there : (p : Place) (image : List ℕ) → OpensWith p.layout (HasTableOr p n) image → HasTableOf p n image
   either_there p image opens = elim opens.2 [

@@ -8,7 +8,8 @@ use Rattle.index_contents.specs.IndexContents.{relation_of}
 use Rattle.index_steps.specs.declared.growth_stage.Stage.TheVariants as stages
 use Rattle.index_steps.specs.Called.{hand_at}
 use Rattle.index_steps.specs.LockLaws.{same_apart, takes_none}
-use Rattle.index_steps.proofs.Refusals.{done}
+use Rattle.index_steps.specs.DamagedPages.{names_page}
+use Rattle.index_steps.proofs.Refusals.{done, refused}
 use Rattle.index_steps.proofs.Standing.{sweeps_at}
 use Rattle.index_steps.proofs.Unnamed.{unnamed_there}
 use Rattle.index_steps.proofs.moving_off.drop_unnamed.Goals as goal
@@ -22,3 +23,11 @@ returns-in-Ok g c = λ was.
     c.requires.free (c.in-Ok.ensures.dropped tells))
     refl tt c.drop_at.ensures.others (same_apart (relation_of store.layout c.args.index) c.args.actor (holder c.args.locks.now)) (takes_none 3 c.args.locks.now c.args.actor)
     (λ gives. absurd gives) (λ few. few) c.drop_at.ensures.order c.drop_at.ensures.survives c.in-Ok.ensures.outcome
+
+pub returns-in-Err : goal.returns-in-Err
+returns-in-Err g c = λ was.
+    let store = c.args.pages.now in
+    let made = c.in-Err.ensures in
+    refused g.D.Disk.told store c.drop_at.new.pages made.kept c.args.actor made.survives (Untold g.D.Disk.told store) (hand_at c.args.index stages.Judge was) c.args.bytes.now c.args.locks.now c.args.locks.now c.in-Err.error
+    (same_apart (relation_of store.layout c.args.index) c.args.actor (holder c.args.locks.now)) (takes_none 3 c.args.locks.now c.args.actor)
+    (names_page store.layout store.layout c.args.index c.args.spot.block c.in-Err.error refl c.requires.index made.reopen made.at) made.outcome
