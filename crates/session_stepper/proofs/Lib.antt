@@ -1,0 +1,5 @@
+pub mod Entries
+pub mod Kept
+pub mod Books
+pub mod Naming
+pub mod Watching
