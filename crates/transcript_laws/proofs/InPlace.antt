@@ -239,7 +239,7 @@ module _ (layout : DiskLayout) (p q : Place) (n : ℕ) (point : Point) (c : Cour
   delete_goes query answers turn below named busy makes fit (MarksOne marks is) = inr (
     below,
     subst (λ i. IsMarking ((q.tables i).task n)) turn.on
-    (elim (settles_marks n turn.step.between (q.tables turn.table) marks turn.step.settles) [ inl still ↦ still | inr rests ↦ absurd (busy rests) ]),
+        (elim (settles_marks n turn.step.between (q.tables turn.table) marks turn.step.settles) [ inl still ↦ still | inr rests ↦ absurd (busy rests) ]),
   )
 
   -- each statement
