@@ -1,5 +1,5 @@
 -- A schedule comes where a script may, and has told a right transcript.
-use Rattle.std.proofs.Common.{◌≡◌, ◌⊎◌, inl, inr, ℕ, zero, suc, List, [], ◌∷◌, ◌++◌, Option, None, Some, refl, sym, ap, subst, ◌∙◌}
+use Rattle.std.proofs.Common.{◌≡◌, ◌⊎◌, inl, inr, ℕ, zero, suc, List, [], ◌∷◌, ◌++◌, Option, None, Some, refl, sym, subst, ◌∙◌}
 use Rattle.std.specs.Prelude.{All, slice_get, slice_index_or}
 use Rattle.std.proofs.lemmas.List.{append-nil}
 use Rattle.std.proofs.lemmas.List.Elements.{All-head, All-tail}
@@ -20,11 +20,11 @@ use Rattle.store_layout.specs.StatementFits.{IsStatementFor}
 use Rattle.model_laws.specs.NoRowRemovedTwice.{IsOpening}
 use Rattle.script_semantics.specs.LineTexts.{NotTaken, Submits, Taken, WantsMemory, dropped_at}
 use Rattle.script_semantics.specs.Place.{Hand, Place, database_at}
-use Rattle.script_semantics.specs.StatementSteps.{Ended, IsInsert, Moved, Outcome, StepsTo, Waits}
+use Rattle.script_semantics.specs.StatementSteps.{Ended, IsInsert, Outcome, StepsTo}
 use Rattle.script_laws.specs.Reached as reached
 use Rattle.script_laws.specs.Reached.{BehindNames, BehindStep, BehindSubmit, IsReached}
 use Rattle.script_laws.proofs.Reaching.{nothing_first}
-use Rattle.transcripts.specs.Transcript.{BehindDropped, Empty, IsNext, IsTextOf, IsTranscript, Line, OfReply, Said, next_statement}
+use Rattle.transcripts.specs.Transcript.{BehindDropped, Empty, IsNext, IsTextOf, Line, OfReply, Said, next_statement}
 use Rattle.transcripts.proofs.Lines.{next_is_said}
 use Rattle.transcript_laws.specs.Ahead.{IsAhead}
 use Rattle.transcript_laws.specs.EntryLaws.{AnswersAreEntries, BeginsAhead}
