@@ -24,15 +24,15 @@ use Rattle.coverage.specs.Refusals.{does_refusal}
 use Rattle.coverage.specs.Table.{Resting, TableState, Task}
 use Rattle.coverage.specs.TablePoints.{does_point}
 use Rattle.coverage.specs.TableSteps.{AsksSummary, BeginsScan, BeginsWith, Blocked, Conflicts, Desummarize, Does, InsertCompletes, InsertGoes, Judges, MaintainCompletes, MaintainGoes, MarksRow, PrunesBlock, PutsRow, ReadsBlock, RefusesInsert}
-use Rattle.coverage.specs.TableSteps.{RefusesMaintain, RefusesRow, RefusesScan, RefusesVacuum, RestartsIndex, Summarize, SummarizeOne, SweepsPage, TableStep, TakesLock, Transacts, Vacuum, Work}
+use Rattle.coverage.specs.TableSteps.{RefusesMaintain, RefusesRow, RefusesScan, RefusesVacuum, RestartsIndex, Summarize, SummarizeOne, SweepsPage, TakesLock, Transacts, Vacuum, Work}
 use Rattle.script_semantics.specs.Beginnings.{Begins}
 use Rattle.script_semantics.specs.LineTexts.{NotTaken, Submits, Taken, WantsMemory, dropped_at, with_statement}
 use Rattle.script_semantics.specs.Names.{dropped_of}
 use Rattle.script_semantics.specs.Place.{Hand, Place, accounts_at, new_hand}
 use Rattle.script_semantics.specs.Requests.{Course, Enters, First, Further, MakesMark, MakesOne}
 use Rattle.script_semantics.specs.RequestSteps.{AnswersFit, IsAnsweredInPlace, IsMarking}
-use Rattle.script_semantics.specs.StatementSteps.{AtOnce, Ended, GoesOn, IsInsert, IsRefused, IsWaiting, LacksMemoryAtOnce, MakesAt, MeetsConflict, Moved, NoNumber, NothingAsked, Outcome, Replies, Steps, StepsTo, course_of}
-use Rattle.script_semantics.specs.Turns.{Leads, Recounts, TablesStay, Turn, point_of, refusal_of}
+use Rattle.script_semantics.specs.StatementSteps.{AtOnce, Ended, GoesOn, IsInsert, IsRefused, IsWaiting, LacksMemoryAtOnce, MakesAt, MeetsConflict, NoNumber, NothingAsked, Outcome, Replies, StepsTo, course_of}
+use Rattle.script_semantics.specs.Turns.{Leads, Recounts, TablesStay, Turn, point_of}
 use Rattle.script_semantics.proofs.RowTurns.{row_is_insert}
 use Rattle.script_laws.specs.Reached.{AtOpening, AtStart, BehindNames, BehindStep, BehindSubmit, IsReached}
 use Rattle.script_laws.proofs.Fits.{in_below}

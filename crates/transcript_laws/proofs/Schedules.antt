@@ -1,5 +1,5 @@
 -- A schedule comes where a script may, and has told a right transcript.
-use Rattle.std.proofs.Common.{◌≡◌, ◌⊎◌, inl, inr, ℕ, zero, suc, List, [], ◌∷◌, ◌++◌, Option, None, Some, refl, sym, ap, subst, ◌∙◌}
+use Rattle.std.proofs.Common.{◌≡◌, ◌⊎◌, inl, inr, ℕ, zero, suc, List, [], ◌∷◌, ◌++◌, Option, None, Some, refl, sym, subst, ◌∙◌}
 use Rattle.std.specs.Prelude.{All, slice_get, slice_index_or}
 use Rattle.std.proofs.lemmas.List.{append-nil}
 use Rattle.std.proofs.lemmas.List.Elements.{All-head, All-tail}
@@ -20,11 +20,11 @@ use Rattle.store_layout.specs.StatementFits.{IsStatementFor}
 use Rattle.model_laws.specs.NoRowRemovedTwice.{IsOpening}
 use Rattle.script_semantics.specs.LineTexts.{NotTaken, Submits, Taken, WantsMemory, dropped_at}
 use Rattle.script_semantics.specs.Place.{Hand, Place, database_at}
-use Rattle.script_semantics.specs.StatementSteps.{Ended, IsInsert, Moved, Outcome, StepsTo, Waits}
+use Rattle.script_semantics.specs.StatementSteps.{Ended, IsInsert, Outcome, StepsTo}
 use Rattle.script_laws.specs.Reached as reached
 use Rattle.script_laws.specs.Reached.{BehindNames, BehindStep, BehindSubmit, IsReached}
 use Rattle.script_laws.proofs.Reaching.{nothing_first}
-use Rattle.transcripts.specs.Transcript.{BehindDropped, Empty, IsNext, IsTextOf, IsTranscript, Line, OfReply, Said, next_statement}
+use Rattle.transcripts.specs.Transcript.{BehindDropped, Empty, IsNext, IsTextOf, Line, OfReply, Said, next_statement}
 use Rattle.transcripts.proofs.Lines.{next_is_said}
 use Rattle.transcript_laws.specs.Ahead.{IsAhead}
 use Rattle.transcript_laws.specs.EntryLaws.{AnswersAreEntries, BeginsAhead}
@@ -45,25 +45,25 @@ text_of name reply dropped (statements.Insert table values) drops = BehindDroppe
 text_of name reply dropped statement (inl insert) = absurd insert
 text_of name reply dropped statement (inr none) = subst (λ (d : List Dropped). IsTextOf name reply statement (dropped_text d ++ reply_text name reply)) (sym none) (OfReply statement)
 
-taken_idle : (p q : Place) (n : ℕ) (statement : Statement) → Submits p n statement None q → p.hands n ≡ None
-taken_idle p _ n statement (Taken none) = nothing_first (p.hands n) _ none
+taken_idle : (p : Place) (n : ℕ) (statement : Statement) (q : Place) → Submits p n statement None q → p.hands n ≡ None
+taken_idle p n statement _ (Taken none) = nothing_first (p.hands n) _ none
 
 -- the layout and the opening of a place
 record IsOf (layout : DiskLayout) (opening : DatabaseState) (p : Place) : Type 0 where
   layout_is : p.layout ≡ layout
   opening_is : p.opening ≡ opening
 
-submit_stays : (layout : DiskLayout) (opening : DatabaseState) (p q : Place) (n : ℕ) (statement : Statement) (told : Option Refusal) → IsOf layout opening p → Submits p n statement told q → IsOf layout opening q
-submit_stays layout opening p _ n statement _ of (Taken none) = record { layout_is = of.layout_is; opening_is = of.opening_is }
-submit_stays layout opening p _ n statement _ of (NotTaken refusal is) = of
-submit_stays layout opening p _ n statement _ of (WantsMemory none may) = of
+submit_stays : (layout : DiskLayout) (opening : DatabaseState) (p : Place) (n : ℕ) (statement : Statement) (told : Option Refusal) (q : Place) → IsOf layout opening p → Submits p n statement told q → IsOf layout opening q
+submit_stays layout opening p n statement _ _ of (Taken none) = record { layout_is = of.layout_is; opening_is = of.opening_is }
+submit_stays layout opening p n statement _ _ of (NotTaken refusal is) = of
+submit_stays layout opening p n statement _ _ of (WantsMemory none may) = of
 
 module _ (layout : DiskLayout) (names : List (List ℕ)) (script : List Line) (opening : DatabaseState) where
   place_of : (said : List Said) (p : Place) → Schedule layout names script opening said p → IsOf layout opening p
   place_of _ _ (AtOpening p opens) = record { layout_is = opens.layout_is; opening_is = opens.opening_is }
   place_of _ _ (AtStart p start new) = record { layout_is = start.layout_is; opening_is = start.opening ∙ sym new }
-  place_of _ _ (Takes said p q n number statement before next takes) = submit_stays layout opening p q n statement None (place_of said p before) takes
-  place_of _ _ (Refuses said p q n number statement refusal before idle next refused) = submit_stays layout opening p q n statement (Some refusal) (place_of said p before) refused
+  place_of _ _ (Takes said p q n number statement before next takes) = submit_stays layout opening p n statement None q (place_of said p before) takes
+  place_of _ _ (Refuses said p q n number statement refusal before idle next refused) = submit_stays layout opening p n statement (Some refusal) q (place_of said p before) refused
   place_of _ _ (MakesStep said told p q n number statement outcome before next step tell) =
       let of = place_of said p before in
       let stay = both_stay p q n step.hand outcome step.steps in
@@ -121,7 +121,7 @@ module _ (layout : DiskLayout) (names : List (List ℕ)) (script : List Line) (o
       rightly_told _ _ (AtStart p is new) = at_first p (λ i. serial_run ((is.opening ∙ sym new) i) (is.journal i)) is.hands
       rightly_told _ _ (Takes said p q n number statement before next takes) =
           let r = rightly_told said p before in
-          let ahead = takes_ahead p q r.s (next_statement script said) n statement r.ahead (taken_idle p q n statement takes) (next_is_said script said n number statement next) takes in
+          let ahead = takes_ahead p q r.s (next_statement script said) n statement r.ahead (taken_idle p n statement q takes) (next_is_said script said n number statement next) takes in
           record { s = r.s; right = r.right; table = ahead.table; ahead = ahead }
       rightly_told _ _ (Refuses said p q n number statement refusal before idle next refused) =
           let r = rightly_told said p before in

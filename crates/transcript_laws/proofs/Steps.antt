@@ -1,9 +1,8 @@
 -- each step of a statement in hand
-use Rattle.std.proofs.Common.{◌≡◌, ℕ, ◌<◌, Bool, true, false, cond, List, [], ◌∷◌, ◌++◌, Option, None, Some, refl, sym, ap, subst, ◌∙◌}
+use Rattle.std.proofs.Common.{◌≡◌, ℕ, ◌<◌, List, [], ◌∷◌, ◌++◌, Option, None, Some, refl, sym, ap, subst, ◌∙◌}
 use Rattle.std.specs.Prelude.{if◌then◌else◌}
-use Rattle.std.proofs.lemmas.Option.{none-some, same_Some}
+use Rattle.std.proofs.lemmas.Option.{same_Some}
 use Rattle.std.specs.FinMap as map
-use Rattle.block_model.specs.declared.reply.Refusal.TheVariants as refusals
 use Rattle.block_model.specs.declared.reply.Reply.{Reply}
 use Rattle.block_model.specs.declared.reply.Reply.TheVariants as replies
 use Rattle.block_model.specs.declared.request.Entry.{Entry}
@@ -17,13 +16,13 @@ use Rattle.block_model.specs.SerialRun.{serial_run, serial_run-append}
 use Rattle.store_layout.specs.declared.statement.Statement.{Statement}
 use Rattle.store_layout.specs.declared.statement.Statement.TheVariants as statements
 use Rattle.store_layout.specs.DiskLayout.{DiskLayout}
-use Rattle.store_layout.specs.StatementRequests.{begin_reply, end_reply, look_entry, refusal_at, request_entry, select_reply, submission_refusal}
+use Rattle.store_layout.specs.StatementRequests.{begin_reply, end_reply, look_entry, refusal_at, request_entry, select_reply}
 use Rattle.model_laws.specs.NoRowRemovedTwice.{IsOpening}
 use Rattle.script_semantics.specs.Place.{Hand, updated}
 use Rattle.script_semantics.specs.Requests.{Course, MakesAll, entered, next_request}
 use Rattle.script_semantics.specs.StatementSteps.{numbers_of}
 use Rattle.transcripts.specs.Told.{IsOutside, IsSound, Limits, Outside, Tells}
-use Rattle.transcripts.proofs.Allowed.{begin_allowed, commit_allowed, end_is, insert_allowed, rollback_allowed, select_allowed, sound_at}
+use Rattle.transcripts.proofs.Allowed.{begin_allowed, commit_allowed, end_is, rollback_allowed, select_allowed, sound_at}
 use Rattle.transcript_laws.specs.Ahead.{IsAhead, IsCopyAhead}
 use Rattle.transcript_laws.specs.Laws.{NextStays}
 use Rattle.transcript_laws.specs.StepLaws.{IsAnswered, limits_of}

@@ -1,16 +1,16 @@
 -- What a step of its table leaves an insert at, and a delete; and that no other statement comes to what an insert is at.
-use Rattle.std.proofs.Common.{◌≡◌, ◌≢◌, ◌⊎◌, inl, inr, ℕ, Bool, true, false, List, [], ◌∷◌, Option, None, Some, refl, sym, ap, subst, ◌∙◌}
+use Rattle.std.proofs.Common.{◌≡◌, ◌⊎◌, inl, inr, ℕ, Bool, true, false, Some, refl, sym, ap, subst, ◌∙◌}
 use Rattle.std.proofs.lemmas.Bool.{false≢true}
 use Rattle.std.proofs.lemmas.Option.{none-some, same_Some}
 use Rattle.block_model.specs.declared.reply.Point.{Point}
 use Rattle.block_model.specs.declared.reply.Point.TheVariants as points
 use Rattle.coverage.specs.GoingOn.{IsInserting}
 use Rattle.coverage.specs.IndexView.{IndexView}
-use Rattle.coverage.specs.Table.{Asks, Considers, Inserts, Maintains, Marks, Prunes, Reaches, Restarts, Resting, Scans, Sweeps, SweepsFrom, TableScan, TableState, Task}
+use Rattle.coverage.specs.Table.{Asks, Inserts, Marks, Reaches, Resting, Scans, SweepsFrom, TableScan, TableState, Task}
 use Rattle.coverage.specs.TablePoints.{does_point, judge_point}
 use Rattle.coverage.specs.TableSteps.{AsksSummary, BeginsScan, BeginsWith, Blocked, Conflicts, Desummarize, Does, GivesLock, GoesOn, HasStep, InsertCompletes, InsertGoes, Inserted, JudgeDrops, JudgeGone, JudgeKeeps, JudgeMap, JudgeNoEntry, JudgeStep, Judges}
 use Rattle.coverage.specs.TableSteps.{JudgesNext, MaintainCompletes, MaintainGoes, Marked, MarksRow, NextIndex, Onward, Pruned, PrunesBlock, PutsRow, ReadsBlock, RefusesInsert, RefusesMaintain, RefusesRow, RefusesScan, RefusesVacuum, RestartsIndex}
-use Rattle.coverage.specs.TableSteps.{Scanned, Settles, Stays, Summarize, SummarizeOne, SweepsPage, Swept, TakesLock, TaskTurns, ToAsk, ToIndex, ToMarks, ToPage, ToRange, Transacts, Vacuum, Work}
+use Rattle.coverage.specs.TableSteps.{Scanned, Settles, Stays, Summarize, SummarizeOne, SweepsPage, Swept, TakesLock, ToAsk, ToIndex, ToMarks, ToPage, ToRange, Transacts, Vacuum, Work}
 use Rattle.script_semantics.specs.RequestSteps.{IsMarking}
 
 -- ---- inserts

@@ -1,11 +1,10 @@
 -- what one entry tells, against the requests of its statement
-use Rattle.std.proofs.Common.{◌≡◌, ◌≢◌, ◌⊎◌, inl, inr, ℕ, ◌<◌, Bool, true, false, List, [], ◌∷◌, Option, None, Some, refl, sym, ap, subst, ◌∙◌}
+use Rattle.std.proofs.Common.{◌≡◌, ◌⊎◌, inl, inr, ℕ, Bool, true, false, List, [], ◌∷◌, Option, None, Some, refl, sym, ap, subst, ◌∙◌}
 use Rattle.std.specs.Prelude.{if◌then◌else◌, length}
 use Rattle.std.proofs.lemmas.Bool.{false≢true}
 use Rattle.std.proofs.lemmas.Cmp.{nat_cmp_total}
 use Rattle.std.proofs.lemmas.Option.{none-some, same_Some}
 use Rattle.std.specs.FinMap as map
-use Rattle.block_model.specs.declared.reply.Refusal.{Refusal}
 use Rattle.block_model.specs.declared.reply.Refusal.TheVariants as refusals
 use Rattle.block_model.specs.declared.reply.Reply.{Reply}
 use Rattle.block_model.specs.declared.reply.Reply.TheVariants as replies
@@ -13,22 +12,21 @@ use Rattle.block_model.specs.declared.request.Entry.{Entry}
 use Rattle.block_model.specs.declared.request.Request.TheVariants as requests
 use Rattle.block_model.specs.declared.request.Tag.TheVariants as tags
 use Rattle.block_model.specs.declared.row.Query.{Query}
-use Rattle.block_model.specs.declared.row.Row.{Row}
 use Rattle.block_model.specs.declared.row.RowId.{RowId}
 use Rattle.block_model.specs.declared.value.Value.{Value}
 use Rattle.block_model.specs.DatabaseState.{DatabaseState, OpenTransaction}
 use Rattle.block_model.specs.NumberMaps.{get_put_here}
-use Rattle.block_model.specs.RequestEffect.{Answer, Begun, Committed, Found, Full, Inserted, NoMemory, RolledBack, after_begin, after_commit, after_failure, after_put, effect, failed_transaction, is_conflict, is_own, next_row, rows_found, with_transaction, without_transaction}
+use Rattle.block_model.specs.RequestEffect.{Answer, Begun, Committed, Found, Full, Inserted, NoMemory, RolledBack, after_begin, after_commit, after_failure, after_put, effect, failed_transaction, is_conflict, next_row, rows_found, with_transaction, without_transaction}
 use Rattle.block_model.specs.RequestLaws.{effect_by}
 use Rattle.block_model.specs.SerialRun.{replies_to, serial_run}
 use Rattle.store_layout.specs.declared.statement.Statement.{Statement}
 use Rattle.store_layout.specs.declared.statement.Statement.TheVariants as statements
-use Rattle.store_layout.specs.StatementRequests.{begin_reply, deleted_reply, end_reply, insert_reply, look_entry, look_tag, put_tag, refusal_at, reply_to_statement, request_entry, requests_of, select_reply, submission_refusal, tagged_entry}
+use Rattle.store_layout.specs.StatementRequests.{end_reply, look_entry, refusal_at, reply_to_statement, request_entry, requests_of, submission_refusal, tagged_entry}
 use Rattle.transcripts.specs.InTurn.{AreRequests, HasNumber, IndexIsFull, IsDeleteAlone, LeadsBy, NoNumber, NotTaken, Outside, RequestsAreTold, Taken, ToldAreRequests}
 use Rattle.transcripts.specs.Laws.{ConflictHasCause, ConflictsHaveCauses}
 use Rattle.transcripts.specs.Told as told
 use Rattle.transcripts.specs.Told.{AreFree, BeginLacksMemory, Begins, Commits, Deletes, Deleting, FailsAt, InsertLacksMemory, Inserts, IsOutside, IsSound, LacksMemory, Limits, MarksAll, MayConflict, RollsBack, SelectLacksMemory, Selects, TableIsFull, Tells, marked}
-use Rattle.transcripts.proofs.Allowed.{begin_allowed, commit_allowed, delete_allowed, end_is, insert_allowed, rollback_allowed, select_allowed, sound_at}
+use Rattle.transcripts.proofs.Allowed.{begin_allowed, commit_allowed, delete_allowed, insert_allowed, rollback_allowed, select_allowed, sound_at}
 use Rattle.transcripts.proofs.Alone.{FirstConflict, IsAsRequested, IsBut, all_marked, but_is, free_or_conflict, goes_on, one_conflicts}
 
 -- ---- what stands in the transaction

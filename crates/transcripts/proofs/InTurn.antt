@@ -1,14 +1,16 @@
 -- A transcript in which deletes stand alone is a run of whole statements, and each such run is a transcript.
-use Rattle.std.proofs.Common.{◌≡◌, ◌≢◌, ℕ, List, [], ◌∷◌, ◌++◌, Option, Some, refl, sym, ap, subst, ◌∙◌}
+use Rattle.std.proofs.Common.{◌≡◌, ◌≢◌, inl, inr, ℕ, Bool, cond, ne_eqb, List, [], ◌∷◌, ◌++◌, length, None, Some, refl, sym, ap, subst, ◌∙◌}
+use Rattle.std.specs.Prelude.{map, slice_get}
+use Rattle.std.proofs.lemmas.Bool.{cases_eq}
 use Rattle.std.proofs.lemmas.List.{append_assoc}
-use Rattle.block_model.specs.declared.reply.Reply.{Reply}
+use Rattle.std.proofs.lemmas.List.Elements.{All-head, All-tail}
+use Rattle.std.proofs.lemmas.Option.{none-some}
 use Rattle.block_model.specs.declared.request.Entry.{Entry}
 use Rattle.block_model.specs.DatabaseState.{DatabaseState}
 use Rattle.block_model.specs.SerialRun.{serial_run, serial_run-append}
-use Rattle.store_layout.specs.declared.statement.Statement.{Statement}
-use Rattle.transcripts.specs.InTurn.{AreRequests, AreRunInTurn, DeletesAreAlone, IsRunInTurn, NoneYet, OneMore, RunsAreTranscripts, TranscriptsAreRuns}
+use Rattle.transcripts.specs.InTurn.{AreRequests, AreRunInTurn, DeletesAreAlone, IsOfOne, IsRunInTurn, NoneYet, OneMore, OneSessionIsAlone, RunsAreTranscripts, TranscriptsAreRuns}
 use Rattle.transcripts.specs.Told.{Limits, Tells}
-use Rattle.transcripts.specs.Transcript.{Empty, Further, IsTranscript, Line, Said, next_statement}
+use Rattle.transcripts.specs.Transcript.{Empty, Further, IsTranscript, Line, Said, entries_of, lines_of, next_statement}
 use Rattle.transcripts.proofs.Answers.{leads_by, told_by}
 use Rattle.transcripts.proofs.Lines.{next_is_said}
 
@@ -34,6 +36,24 @@ module _ (limits : Limits) (names : List (List ℕ)) (script : List Line) (openi
       Further said (serial_run opening journal) (serial_run opening (journal ++ made)) e statement reply (transcript_of said journal before) next text
       (subst (Tells limits (next_statement script said) (serial_run opening journal) e.session statement reply) (sym (serial_run-append opening journal made))
       (told_by limits (serial_run opening journal) e.session (next_statement script said) statement reply made are))
+
+-- no other session than the one has a line
+none_of : (n k : ℕ) → k ≢ n → (script : List Line) → IsOfOne n script → lines_of k script ≡ []
+none_of n k apart [] all = refl
+none_of n k apart (line ∷ script) all =
+    ap (λ (b : Bool). cond b (line ∷ lines_of k script) (lines_of k script))
+    (ne_eqb line.session k (λ same. apart (sym same ∙ All-head (λ (l : Line). l.session ≡ n) line script all)))
+    ∙ none_of n k apart script (All-tail (λ (l : Line). l.session ≡ n) line script all)
+
+says_none : (n k : ℕ) → k ≢ n → (script : List Line) (said : List Said) → IsOfOne n script → next_statement script said k ≡ None
+says_none n k apart script said all = ap (λ (l : List Line). slice_get (map (λ (line : Line). line.statement) l) (length (entries_of k said))) (none_of n k apart script all)
+
+pub one_session_alone : OneSessionIsAlone
+one_session_alone script said n all before after e q is own m other apart has =
+    elim (cases_eq m n) [
+      | inl same ↦ none-some _ (sym (says_none n e.session (λ own_is. apart (same ∙ sym own_is)) script before all) ∙ own)
+      | inr not ↦ none-some _ (sym (says_none n m not script before all) ∙ has)
+    ]
 
 pub transcripts_are_runs : TranscriptsAreRuns
 transcripts_are_runs limits names script opening s said alone transcript = run_of limits names script opening said s alone transcript

@@ -1,5 +1,5 @@
 -- Statements run whole, one after the other, as the requests that they are. Where no delete stands beside another, a transcript says just this.
-use Rattle.std.specs.Prelude.{◌≡◌, ◌≢◌, ℕ, ◌<◌, Bool, false, codes, List, [], ◌∷◌, ◌++◌, slice_index_or, Option, None, Some}
+use Rattle.std.specs.Prelude.{◌≡◌, ◌≢◌, ℕ, ◌<◌, Bool, false, codes, List, [], ◌∷◌, ◌++◌, slice_index_or, All, Option, None, Some}
 use Rattle.block_model.specs.declared.reply.Refusal.{Refusal}
 use Rattle.block_model.specs.declared.reply.Refusal.TheVariants as refusals
 use Rattle.block_model.specs.declared.reply.Reply.{Reply}
@@ -48,6 +48,10 @@ abbrev pub DeletesAreAlone : List Line → List Said → Type 0
 DeletesAreAlone script said = (before after : List Said) (e : Said) (q : Query) → said ≡ before ++ e ∷ after → next_statement script before e.session ≡ Some (statements.Delete q)
     → IsDeleteAlone (next_statement script before) e.session
 
+-- the script is one session's
+abbrev pub IsOfOne : ℕ → List Line → Type 0
+IsOfOne n script = All (λ (line : Line). line.session ≡ n) script
+
 -- ---- laws
 
 -- what leads from one database to the other
@@ -76,6 +80,10 @@ pub record IsRunInTurn (limits : Limits) (names : List (List ℕ)) (script : Lis
 abbrev pub TranscriptsAreRuns : Type 0
 TranscriptsAreRuns = (limits : Limits) (names : List (List ℕ)) (script : List Line) (opening s : DatabaseState) (said : List Said) → DeletesAreAlone script said → IsTranscript limits names script opening said s
     → IsRunInTurn limits names script opening said s
+
+-- and in a script of one session it does
+abbrev pub OneSessionIsAlone : Type 0
+OneSessionIsAlone = (script : List Line) (said : List Said) (n : ℕ) → IsOfOne n script → DeletesAreAlone script said
 
 -- and all that is run in turn is a transcript
 abbrev pub RunsAreTranscripts : Type 0

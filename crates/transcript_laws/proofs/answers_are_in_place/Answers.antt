@@ -1,4 +1,3 @@
-use Rattle.store_layout.specs.FirstBrokenRule.{KeepsLimits}
 use Rattle.store_layout.proofs.FirstBroken.{keeps_limits}
 use Rattle.script_laws.proofs.Reaching.{reached_is_orderly}
 use Rattle.transcript_laws.proofs.InPlace.{reached_drops_none, reached_stands}
