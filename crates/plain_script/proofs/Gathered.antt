@@ -1,6 +1,5 @@
 -- what is so of the lines that are gathered
-use Rattle.std.proofs.Common.{◌≡◌, ℕ, List, [], ◌∷◌, ◌++◌, length, map, refl, sym, ap, ◌∙◌, subst, arith}
-use Rattle.std.specs.Prelude.{All}
+use Rattle.std.proofs.Common.{◌≡◌, ℕ, List, [], ◌∷◌, ◌++◌, refl, sym, ap, ◌∙◌, subst, arith}
 use Rattle.std.proofs.lemmas.List.{map-append}
 use Rattle.std.proofs.lemmas.List.Elements.{All-append}
 use Rattle.block_model.specs.declared.schema.Schema.{Schema}
@@ -9,23 +8,17 @@ use Rattle.store_layout.specs.declared.statement.Statement.{Statement}
 use Rattle.transcripts.specs.Transcript.{Line}
 use Rattle.plain_script.specs.Gathering.{AreFor, IsGathered, held_script, script_kept}
 use Rattle.plain_script.specs.HeldScripts.{held_whole}
-use Rattle.plain_script.specs.KeptLines.{AreCounted, AreRead, IsHeld, NoneRead, MoreRead, count_kept, line_kept, lines_kept, next_kept}
+use Rattle.plain_script.specs.KeptLines.{AreCounted, AreRead, NoneRead, MoreRead, line_kept, lines_kept, next_kept}
 use Rattle.plain_script.specs.declared.kept.ScriptLine.{ScriptLine}
 use Rattle.plain_script.specs.declared.kept.ScriptSession.{ScriptSession}
 use Rattle.plain_script.proofs.Ranks.{all_there}
 use Rattle.plain_script.proofs.SessionNames.{all_one}
-use Rattle.plain_script.proofs.Taking.{held_at_first}
 
 -- nothing is gathered at first
 pub gathered_none : (schema : Schema) (sessions : List ScriptSession) (kept : List ScriptLine) → sessions ≡ [] → kept ≡ [] → IsGathered schema sessions kept
 gathered_none schema sessions kept e f =
     subst (λ (s : List ScriptSession). IsGathered schema s kept) (sym e)
     (subst (λ (k : List ScriptLine). IsGathered schema [] k) (sym f) (record { read = NoneRead; counted = λ n. refl; fit = λ k d h. absurd (omega (arith, h)) }))
-
--- a session without lines is made
-pub gathered_name : (schema : Schema) (sessions sessions' : List ScriptSession) (kept : List ScriptLine) → IsGathered schema sessions kept
-    → ((n : ℕ) → count_kept sessions' n ≡ count_kept sessions n) → IsGathered schema sessions' kept
-gathered_name schema sessions sessions' kept all same = record { read = all.read; counted = λ n. same n ∙ all.counted n; fit = all.fit }
 
 -- one more line is kept
 pub gathered_more : (schema : Schema) (sessions sessions' : List ScriptSession) (kept kept' : List ScriptLine) (n : ℕ) (statement : Statement) → IsGathered schema sessions kept
@@ -42,6 +35,3 @@ gathered_more schema sessions sessions' kept kept' n statement all fits is count
 pub held_as_read : (sessions : List ScriptSession) (whole kept : List ScriptLine) (unread : List ℕ) → whole ≡ kept → AreRead kept
     → held_script sessions whole kept unread ≡ held_whole (script_kept sessions kept unread)
 held_as_read sessions whole kept unread e read = λ i. record { script = script_kept sessions (e i) unread; held = all_there kept read i }
-
-pub is_held : (whole kept : List ScriptLine) → whole ≡ kept → AreRead kept → IsHeld whole kept
-is_held whole kept e read = subst (λ (w : List ScriptLine). IsHeld w kept) (sym e) (held_at_first kept read)

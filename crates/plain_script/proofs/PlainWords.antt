@@ -1,5 +1,5 @@
 -- plain lines and the lines of the engine's language, by their words
-use Rattle.std.proofs.Common.{◌≡◌, ℕ, ◌+◌, ◌<◌, ◌≤◌, nat_lt, Bool, true, false, ◌&&◌, cond, List, [], ◌∷◌, ◌++◌, length, codes, Option, None, Some, Result, Ok, Err, ◌⊎◌, inl, inr, refl, sym, ap, ◌∙◌, subst, arith}
+use Rattle.std.proofs.Common.{◌≡◌, ℕ, ◌≤◌, nat_lt, Bool, true, false, cond, List, [], ◌∷◌, ◌++◌, length, codes, Option, None, Some, Result, Ok, Err, ◌⊎◌, inl, inr, refl, sym, ap, ◌∙◌, subst, arith}
 use Rattle.std.specs.List.{list_all}
 use Rattle.std.specs.Option.{is_some, option_map, option_and_then}
 use Rattle.std.specs.Str.{bytes_eq}
@@ -15,7 +15,6 @@ use Rattle.query_words.specs.declared.line.LineFault.{LineFault}
 use Rattle.query_words.specs.declared.line.LineFault.TheVariants as faults
 use Rattle.query_words.specs.declared.line.Order.TheVariants as orders
 use Rattle.query_words.specs.declared.line_length.TheConstants.{MAX_LINE}
-use Rattle.query_words.specs.declared.syntax.Expected.{Expected}
 use Rattle.query_words.specs.declared.syntax.Expected.TheVariants as expected
 use Rattle.query_words.specs.Grammar.{SaidStatement, SaidOrder, Whole, Start, Step, Finish, SaidLine, Nothing, Say, is_comment}
 use Rattle.query_words.specs.Lines.{line_in, line_judged, line_of, line_of_words, line_within}

@@ -1,14 +1,14 @@
 -- how sessions get their numbers, and what is so of every script
-use Rattle.std.proofs.Common.{◌≡◌, ℕ, zero, suc, ◌+◌, ◌<◌, ◌≤◌, Bool, true, false, cond, leb, ltb, List, [], ◌∷◌, ◌++◌, length, Some, None, Option, Result, Ok, Err, ◌⊎◌, inl, inr, refl, sym, ap, ◌∙◌, subst, arith, length-append}
-use Rattle.std.specs.Prelude.{slice_get, All, fold, nat_lt, nat_le}
+use Rattle.std.proofs.Common.{◌≡◌, ℕ, zero, suc, ◌+◌, ◌<◌, ◌≤◌, Bool, true, false, cond, List, [], ◌∷◌, ◌++◌, length, Some, Result, Ok, Err, ◌⊎◌, inl, inr, refl, sym, ap, ◌∙◌, subst, arith, length-append}
+use Rattle.std.specs.Prelude.{slice_get, All, fold, nat_lt}
 use Rattle.std.specs.Str.{bytes_eq}
-use Rattle.std.proofs.lemmas.Bool.{cases_Bool, leb-false, ltb-false, ltb-true, false≢true}
+use Rattle.std.proofs.lemmas.Bool.{leb-false, ltb-false, ltb-true}
 use Rattle.std.proofs.lemmas.List.Elements.{All-append, All-weaker}
 use Rattle.std.proofs.lemmas.Slice.Eq.{bytes_eq-Decides}
 use Rattle.block_model.specs.declared.schema.Schema.{Schema}
 use Rattle.store_layout.specs.declared.limits.TheConstants.{MAX_SESSIONS}
 use Rattle.store_layout.specs.declared.statement.Statement.{Statement}
-use Rattle.store_layout.specs.SessionNumbers.{is_past_sessions, session_from, session_number, with_session}
+use Rattle.store_layout.specs.SessionNumbers.{is_past_sessions, session_from, session_number}
 use Rattle.query_words.specs.declared.line.LineFault.{LineFault}
 use Rattle.transcripts.specs.Transcript.{Line}
 use Rattle.plain_script.specs.PlainLines.{plain_line_of}
@@ -87,9 +87,6 @@ says script name statement has not_past = by_case (nat_lt (session_number script
               (All-weaker (λ (line : Line). line.session < length script.names) (λ (line : Line). line.session < length (script.names ++ name ∷ [])) (λ line below. omega (arith, below, longer)) script.lines has.within)
               (all_one (λ (line : Line). line.session < length (script.names ++ name ∷ [])) (record { session = session_number script.names name; statement = statement }) (omega (arith, most, longer)));
         })
-
-same_sessions : (script : PlainScript) (text : List ℕ) → HasItsSessions script → HasItsSessions (with_text script text)
-same_sessions script text has = record { few = has.few; apart = has.apart; within = has.within }
 
 pub with_one : (script : PlainScript) (read : Result PlainLine LineFault) → HasItsSessions script → HasItsSessions (with_line script read)
 with_one script (Err fault) has = record { few = has.few; apart = has.apart; within = has.within }

@@ -1,5 +1,5 @@
 -- what is so where the statement of a line is taken out
-use Rattle.std.proofs.Common.{◌≡◌, ℕ, zero, suc, ◌+◌, ◌<◌, ◌≤◌, Bool, true, false, cond, eqb, List, [], ◌∷◌, length, map, set, get_or, take, Option, None, Some, ◌⊎◌, inl, inr, refl, sym, ap, ◌∙◌, subst, arith}
+use Rattle.std.proofs.Common.{◌≡◌, ℕ, zero, suc, ◌+◌, ◌<◌, true, false, cond, eqb, List, [], ◌∷◌, length, map, set, get_or, take, Option, None, Some, ◌⊎◌, inl, inr, refl, sym, ap, ◌∙◌, subst, arith}
 use Rattle.std.specs.Prelude.{slice_get, unwrap_or, IfSome, IfNone}
 use Rattle.std.specs.Option.{is_some, option_map}
 use Rattle.std.proofs.lemmas.List.{length-map, length-set, map-set, set-get_or}
@@ -8,21 +8,13 @@ use Rattle.store_layout.specs.declared.statement.Statement.{Statement}
 use Rattle.store_layout.specs.declared.statement.Statement.TheVariants as statements
 use Rattle.transcripts.specs.Transcript.{Line, lines_of}
 use Rattle.plain_script.specs.HeldScripts.{IsLineOf}
-use Rattle.plain_script.specs.KeptLines.{AreRead, IsHeld, IsLeftOf, TakesOut, is_there, line_kept, line_there, lines_kept}
+use Rattle.plain_script.specs.KeptLines.{IsHeld, IsLeftOf, TakesOut, is_there, line_kept, line_there, lines_kept}
 use Rattle.plain_script.specs.SessionLines.{numbers_from, numbers_of}
 use Rattle.plain_script.specs.declared.kept.ScriptLine.{ScriptLine}
 use Rattle.plain_script.proofs.ListLemmas.{set_cases, some_same, there}
-use Rattle.plain_script.proofs.Ranks.{StandsAt, stands_at}
+use Rattle.plain_script.proofs.Ranks.{stands_at}
 
 -- ---- a line of the list
-
--- nothing is taken where the line isn't that session's, or not of that rank
-pub not_taken : (lines : List ScriptLine) (session number rank : ℕ)
-    → ((statement : Statement) → slice_get lines number ≡ Some (line_there session rank statement) → ⊥) → TakesOut lines lines session number rank None
-not_taken lines session number rank not = (refl, not)
-
-pub no_line_past : (lines : List ScriptLine) (session number rank : ℕ) (statement : Statement) → length lines ≤ number → slice_get lines number ≡ Some (line_there session rank statement) → ⊥
-no_line_past lines session number rank statement past e = absurd (omega (arith, past, slice_get_within lines number (line_there session rank statement) e))
 
 pub no_session : (lines : List ScriptLine) (session number rank : ℕ) (d : ScriptLine) (statement : Statement) → number < length lines → ((get_or lines number d).session ≡ session → ⊥)
     → slice_get lines number ≡ Some (line_there session rank statement) → ⊥
@@ -50,15 +42,6 @@ module _ (lines : List ScriptLine) (session number rank : ℕ) (d : ScriptLine) 
   )
 
 -- ---- a script of which something is left
-
-pub held_at_first : (whole : List ScriptLine) → AreRead whole → IsHeld whole whole
-held_at_first whole read = record {
-  read = read;
-  many = refl;
-  left = λ i one other e f.
-      let same : other ≡ one = some_same other one (sym f ∙ e) in
-      record { session = ap (λ (x : ScriptLine). x.session) same; rank = ap (λ (x : ScriptLine). x.rank) same; statement = inl (ap (λ (x : ScriptLine). x.statement) same) };
-}
 
 module _ (whole kept : List ScriptLine) (held : IsHeld whole kept) where
   -- a line that was read is left there, but perhaps for its statement

@@ -88,7 +88,6 @@ fn one_more(count: u64, many: usize) -> u64
     requires { count < many }
     ensures { result ≡ count + 1 }
 {
-    let _many = many;
     count + 1
 }
 
