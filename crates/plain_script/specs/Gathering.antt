@@ -1,5 +1,5 @@
 -- How the lines of a script are gathered.
-use Rattle.std.specs.Prelude.{◌≡◌, ℕ, List, [], ◌++◌, map, All}
+use Rattle.std.specs.Prelude.{◌≡◌, ℕ, List, [], map, All}
 use Rattle.block_model.specs.declared.schema.Schema.{Schema}
 use Rattle.store_layout.specs.StatementFits.{IsStatementFor}
 use Rattle.script_run.specs.declared.engine.AnswerFault.{AnswerFault}

@@ -1,6 +1,7 @@
 pub mod PlainLines
 pub mod PlainLineLaws
 pub mod PlainScripts
+pub mod ScriptLaws
 pub mod SessionLines
 pub mod HeldScripts
 pub mod KeptLines

@@ -2,8 +2,6 @@
 use Rattle.std.specs.Prelude.{◌≡◌, ℕ, ◌≤◌, true, Bool, List, [], ◌∷◌, length, Ok, Err}
 use Rattle.std.specs.Option.{is_some}
 use Rattle.block_model.specs.declared.schema.Schema.{Schema}
-use Rattle.store_layout.specs.declared.statement.Statement.{Statement}
-use Rattle.query_words.specs.declared.verb.Verb.{Verb}
 use Rattle.query_words.specs.declared.verb.Verb.TheVariants as verbs
 use Rattle.query_words.specs.declared.line.Line.{Line}
 use Rattle.query_words.specs.declared.line.Line.TheVariants as lines

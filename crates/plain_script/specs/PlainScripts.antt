@@ -1,12 +1,15 @@
 -- A script of plain lines, read whole: its sessions, the lines of their workers, and the texts of the lines that no worker has.
-use Rattle.std.specs.Prelude.{◌≡◌, ℕ, ◌≤◌, ◌<◌, List, [], ◌∷◌, ◌++◌, length, slice_get, All, fold, Some, Result, Ok, Err, if◌then◌else◌}
+use Rattle.std.specs.Prelude.{◌≡◌, ℕ, ◌≤◌, ◌<◌, List, [], ◌∷◌, ◌++◌, length, slice_get, All, fold, Option, None, Some, Result, Ok, Err, if◌then◌else◌}
+use Rattle.block_model.specs.declared.reply.Refusal.{Refusal}
 use Rattle.block_model.specs.declared.reply.Refusal.TheVariants as refusals
+use Rattle.block_model.specs.declared.reply.Reply.TheVariants as replies
 use Rattle.block_model.specs.declared.schema.Schema.{Schema}
 use Rattle.store_layout.specs.declared.limits.TheConstants.{MAX_SESSIONS}
 use Rattle.store_layout.specs.declared.statement.Statement.{Statement}
 use Rattle.store_layout.specs.SessionNumbers.{session_number, with_session, is_past_sessions}
 use Rattle.query_words.specs.declared.line.LineFault.{LineFault}
-use Rattle.script_semantics.specs.LineTexts.{fault_text, refused_text}
+use Rattle.query_words.specs.LineRefusals.{refusal_of}
+use Rattle.reply_texts.specs.Texts.{refusal_text, reply_text}
 use Rattle.transcripts.specs.Transcript.{Line}
 use Rattle.plain_script.specs.PlainLines.{plain_line_of}
 use Rattle.plain_script.specs.declared.plain_line.PlainLine.{PlainLine}
@@ -32,12 +35,25 @@ with_statement script name statement = record script {
   lines = script.lines ++ record { session = session_number script.names name; statement = statement } ∷ [];
 }
 
+-- the text of a refusal that names no session, where there is one
+abbrev pub text_of_refusal : Option Refusal → List ℕ
+text_of_refusal None = []
+text_of_refusal (Some refusal) = refusal_text [] refusal
+
+-- the text of a line that isn't read; want of memory is no fault of a line
+abbrev pub unread_text : LineFault → List ℕ
+unread_text fault = text_of_refusal (refusal_of fault)
+
+-- the text of a line of a session past the greatest number
+abbrev pub past_text : List ℕ → List ℕ
+past_text name = reply_text name (replies.Refused (refusals.Limit MAX_SESSIONS))
+
 -- a line that isn't read has the text of its fault, and one of a session past the greatest number the text of that refusal
 abbrev pub with_line : PlainScript → Result PlainLine LineFault → PlainScript
-with_line script (Err fault) = with_text script (fault_text fault)
+with_line script (Err fault) = with_text script (unread_text fault)
 with_line script (Ok plain.Nothing) = script
 with_line script (Ok (plain.Say name statement)) =
-    if is_past_sessions script.names name then with_text script (refused_text name (refusals.Limit MAX_SESSIONS)) else with_statement script name statement
+    if is_past_sessions script.names name then with_text script (past_text name) else with_statement script name statement
 
 -- the script of these lines, one after the other
 abbrev pub plain_script : Schema → List (List ℕ) → PlainScript

@@ -111,7 +111,12 @@ impl<'a> Gatherer<'a> {
             return Ok(());
         }
         make_session(&mut self.sessions, name, number)?;
-        keep_line(self.sessions.as_mut_slice(), &mut self.lines, number, statement)?;
+        keep_line(
+            self.sessions.as_mut_slice(),
+            &mut self.lines,
+            number,
+            statement,
+        )?;
         Ok(())
     }
 

@@ -1,6 +1,6 @@
 //! The sessions and the lines of a script, as they are kept.
 
-ghost use Rattle.std.specs.Prelude.{◌≡◌, ℕ, ◌≤◌, ◌<◌, [], ◌∷◌, ◌++◌, IfOk, OnOk, OnErr, length};
+ghost use Rattle.std.specs.Prelude.{◌≡◌, ℕ, ◌≤◌, ◌<◌, ◌+◌, [], ◌∷◌, ◌++◌, IfOk, OnOk, OnErr, length};
 ghost use Rattle.store_layout.specs.SessionNumbers.{session_number, with_session};
 ghost use Rattle.store_layout.specs.declared.limits.TheConstants.{MAX_SESSIONS};
 ghost use Rattle.plain_script.specs.KeptLines.{AreCounted, TakesOut, count_kept, lines_kept, names_kept, next_kept};
@@ -44,7 +44,8 @@ pub(crate) fn make_session(
     name: Name,
     number: usize,
 ) -> Result<(), NoMemory>
-    requires { number ≡ session_number (names_kept sessions.old.items) name }
+    requires number { number ≡ session_number (names_kept sessions.old.items) name }
+    requires within { number ≤ length sessions.old.items }
     ensures names { OnOk result (names_kept sessions.new.items ≡ with_session (names_kept sessions.old.items) name) }
     ensures there { OnOk result (number < length sessions.new.items) }
     ensures counts { (n : ℕ) → count_kept sessions.new.items n ≡ count_kept sessions.old.items n }
@@ -78,9 +79,16 @@ pub(crate) fn keep_line(
         rank,
         statement: Some(statement),
     })?;
-    let _count = lines.len();
-    sessions[number].lines = rank + 1;
+    sessions[number].lines = one_more(rank, lines.len());
     Ok(())
+}
+
+/// One more, of no more than there are.
+fn one_more(count: u64, many: usize) -> u64
+    requires { count < many }
+    ensures { result ≡ count + 1 }
+{
+    count + 1
 }
 
 /// The numbers of a session's lines, in their order.

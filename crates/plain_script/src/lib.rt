@@ -14,7 +14,7 @@ mod reader;
 mod script_lines;
 
 pub use fault::ScriptFault;
-pub use laws::{plain_lines_are_lines, sessions_are_apart};
+pub use laws::{plain_lines_are_lines, sessions_are_apart, sessions_have_their_lines};
 pub use plain_line::{PLAIN, PlainLine, read_plain_line};
 pub use reader::read_script;
 pub use script_lines::ScriptLines;

@@ -34,11 +34,7 @@ pub enum PlainLine {
 }
 
 /// Reads a line: what it says, or the first fault, as `read_line` judges it. Takes memory for conditions alone.
-pub fn read_plain_line(
-    alloc: Global,
-    line: &[u8],
-    layout: &Layout,
-) -> Result<PlainLine, LineFault>
+pub fn read_plain_line(alloc: Global, line: &[u8], layout: &Layout) -> Result<PlainLine, LineFault>
     ensures reads { ReadsAs result (plain_line_of layout.now.schema line.now) }
     ensures fits { IfOk result (IsPlainLineFor layout.now.schema) }
 {

@@ -1,0 +1,11 @@
+pub mod ListLemmas
+pub mod Counting
+pub mod Ranks
+pub mod Taking
+pub mod SessionNames
+pub mod LinesOfNames
+pub mod Folding
+pub mod Gathered
+pub mod Reading
+pub mod BehindVerbs
+pub mod PlainWords
