@@ -1,10 +1,11 @@
 #!/usr/bin/env python3
-"""Times what a published directory answers: given_blocks.py. No part of the gate.
+"""Times what a published directory answers, and an explain over the same tables: given_blocks.py. No part of the gate.
 
-Builds a small program over summary_directory in a copy of the crates by LLVM at -O2. The program isn't proved, so it has the checks of
-`rt try` in it, and a proved one is somewhat faster. A table has 1,000 blocks, and then 131,072, with a range for each in an index of one
-minmax column, of which a query finds one. Tells the best and the middle time of `given`: of a reader alone, and of one beside a writer that
-posts a tuple and publishes it, over and over; and how often that writer published meanwhile.
+Builds a small program over summary_directory and bitmap_scan in a copy of the crates by LLVM at -O2. The program isn't proved, so it has the
+checks of `rt try` in it, and a proved one is faster. A table has 1,000 blocks, and then 131,072, with a range for each in an index of one minmax
+column; a query finds one of them, or all. Tells the best and the middle time of `given`: of a reader alone, and of one beside a writer that
+posts a tuple and publishes it, over and over; how often that writer published meanwhile; and the best time of an explain in the store itself,
+whose disk in memory has up to 1.1 GB.
 """
 import pathlib
 import shutil
@@ -16,19 +17,31 @@ import tempfile
 from unproved import HERE, KIT, TRY, toolchain
 
 ROUNDS = 50
-NEEDED = "given_bench: block_model store_layout summary_directory\n"
+NEEDED = (
+    "given_bench: block_model store_layout disk_trait page_locks store_format page_store brin_insert summarise_core bitmap_scan"
+    " summary_directory\n"
+)
 
 MAIN = """//! Times what a published directory answers.
 #![tactic(auto)]
 
-use block_model::{Cond, Conds, Op, Query, Value};
+use bitmap_scan::Explain;
+use block_model::{
+    Class, Column, Cond, Conds, Index, Kind, Name, Op, Part, Query, Row, RowId, Schema, Sequence, Sizes, Table, Value, Values,
+};
+use brin_insert::{Insert, Queue};
+use disk_trait::SteadyDisk;
+use page_locks::{Did, Locks, Rights};
+use page_store::PageStore;
 use std::alloc::Global;
 use std::io;
 use std::sync::Wait;
 use std::sync::atomic::{AtomicU64, Ordering};
 use std::thread::{Threads, join};
 use std::time::Instant;
+use store_format::format;
 use store_layout::{LEAST, Layout, indexed_layout};
+use summarise_core::{Summarise, Wish};
 use summary_directory::{Directory, Post, Told, TupleBytes};
 
 const ROUNDS: u64 = 50;
@@ -51,13 +64,15 @@ fn post_range(alloc: Global, directory: &mut Directory, range: u32) -> Option<()
     directory.post(Post::Set { index, range, bytes }).ok()
 }
 
-fn query(alloc: Global) -> Option<Query> {
+/// The query that finds block 7 alone, or all of them.
+fn query(alloc: Global, op: Op) -> Option<Query> {
     let mut conds = Conds::new(alloc);
+    let number = if op == Op::Eq { 7 } else { 0 };
     conds
         .push(Cond {
             column: 0,
-            op: Op::Eq,
-            key: Value::Int(7),
+            op,
+            key: Value::Int(number),
         })
         .ok()?;
     Some(Query { table: 0, conds })
@@ -97,15 +112,16 @@ fn measure<R: Wait + Threads>(
 ) -> io::Result<()> {
     let filled = fill(rt, alloc, directory, blocks).is_some();
     let told = directory.tell(alloc, layout, 0);
-    let (Ok(mut told), Some(query)) = (told, query(alloc)) else {
+    let (Ok(mut told), Some(one), Some(all)) = (told, query(alloc, Op::Eq), query(alloc, Op::Ge)) else {
         return Ok(());
     };
-    'alone: for _ in 0..ROUNDS {
+    'alone: for round in 0..2 * ROUNDS {
+        let (case, asked) = if round % 2 == 0 { ("one", &one) } else { ("all", &all) };
         let start = Instant::now(clock)?;
-        let given = told.given(alloc, &query);
+        let given = told.given(alloc, asked);
         let took = start.elapsed(clock)?.as_nanos();
         let count = given.map(|blocks| blocks.len()).unwrap_or(0);
-        println!(clock; "took {} alone {} {}", blocks, took, count)?;
+        println!(clock; "took {} {} {} {}", blocks, case, took, count)?;
     }
     let stop = AtomicU64::new(0);
     let (times, published) = join(
@@ -114,7 +130,7 @@ fn measure<R: Wait + Threads>(
             let mut times = [0u128; 50];
             'beside: for round in 0..50 {
                 let start = Instant::now(clock);
-                let given = told.given(alloc, &query);
+                let given = told.given(alloc, &one);
                 if let (Ok(start), Ok(_)) = (start, given) {
                     if let Ok(took) = start.elapsed(clock) {
                         times[round] = took.as_nanos();
@@ -132,6 +148,92 @@ fn measure<R: Wait + Threads>(
     println!(clock; "published {} {} {}", blocks, published, filled)
 }
 
+/// A store of the table `t(a int8)` with a row on each of so many blocks, and a range for each in its index.
+fn store(alloc: Global, blocks: u32) -> Option<PageStore<SteadyDisk>> {
+    let mut columns = Sequence::new(alloc);
+    columns.push(Column { name: Name::new(b"a")?, kind: Kind::Int }).ok()?;
+    let mut tables = Sequence::new(alloc);
+    tables.push(Table { name: Name::new(b"t")?, rows_per_page: 1, columns }).ok()?;
+    let mut parts = Sequence::new(alloc);
+    parts.push(Part { column: 0, class: Class::MinMax }).ok()?;
+    let mut indexes = Sequence::new(alloc);
+    indexes.push(Index { name: Name::new(b"i")?, table: 0, pages_per_range: 1, auto: false, parts }).ok()?;
+    let sizes = Sizes { heap_blocks: blocks, index_blocks: 1024, status_blocks: 1, log_pages: 4096, frames: 4096 };
+    let layout = Layout::new(Schema { tables, indexes }, sizes).ok()?;
+    let mut disk = SteadyDisk::new(alloc, layout.disk_size()).ok()?;
+    format(&mut disk, &layout).ok()?;
+    PageStore::start(alloc, disk).ok()
+}
+
+/// The row of that number, which has it as its value.
+fn row(number: u32) -> Row {
+    let mut values = Values::new();
+    values.push(Value::Int(i64::from(number)));
+    Row { table: 0, id: RowId { t: 1, k: number }, values }
+}
+
+fn put(work: &mut Insert, pages: &mut PageStore<SteadyDisk>, locks: &mut Locks, queue: &mut Queue) -> Option<()> {
+    'steps: for _ in 0..u64::MAX {
+        match work.step(pages, locks, queue, 0) {
+            Ok(Did::Finished(_)) => return Some(()),
+            Ok(Did::Moved(_)) => {}
+            _ => return None,
+        }
+    }
+    None
+}
+
+/// Puts the rows, and summarises their ranges.
+fn fill_store(alloc: Global, pages: &mut PageStore<SteadyDisk>, blocks: u32) -> Option<()> {
+    let mut locks = Locks::new(alloc, 320).ok()?;
+    let mut rights = Rights::new(alloc, 1).ok()?;
+    let mut queue = Queue::new(alloc).ok()?;
+    let mut work = Insert::new(alloc, row(0), pages.layout()).ok()?;
+    'rows: for number in 0..blocks {
+        work.begin(row(number), pages.layout());
+        put(&mut work, pages, &mut locks, &mut queue)?;
+    }
+    let mut work = Summarise::new(alloc, 0, Wish::New, pages.layout()).ok()?;
+    'steps: for _ in 0..u64::MAX {
+        match work.step(pages, &mut locks, &mut rights, 0) {
+            Ok(Did::Finished(_)) => return Some(()),
+            Ok(Did::Moved(_)) => {}
+            _ => return None,
+        }
+    }
+    None
+}
+
+/// How many blocks an explain of the query tells.
+fn explain(alloc: Global, pages: &mut PageStore<SteadyDisk>, op: Op) -> Option<usize> {
+    let mut work = Explain::new(alloc, query(alloc, op)?, pages.layout()).ok()?;
+    'steps: for _ in 0..u64::MAX {
+        match work.step(pages) {
+            Ok(Did::Finished(_)) => return Some(work.blocks().len()),
+            Ok(Did::Moved(_)) => {}
+            _ => return None,
+        }
+    }
+    None
+}
+
+/// Times explains in a store with those tuples on its pages.
+fn explain_all(clock: &HostRuntime, alloc: Global, blocks: u32) -> io::Result<()> {
+    let Some(mut pages) = store(alloc, blocks) else {
+        return Ok(());
+    };
+    if fill_store(alloc, &mut pages, blocks).is_none() {
+        return Ok(());
+    }
+    'rounds: for _ in 0..5 {
+        let start = Instant::now(clock)?;
+        let count = explain(alloc, &mut pages, Op::Eq).unwrap_or(0);
+        let took = start.elapsed(clock)?.as_nanos();
+        println!(clock; "explained {} {} {}", blocks, took, count)?;
+    }
+    Ok(())
+}
+
 fn main(rt: HostRuntime) -> io::Result<()> {
     let alloc = rt.alloc();
     'sizes: for blocks in [1000u32, 131072] {
@@ -146,6 +248,7 @@ fn main(rt: HostRuntime) -> io::Result<()> {
         let measured = measure(&rt, &rt, alloc, &layout, &mut directory, blocks);
         directory.close(&rt);
         measured?;
+        explain_all(&rt, alloc, blocks)?;
     }
     Ok(())
 }
@@ -164,26 +267,30 @@ def put_files(folder):
 
 
 def run(crate, tools):
-    """The words of each line of the program: nanoseconds by blocks and case, and how often the writer published."""
+    """The words of each line of the program: nanoseconds by blocks and case, how often the writer published, and those of explains."""
     words = [sys.executable, "-c", TRY, str(tools), str(KIT / "bin")]
     ran = subprocess.run(words, cwd=crate, capture_output=True, text=True)
     lines = [line.split() for line in ran.stdout.splitlines()]
     took = [line[1:] for line in lines if line[:1] == ["took"]]
     published = {line[1]: line[2] for line in lines if line[:1] == ["published"] and line[3:] == ["true"]}
-    if len(took) != 4 * ROUNDS or any(count != "1" for _, _, _, count in took) or len(published) != 2:
+    explained = [line[1:] for line in lines if line[:1] == ["explained"]]
+    right = all(count == (blocks if case == "all" else "1") for blocks, case, _, count in took)
+    if len(took) != 6 * ROUNDS or not right or len(published) != 2 or [count for _, _, count in explained] != ["1"] * 10:
         sys.exit(ran.stdout + ran.stderr)
-    return took, published
+    return took, published, explained
 
 
 def main():
     with tempfile.TemporaryDirectory() as name:
         folder = pathlib.Path(name)
-        took, published = run(put_files(folder), toolchain(folder / "toolchain"))
+        took, published, explained = run(put_files(folder), toolchain(folder / "toolchain"))
     for blocks in published:
-        for case in ("alone", "beside"):
+        for case, told in (("one", "one kept"), ("all", "all kept"), ("beside", "one kept, beside a writer")):
             times = [int(time) / 1000 for size, at, time, _ in took if (size, at) == (blocks, case)]
-            print(f"{blocks} ranges, {case}: best {min(times):.0f} µs, middle {statistics.median(times):.0f}")
+            print(f"{blocks} ranges, {told}: best {min(times):.0f} µs, middle {statistics.median(times):.0f}")
         print(f"{blocks} ranges: the writer published {published[blocks]} times")
+        times = [int(time) / 1000 for size, time, _ in explained if size == blocks]
+        print(f"{blocks} ranges, an explain in the store: best {min(times):.0f} µs")
 
 
 if __name__ == "__main__":

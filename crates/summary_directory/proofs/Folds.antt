@@ -7,10 +7,10 @@ use Rattle.summary_directory.specs.Shown.{Shown}
 use Rattle.summary_directory.specs.declared.post.Post.{Post}
 use Rattle.summary_directory.specs.declared.post.Post.TheVariants.{Set, Clear, Extent}
 use Rattle.summary_directory.specs.declared.kept.Kept.{Kept}
-use Rattle.summary_directory.specs.Places.{placed}
+use Rattle.kept_tuples.specs.Places.{placed}
 use Rattle.summary_directory.specs.PublishedState.{nothing_shown, posted, shown_after}
 use Rattle.summary_directory.specs.ShelfFold.{fold_of, no_posts, shown_of, step}
-use Rattle.summary_directory.proofs.Placed.{placed_else, placed_here}
+use Rattle.kept_tuples.proofs.Placed.{placed_else, placed_here}
 
 abbrev Tuple : Type 0
 Tuple = Option (List ℕ)

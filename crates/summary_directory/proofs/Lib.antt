@@ -1,6 +1,6 @@
 pub mod Given
 pub mod Extents
-pub mod Placed
+pub mod KnownBounds
 pub mod Folds
 pub mod Steps
 pub mod Judged

@@ -3,10 +3,10 @@ pub mod ShownByPages
 pub mod GivenBlocks
 pub mod LeavesOut
 pub mod JudgesAsShown
-pub mod Places
 pub mod PublishedState
 pub mod ShelfFold
 pub mod Rule
 pub mod Posts
 pub mod JudgedBlocks
 pub mod Verdicts
+pub mod KnownBounds

@@ -1,7 +1,7 @@
 -- posts as a shelf takes them in
 use Rattle.std.specs.Prelude.{◌+◌, List, [], fold, slice_index, slice_index_or, None, Some}
 use Rattle.summary_directory.specs.Shown.{Shown}
-use Rattle.summary_directory.specs.Places.{placed}
+use Rattle.kept_tuples.specs.Places.{placed}
 use Rattle.summary_directory.specs.declared.post.Post.{Post}
 use Rattle.summary_directory.specs.declared.post.Post.TheVariants.{Set, Clear, Extent}
 use Rattle.summary_directory.specs.declared.kept.Kept.{Kept}

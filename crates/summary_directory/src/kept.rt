@@ -1,7 +1,8 @@
 //! What both copies of a shelf have in common, and what a seat at them knows. No value of either is made: a clause reads an array as a list of
 //! any length.
 
-use crate::post::{Post, TupleBytes};
+use crate::post::Post;
+use kept_tuples::TupleBytes;
 
 /// The tuples by index and range, the blocks by table, and how many posts were taken in.
 pub struct Kept {

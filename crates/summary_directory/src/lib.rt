@@ -15,9 +15,7 @@ mod judge;
 mod kept;
 mod laws;
 mod listing;
-mod places;
 mod post;
-mod ranges;
 mod reader;
 mod rule;
 mod shelf;
@@ -26,9 +24,10 @@ mod tests;
 mod verdicts;
 
 pub use directory::Directory;
+pub use kept_tuples::TupleBytes;
 pub use laws::{
     a_block_is_left_out_by_a_tuple, an_explain_tells_the_given_blocks,
     pages_show_the_blocks_of_a_table,
 };
-pub use post::{Post, TupleBytes};
+pub use post::Post;
 pub use reader::{GivenFault, Told};

@@ -13,7 +13,6 @@ use crate::judge::Judge;
 use crate::shelf::Shelf;
 use crate::verdicts::{Verdicts, judge_all};
 use block_model::{Blocks, NoMemory, Query};
-use range_tuple::ScanKeys;
 use std::alloc::Global;
 
 /// The blocks that are given for the query, by what the shelf shows.
@@ -26,8 +25,8 @@ pub(crate) fn given_in(
     ensures same { judges.new ≡ judges.old }
     ensures given { IfOk result (λ blocks. (layout : DiskLayout) → judges.old ≡ scanned_indexes layout query.now.table → blocks ≡ given_blocks layout (shown_of (kept shelf.now)) query.now) }
 {
-    let keys = ScanKeys::new(query.conds.as_slice());
-    let verdicts = judge_all(alloc, shelf.tuples.as_slice(), judges, &keys)?;
+    let conds = query.conds.as_slice();
+    let verdicts = judge_all(alloc, shelf.tuples.as_slice(), judges, conds)?;
     let extent = extent_of(shelf.extents.as_slice(), query.table);
     let blocks = list(alloc, verdicts.as_slice(), extent)?;
     Ok(blocks)

@@ -3,9 +3,8 @@
 ghost use Rattle.summary_directory.specs.ShelfFold.{step};
 
 use crate::kept::Kept;
-use crate::places::put_at;
 use crate::post::Post;
-use crate::ranges::{Ranges, put_tuple};
+use kept_tuples::{Ranges, put_at, put_tuple};
 use left_right::Absorb;
 use std::alloc::{AllocError, Global};
 

@@ -1,10 +1,11 @@
 //! The blocks that are given as posts are published, and a reader that answers while the writer is held amid a publishing.
 
 use crate::directory::Directory;
-use crate::post::{Post, TupleBytes};
+use crate::post::Post;
 use crate::reader::Told;
 use crate::rule::Looks;
 use block_model::{Cond, Conds, Op, Query, Value};
+use kept_tuples::TupleBytes;
 use std::alloc::Global;
 use std::sync::Wait;
 use std::sync::atomic::{AtomicU64, Ordering};

@@ -1,13 +1,13 @@
 //! Which ranges of an index are kept.
 
-ghost use Rattle.std.specs.Prelude.{◌≡◌, [], map, slice_index_or, IfOk};
+ghost use Rattle.std.specs.Prelude.{◌≡◌, ◌≤◌, length, map, IfOk};
+ghost use Rattle.block_model.specs.declared.limits.TheConstants.{MAX_CONDITIONS};
 ghost use Rattle.summary_directory.specs.JudgedBlocks.{keeps_cell};
 ghost use Rattle.summary_directory.specs.Verdicts.{keeps_block, verdict_by};
 
 use crate::judge::Judge;
-use crate::post::TupleBytes;
-use crate::ranges::Ranges;
-use block_model::NoMemory;
+use block_model::{Cond, NoMemory};
+use kept_tuples::Ranges;
 use range_tuple::ScanKeys;
 use std::alloc::Global;
 use std::marker::Model;
@@ -50,15 +50,16 @@ pub(crate) fn judge_all(
     alloc: Global,
     tuples: &[Ranges],
     judges: &mut [Judge],
-    keys: &ScanKeys<'_>,
+    conds: &[Cond],
 ) -> Result<Vec<Verdicts>, NoMemory>
+    requires { length conds.now ≤ MAX_CONDITIONS }
     ensures same { judges.new ≡ judges.old }
-    ensures verdicts { IfOk result (λ v. v.items ≡ map (verdict_by tuples.now keys.now) judges.old) }
+    ensures verdicts { IfOk result (λ v. v.items ≡ map (verdict_by tuples.now conds.now) judges.old) }
 {
     let mut verdicts = Vec::new(alloc);
     'judges: for at in 0..judges.len() {
         let judge = &mut judges[at];
-        let verdict = judge_index(alloc, tuples, judge, keys)?;
+        let verdict = judge_index(alloc, tuples, judge, conds)?;
         verdicts.push(verdict)?;
     }
     Ok(verdicts)
@@ -69,42 +70,41 @@ fn judge_index(
     alloc: Global,
     tuples: &[Ranges],
     judge: &mut Judge,
-    keys: &ScanKeys<'_>,
+    conds: &[Cond],
 ) -> Result<Verdicts, NoMemory>
+    requires { length conds.now ≤ MAX_CONDITIONS }
     ensures same { judge.new ≡ judge.old }
-    ensures verdict { IfOk result (λ v. v ≡ verdict_by tuples.now keys.now judge.old) }
+    ensures verdict { IfOk result (λ v. v ≡ verdict_by tuples.now conds.now judge.old) }
 {
     let pages_per_range = judge.pages_per_range();
-    let kept = judge_ranges(alloc, ranges_of(tuples, judge.number()), judge, keys)?;
+    let kept = match tuples.get(usize::from(judge.number())) {
+        Some(ranges) => judge_ranges(alloc, ranges, judge, conds)?,
+        None => Vec::new(alloc),
+    };
     Ok(Verdicts {
         pages_per_range,
         kept,
     })
 }
 
-/// The tuples of the index of that number.
-fn ranges_of(tuples: &[Ranges], number: u8) -> &[Option<TupleBytes>]
-    ensures { result.now ≡ slice_index_or tuples.now number [] }
-{
-    match tuples.get(usize::from(number)) {
-        Some(ranges) => ranges.as_slice(),
-        None => &[],
-    }
-}
-
-/// Of each tuple whether it is kept.
+/// Of each range whether it is kept.
 fn judge_ranges(
     alloc: Global,
-    ranges: &[Option<TupleBytes>],
+    ranges: &Ranges,
     judge: &mut Judge,
-    keys: &ScanKeys<'_>,
+    conds: &[Cond],
 ) -> Result<Vec<bool>, NoMemory>
+    requires { length conds.now ≤ MAX_CONDITIONS }
     ensures same { judge.new ≡ judge.old }
-    ensures kept { IfOk result (λ v. v.items ≡ map (keeps_cell judge.old.classes keys.now) ranges.now) }
+    ensures kept { IfOk result (λ v. v.items ≡ map (keeps_cell judge.old.classes conds.now) ranges.now) }
 {
-    let mut kept = Vec::with_capacity(alloc, ranges.len())?;
-    'tuples: for tuple in ranges {
-        kept.push(judge.keeps(tuple, keys))?;
+    let keys = ScanKeys::new(conds);
+    let wanted = judge.wanted(conds);
+    let tuples = ranges.as_slice();
+    let bounds = ranges.bounds();
+    let mut kept = Vec::with_capacity(alloc, tuples.len())?;
+    'each: for range in 0..tuples.len() {
+        kept.push(judge.keeps_range(bounds[range], &tuples[range], wanted, &keys))?;
     }
     Ok(kept)
 }

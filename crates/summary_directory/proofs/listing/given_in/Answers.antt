@@ -12,10 +12,10 @@ returns-clause-given c = λ layout same.
     let query : Query = c.args.query.now in
     let k : Kept = kept c.args.shelf.now in
     let judges = c.args.judges.now in
-    let conds : c.new-keys.result ≡ query.conds = c.new-keys.ensures ∙ c.as_slice.ensures.conds in
-    let by_shelf : map (verdict_by c.as_slice-2.result.now c.new-keys.result) judges ≡ map (verdict_by k.tuples query.conds) judges =
-    λ j. map (verdict_by (c.as_slice-2.ensures.value j) (conds j)) judges in
+    let conds : c.as_slice-conds.result.now ≡ query.conds = c.as_slice-conds.ensures.conds in
+    let by_shelf : map (verdict_by c.as_slice.result.now c.as_slice-conds.result.now) judges ≡ map (verdict_by k.tuples query.conds) judges =
+    λ j. map (verdict_by (c.as_slice.ensures.value j) (conds j)) judges in
     let many : c.extent_of-extent.result ≡ slice_index k.extents query.table =
-    c.extent_of-extent.ensures ∙ ap (λ (l : List ℕ). slice_index l query.table) c.as_slice-3.ensures.value in
+    c.extent_of-extent.ensures ∙ ap (λ (l : List ℕ). slice_index l query.table) c.as_slice-2.ensures.value in
     given_by layout (shown_of k) query judges c.in_ok-blocks.blocks same
-    (listed k query judges c.as_slice-4.result.now c.extent_of-extent.result c.in_ok-blocks.blocks (c.as_slice-4.ensures.value ∙ c.in_ok-verdicts.ensures.verdicts ∙ by_shelf) many c.in_ok-blocks.ensures)
+    (listed k query judges c.as_slice-3.result.now c.extent_of-extent.result c.in_ok-blocks.blocks (c.as_slice-3.ensures.value ∙ c.in_ok-verdicts.ensures.verdicts ∙ by_shelf) many c.in_ok-blocks.ensures)

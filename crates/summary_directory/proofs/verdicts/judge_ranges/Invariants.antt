@@ -2,8 +2,8 @@ use Rattle.std.proofs.Common.{◌≡◌, map, take}
 use Rattle.summary_directory.specs.JudgedBlocks.{keeps_cell}
 use Rattle.summary_directory.proofs.verdicts.judge_ranges.Given as goal
 
-abbrev pub invariant-tuples : goal.invariant-tuples
-invariant-tuples l = record {
+abbrev pub invariant-each : goal.invariant-each
+invariant-each l = record {
   same : l.judge ≡ l.fn.judge;
-  kept : l.kept.items ≡ map (keeps_cell l.fn.judge.classes l.keys) (take l.tuple-index l.ranges);
+  kept : l.kept.items ≡ map (keeps_cell l.fn.judge.classes l.conds) (take l.range l.tuples);
 }

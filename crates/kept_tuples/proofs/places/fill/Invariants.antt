@@ -1,5 +1,5 @@
 use Rattle.std.proofs.Common.{◌≡◌, ◌-◌, ◌++◌, length, replicate, vec_capacity, vec_len}
-use Rattle.summary_directory.proofs.places.fill.Given as goal
+use Rattle.kept_tuples.proofs.places.fill.Given as goal
 
 abbrev pub invariant-places : goal.invariant-places
 invariant-places g l = record {

@@ -1,12 +1,12 @@
 //! Lists that have a place for all that was put into them, and blanks between.
 
-ghost use Rattle.std.specs.Prelude.{◌≡◌, ◌-◌, ◌<◌, ◌≤◌, ◌^◌, ◌++◌, length, replicate, vec_capacity, vec_len, MatchResult};
-ghost use Rattle.summary_directory.specs.Places.{placed};
+ghost use Rattle.std.specs.Prelude.{◌≡◌, ◌-◌, ◌<◌, ◌≤◌, ◌^◌, ◌++◌, length, replicate, vec_capacity, vec_len, MatchResult, OnOk};
+ghost use Rattle.kept_tuples.specs.Places.{placed};
 
 use std::alloc::{AllocError, Global};
 
 /// An element that stands where nothing was put.
-pub(crate) trait Blank {
+pub trait Blank {
     ghost blank: { Self };
 
     /// Takes no memory.
@@ -23,8 +23,7 @@ impl Blank for u32 {
 }
 
 /// Puts the element at its place. After a refusal nothing is changed.
-#[tactic(auto, using(crate::proofs::Placed::placed_inside))]
-pub(crate) fn put_at<X: Blank + Drop>(
+pub fn put_at<X: Blank + Drop>(
     alloc: Global,
     list: &mut Vec<X>,
     at: usize,
@@ -33,29 +32,35 @@ pub(crate) fn put_at<X: Blank + Drop>(
     requires { at < 2 ^ 32 }
     ensures { MatchResult result (λ _. list.new.items ≡ placed X.blank list.old.items at x) (λ _. list.new.items ≡ list.old.items) }
 {
-    if at < list.len() {
-        list[at] = x;
-        return Ok(());
-    }
-    push_at(alloc, list, at, x)
+    make_room(list, at)?;
+    put_within(alloc, list, at, x);
+    Ok(())
 }
 
-/// The same of a place behind the end.
-#[tactic(auto, using(crate::proofs::Placed::placed_behind))]
-pub(crate) fn push_at<X: Blank + Drop>(
-    alloc: Global,
-    list: &mut Vec<X>,
-    at: usize,
-    x: X,
-) -> Result<(), AllocError>
-    requires behind { length list.old.items ≤ at }
-    requires few { at < 2 ^ 32 }
-    ensures { MatchResult result (λ _. list.new.items ≡ placed X.blank list.old.items at x) (λ _. list.new.items ≡ list.old.items) }
+/// Takes the memory of places up to that one. The list stays.
+pub(crate) fn make_room<X>(list: &mut Vec<X>, at: usize) -> Result<(), AllocError>
+    requires { at < 2 ^ 32 }
+    ensures same { list.new.items ≡ list.old.items }
+    ensures room { OnOk result (at < vec_capacity list.new) }
 {
-    list.reserve(at - list.len() + 1)?;
+    if list.len() <= at {
+        list.reserve(at - list.len() + 1)?;
+    }
+    Ok(())
+}
+
+/// Puts the element at its place, for which there is room. Takes no memory.
+#[tactic(auto, using(crate::proofs::Placed::placed_inside, crate::proofs::Placed::placed_behind))]
+pub(crate) fn put_within<X: Blank + Drop>(alloc: Global, list: &mut Vec<X>, at: usize, x: X)
+    requires { at < vec_capacity list.old }
+    ensures { list.new.items ≡ placed X.blank list.old.items at x }
+{
+    if at < list.len() {
+        list[at] = x;
+        return;
+    }
     fill(alloc, list, at);
     list.push_reserved(x);
-    Ok(())
 }
 
 /// Adds blanks until there are so many places.

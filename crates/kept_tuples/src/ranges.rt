@@ -1,25 +1,32 @@
 //! The tuples of an index by range.
 
 ghost use Rattle.std.specs.Prelude.{◌≡◌, ◌<◌, [], None, length, slice_index_or, MatchResult};
-ghost use Rattle.summary_directory.specs.Places.{placed};
+ghost use Rattle.kept_tuples.specs.MinMaxTuples.{Tells};
+ghost use Rattle.kept_tuples.specs.KnownTuples.{AreBounds};
+ghost use Rattle.kept_tuples.specs.Places.{placed};
 
-use crate::places::{Blank, push_at, put_at};
-use crate::post::TupleBytes;
+use crate::bounds::Bounds;
+use crate::places::{Blank, make_room, put_at, put_within};
+use crate::tuple_bytes::TupleBytes;
 use std::alloc::{AllocError, Global};
 use std::marker::Model;
 
-/// The tuple of each range, if it has one. Ranges behind the end have none. Seen as the list.
+/// The tuple of each range, if it has one, and what is known of it. Ranges behind the end have none. Seen as the list of the tuples.
 #[derive(Debug, Drop)]
 pub struct Ranges {
     cells: Vec<Option<TupleBytes>>,
+    bounds: Vec<Bounds>,
 }
 
 impl Model for Ranges {
     ghost use Rattle.std.specs.Prelude.{List, Option, ℕ};
+    ghost use Rattle.kept_tuples.specs.KnownTuples.{AreBounds};
 
     ghost Value = { List (Option (List ℕ)) };
 
     ghost view = { λ r. r.cells.items };
+
+    ghost invariant = { λ r. AreBounds r.bounds.items r.cells.items };
 }
 
 impl Blank for Ranges {
@@ -29,6 +36,16 @@ impl Blank for Ranges {
 
     fn blank(alloc: Global) -> Ranges {
         Ranges::new(alloc)
+    }
+}
+
+impl Blank for Bounds {
+    ghost use Rattle.kept_tuples.specs.declared.bounds.Bounds.TheVariants.{Unknown};
+
+    ghost blank = { Unknown };
+
+    fn blank(_alloc: Global) -> Bounds {
+        Bounds::Unknown
     }
 }
 
@@ -44,19 +61,27 @@ impl Blank for Option<TupleBytes> {
 
 impl Ranges {
     /// No range has a tuple. Takes no memory.
-    pub(crate) fn new(alloc: Global) -> Ranges
+    pub fn new(alloc: Global) -> Ranges
         ensures { result ≡ [] }
     {
         Ranges {
             cells: Vec::new(alloc),
+            bounds: Vec::new(alloc),
         }
     }
 
     /// The tuple of each range.
-    pub(crate) fn as_slice(&self) -> &[Option<TupleBytes>]
+    pub fn as_slice(&self) -> &[Option<TupleBytes>]
         ensures { result.now ≡ self.now }
     {
         self.cells.as_slice()
+    }
+
+    /// What is known of each.
+    pub fn bounds(&self) -> &[Bounds]
+        ensures { AreBounds result.now self.now }
+    {
+        self.bounds.as_slice()
     }
 
     /// The range has this tuple, or none. After a refusal nothing is changed.
@@ -68,12 +93,28 @@ impl Ranges {
     ) -> Result<(), AllocError>
         ensures { MatchResult result (λ _. self.new ≡ placed None self.old range tuple) (λ _. self.new ≡ self.old) }
     {
-        put_at(alloc, &mut self.cells, range as usize, tuple)
+        let at = range as usize;
+        make_room(&mut self.cells, at)?;
+        make_room(&mut self.bounds, at)?;
+        let bounds = bounds_of(&tuple);
+        put_within(alloc, &mut self.cells, at, tuple);
+        put_within(alloc, &mut self.bounds, at, bounds);
+        Ok(())
+    }
+}
+
+/// What is known of the tuple. Takes no memory.
+fn bounds_of(tuple: &Option<TupleBytes>) -> Bounds
+    ensures { Tells result tuple.now }
+{
+    match tuple {
+        None => Bounds::Unknown,
+        Some(bytes) => Bounds::of(bytes.as_slice()),
     }
 }
 
 /// Puts the tuple of a range of an index at its place. After a refusal nothing is changed.
-pub(crate) fn put_tuple(
+pub fn put_tuple(
     alloc: Global,
     tuples: &mut Vec<Ranges>,
     index: u8,
@@ -88,7 +129,7 @@ pub(crate) fn put_tuple(
     }
     let mut ranges = Ranges::new(alloc);
     ranges.put(alloc, range, tuple)?;
-    match push_at(alloc, tuples, at, ranges) {
+    match put_at(alloc, tuples, at, ranges) {
         Ok(()) => Ok(()),
         Err(error) => Err(error),
     }

@@ -1,7 +1,7 @@
 -- lists in which every place has an element
 use Rattle.std.proofs.Common.{◌≡◌, ◌≢◌, ℕ, zero, suc, ◌+◌, ◌-◌, ◌<◌, ◌≤◌, List, [], ◌∷◌, ◌++◌, length, replicate, set, get_or, refl, sym, ap, ◌∙◌, arith, zero-le, append_assoc}
 use Rattle.std.proofs.lemmas.List.{get_or_past, replicate_more}
-use Rattle.summary_directory.specs.Places.{placed}
+use Rattle.kept_tuples.specs.Places.{placed}
 
 module _ {X : Type 0} (blank : X) where
   pub placed_inside : (xs : List X) (at : ℕ) (x : X) → at < length xs → placed blank xs at x ≡ set xs at x
@@ -44,3 +44,12 @@ module _ {X : Type 0} (blank : X) where
   placed_else (y ∷ ys) zero (suc k) x apart = refl
   placed_else (y ∷ ys) (suc at) zero x apart = refl
   placed_else (y ∷ ys) (suc at) (suc k) x apart = placed_else ys at k x (λ same. apart (ap suc same))
+
+-- places are as many in both lists as before, if these were
+pub same_length : {X Y : Type 0} (b : X) (c : Y) (xs : List X) (ys : List Y) (at : ℕ) (x : X) (y : Y) → length xs ≡ length ys → length (placed b xs at x) ≡ length (placed c ys at y)
+same_length b c [] [] zero x y same = refl
+same_length b c [] [] (suc at) x y same = ap suc (same_length b c [] [] at x y same)
+same_length b c [] (w ∷ ys) at x y same = absurd (omega (arith, same))
+same_length b c (v ∷ xs) [] at x y same = absurd (omega (arith, same))
+same_length b c (v ∷ xs) (w ∷ ys) zero x y same = same
+same_length b c (v ∷ xs) (w ∷ ys) (suc at) x y same = ap suc (same_length b c xs ys at x y (omega (arith, same)))

@@ -1,0 +1,4 @@
+pub mod KnownTuples
+pub mod MinMaxBytes
+pub mod Placed
+pub mod Wants

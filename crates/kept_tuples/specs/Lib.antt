@@ -1,0 +1,4 @@
+pub mod KnownTuples
+pub mod MinMaxTuples
+pub mod Places
+pub mod Wanted
