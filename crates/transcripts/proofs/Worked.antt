@@ -1,6 +1,6 @@
 -- the worked transcript is right
 use Rattle.std.proofs.Common.{arith, ◌≡◌, ◌⊎◌, inl, inr, ℕ, ◌<◌, Bool, true, false, not, ◌&&◌, ◌||◌, ◌==◌, List, [], ◌∷◌, ◌++◌, filter, None, Some, refl, sym, ap, subst, ◌∙◌}
-use Rattle.std.specs.Prelude.{◌+◌, codes, decimal, is_some, length, map, pos, take}
+use Rattle.std.specs.Prelude.{◌+◌, codes, decimal, is_some, length, map, pos, slice_index_or, take}
 use Rattle.std.proofs.lemmas.Bool.{or_left, or_right}
 use Rattle.std.proofs.lemmas.Cmp.{nat_cmp_total}
 use Rattle.std.proofs.lemmas.Fmt.{decimal_digit}
@@ -172,29 +172,32 @@ module _ (limits : Limits) (numbers : 3 < limits.numbers) where
   text_is : (name : List ℕ) (statement : Statement) (reply : Reply) (text : List ℕ) → reply_text name reply ≡ text → IsTextOf name reply statement text
   text_is name statement reply text is = subst (IsTextOf name reply statement) is (OfReply statement)
 
+  abbrev entry : ℕ → Said
+  entry k = slice_index_or worked_texts k (told 0 0 [])
+
   abbrev First : ℕ → DatabaseState → Type 0
   First k s = Right (take k worked_texts) s
 
   first : First 1 s1
   first =
-      Further [] worked_opening s1 (told 0 0 (codes "a begun 2\n")) statements.Begin (replies.Begun 2) Empty (record { is = refl; rank = refl }) (text_is (codes "a") statements.Begin (replies.Begun 2) _ a_begun)
+      Further [] worked_opening s1 (entry 0) statements.Begin (replies.Begun 2) Empty (record { is = refl; rank = refl }) (text_is (codes "a") statements.Begin (replies.Begun 2) _ a_begun)
       (Begins (none_first 0) (omega (arith, numbers)))
 
   second : First 2 s2
   second =
-      Further (take 1 worked_texts) s1 s2 (told 1 4 (codes "b begun 3\n")) statements.Begin (replies.Begun 3) first (record { is = refl; rank = refl }) (text_is (codes "b") statements.Begin (replies.Begun 3) _ b_begun)
+      Further (take 1 worked_texts) s1 s2 (entry 1) statements.Begin (replies.Begun 3) first (record { is = refl; rank = refl }) (text_is (codes "b") statements.Begin (replies.Begun 3) _ b_begun)
       (Begins none_second numbers)
 
   third : First 3 s2
   third =
-      Further (take 2 worked_texts) s2 s2 (told 1 5 (codes "b row 1.0 7\nb rows 1\n")) (statements.Select all_rows) (replies.Found (old_row ∷ [])) second (record { is = refl; rank = refl })
+      Further (take 2 worked_texts) s2 s2 (entry 2) (statements.Select all_rows) (replies.Found (old_row ∷ [])) second (record { is = refl; rank = refl })
       (text_is (codes "b") (statements.Select all_rows) (replies.Found (old_row ∷ [])) _ (found (codes "b")))
       (subst (λ (rows : List Row). Told (take 2 worked_texts) s2 1 (statements.Select all_rows) (replies.Found rows) s2) finds
       (Selects x1 all_rows (record { under_way = get_put_here nat_cmp_total s1.sessions 1 x1; whole = refl })))
 
   fourth : First 4 s4
   fourth =
-      Further (take 3 worked_texts) s2 s4 (told 1 6 (codes "b deleted 1\n")) (statements.Delete all_rows) (replies.Deleted 1) third (record { is = refl; rank = refl })
+      Further (take 3 worked_texts) s2 s4 (entry 3) (statements.Delete all_rows) (replies.Deleted 1) third (record { is = refl; rank = refl })
       (text_is (codes "b") (statements.Delete all_rows) (replies.Deleted 1) _ b_deleted)
       (subst (λ (rows : List Row). Told (take 3 worked_texts) s2 1 (statements.Delete all_rows) (replies.Deleted (length rows)) (with_transaction s2 1 (marked x1 rows))) finds
       (Deleting x1 (marked x1 (rows_found x1 all_rows)) all_rows (replies.Deleted (length (rows_found x1 all_rows))) (record { under_way = get_put_here nat_cmp_total s1.sessions 1 x1; whole = refl })
@@ -202,31 +205,31 @@ module _ (limits : Limits) (numbers : 3 < limits.numbers) where
 
   fifth : First 5 s5
   fifth =
-      Further (take 4 worked_texts) s4 s5 (told 1 7 (codes "b inserted 3.0\n")) (statements.Insert 0 new_values) (replies.Inserted (record { t = 3; k = 0 })) fourth (record { is = refl; rank = refl })
+      Further (take 4 worked_texts) s4 s5 (entry 4) (statements.Insert 0 new_values) (replies.Inserted (record { t = 3; k = 0 })) fourth (record { is = refl; rank = refl })
       (text_is (codes "b") (statements.Insert 0 new_values) (replies.Inserted (record { t = 3; k = 0 })) _ b_inserted)
       (Inserts y1 0 new_values (record { under_way = get_put_here nat_cmp_total s2.sessions 1 y1; whole = refl }))
 
   sixth : First 6 s5
   sixth =
-      Further (take 5 worked_texts) s5 s5 (told 0 1 (codes "a row 1.0 7\na rows 1\n")) (statements.Select all_rows) (replies.Found (old_row ∷ [])) fifth (record { is = refl; rank = refl })
+      Further (take 5 worked_texts) s5 s5 (entry 5) (statements.Select all_rows) (replies.Found (old_row ∷ [])) fifth (record { is = refl; rank = refl })
       (text_is (codes "a") (statements.Select all_rows) (replies.Found (old_row ∷ [])) _ (found (codes "a")))
       (subst (λ (rows : List Row). Told (take 5 worked_texts) s5 0 (statements.Select all_rows) (replies.Found rows) s5) finds (Selects x0 all_rows (record { under_way = a_there; whole = refl })))
 
   seventh : First 7 s7
   seventh =
-      Further (take 6 worked_texts) s5 s7 (told 0 2 (codes "a error 7 1.0\n")) (statements.Delete all_rows) (replies.Refused (refusals.Conflict id)) sixth (record { is = refl; rank = refl })
+      Further (take 6 worked_texts) s5 s7 (entry 6) (statements.Delete all_rows) (replies.Refused (refusals.Conflict id)) sixth (record { is = refl; rank = refl })
       (text_is (codes "a") (statements.Delete all_rows) (replies.Refused (refusals.Conflict id)) _ a_conflict)
       (Deleting x0 (failed_transaction x0) all_rows (replies.Refused (refusals.Conflict id)) (record { under_way = a_there; whole = refl })
       (FailsAt [] old_row [] finds (All-nil (λ (r : Row). is_conflict s5 0 x0 r.id ≡ false)) (inl must)))
 
   eighth : First 8 s8
   eighth =
-      Further (take 7 worked_texts) s7 s8 (told 1 8 (codes "b committed\n")) statements.Commit replies.Committed seventh (record { is = refl; rank = refl })
+      Further (take 7 worked_texts) s7 s8 (entry 7) statements.Commit replies.Committed seventh (record { is = refl; rank = refl })
       (text_is (codes "b") statements.Commit replies.Committed _ b_committed) (Commits y2 b_there)
 
   pub all_right : Right worked_texts (after_commit s8 0 (failed_transaction x0))
   all_right =
-      Further (take 8 worked_texts) s8 (after_commit s8 0 (failed_transaction x0)) (told 0 3 (codes "a rolled back\n")) statements.Commit replies.RolledBack eighth (record { is = refl; rank = refl })
+      Further (take 8 worked_texts) s8 (after_commit s8 0 (failed_transaction x0)) (entry 8) statements.Commit replies.RolledBack eighth (record { is = refl; rank = refl })
       (text_is (codes "a") statements.Commit replies.RolledBack _ a_rolled_back) (Commits (failed_transaction x0) a_failed)
 
 pub worked_is_right : WorkedIsRight

@@ -1,4 +1,4 @@
--- Statements run whole, one after the other, as the requests that they are. Where no delete stands beside another, a transcript says just this.
+-- Statements run whole, one after the other, as the requests that they are: what a transcript says where no delete stands beside another.
 use Rattle.std.specs.Prelude.{◌≡◌, ◌≢◌, ℕ, ◌<◌, Bool, false, codes, List, [], ◌∷◌, ◌++◌, slice_index_or, All, Option, None, Some}
 use Rattle.block_model.specs.declared.reply.Refusal.{Refusal}
 use Rattle.block_model.specs.declared.reply.Refusal.TheVariants as refusals
@@ -54,7 +54,7 @@ IsOfOne n script = All (λ (line : Line). line.session ≡ n) script
 
 -- ---- laws
 
--- what leads from one database to the other
+-- a statement that is answered so leads by its requests from one database to the other
 pub record LeadsBy (limits : Limits) (s : DatabaseState) (n : ℕ) (statement : Statement) (reply : Reply) (after : DatabaseState) : Type 0 where
   pub requests : List Entry
   pub are : AreRequests limits s n statement reply requests
@@ -76,12 +76,12 @@ pub record IsRunInTurn (limits : Limits) (names : List (List ℕ)) (script : Lis
   pub run : AreRunInTurn limits names script opening said journal
   pub leads : s ≡ serial_run opening journal
 
--- so it is where each delete stands alone
+-- so it is of a transcript in which each delete stands alone
 abbrev pub TranscriptsAreRuns : Type 0
 TranscriptsAreRuns = (limits : Limits) (names : List (List ℕ)) (script : List Line) (opening s : DatabaseState) (said : List Said) → DeletesAreAlone script said → IsTranscript limits names script opening said s
     → IsRunInTurn limits names script opening said s
 
--- and in a script of one session it does
+-- in a script of one session each does
 abbrev pub OneSessionIsAlone : Type 0
 OneSessionIsAlone = (script : List Line) (said : List Said) (n : ℕ) → IsOfOne n script → DeletesAreAlone script said
 
