@@ -1,5 +1,0 @@
-pub mod Entries
-pub mod Kept
-pub mod Books
-pub mod Naming
-pub mod Watching
