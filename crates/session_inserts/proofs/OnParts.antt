@@ -1,5 +1,5 @@
 -- a later step of an insert, over the parts of a store
-use Rattle.std.proofs.Common.{◌≡◌, ◌≢◌, ℕ, false, ◌+◌, ◌<◌, ◌≤◌, List, length, Option, None, Some, refl, sym, ap, subst, ◌∙◌, arith}
+use Rattle.std.proofs.Common.{inl, ◌≡◌, ◌≢◌, ℕ, false, ◌+◌, ◌<◌, ◌≤◌, List, length, Option, None, Some, refl, sym, ap, subst, ◌∙◌, arith}
 use Rattle.std.specs.Prelude.{IfSome, IsSome, slice_get}
 use Rattle.disk_trait.specs.Told.{Told}
 use Rattle.block_model.specs.declared.place.Spot.{Spot}
