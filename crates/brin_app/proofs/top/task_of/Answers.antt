@@ -42,12 +42,12 @@ returns-in-ThreadsStored-clause-usage c = λ e. subst IsWrong (sym c.in-ThreadsS
 pub demo_task-requires : goal.demo_task-requires
 demo_task-requires c = subst HasDemoNumbers c.in-Demo.is c.requires
 
-pub returns-in-Demo-clause-asked : goal.returns-in-Demo-clause-asked
-returns-in-Demo-clause-asked c = subst (λ (m : Command). IfOk c.demo_task.result (IsTaskOf m)) (sym c.in-Demo.is) c.demo_task.ensures.asked
+pub returns-clause-asked : goal.returns-clause-asked
+returns-clause-asked c = subst (λ (m : Command). IfOk c.demo_task.result (IsTaskOf m)) (sym c.in-Demo.is) c.demo_task.ensures.asked
 
-pub returns-in-Demo-clause-alone : goal.returns-in-Demo-clause-alone
-returns-in-Demo-clause-alone c =
+pub returns-clause-alone : goal.returns-clause-alone
+returns-clause-alone c =
     subst (λ (m : Command). IfOk c.demo_task.result (λ task. (other : Task) → IsTaskOf m other → other ≡ task)) (sym c.in-Demo.is) c.demo_task.ensures.alone
 
-pub returns-in-Demo-clause-usage : goal.returns-in-Demo-clause-usage
-returns-in-Demo-clause-usage c = λ e. absurd (c.demo_task.ensures.memory e)
+pub returns-clause-usage : goal.returns-clause-usage
+returns-clause-usage c = λ e. absurd (c.demo_task.ensures.memory e)
