@@ -1,11 +1,14 @@
 #!/usr/bin/env python3
-"""Times what a published directory answers, and an explain over the same tables: given_blocks.py. No part of the gate.
+"""Times what a published directory answers, and an explain over the same tables: given_blocks.py [--proved]. No part of the gate.
 
-Builds a small program over summary_directory and bitmap_scan in a copy of the crates by LLVM at -O2. The program isn't proved, so it has the
-checks of `rt try` in it, and a proved one is faster. A table has 1,000 blocks, and then 131,072, with a range for each in an index of one minmax
-column; a query finds one of them, or all. Tells the best and the middle time of `given`: of a reader alone, and of one beside a writer that
-posts a tuple and publishes it, over and over; how often that writer published meanwhile; and the best time of an explain in the store itself,
-whose disk in memory has up to 1.1 GB.
+Builds a small program over summary_directory and bitmap_scan in a copy of the crates by LLVM at -O2. A table has 1,000 blocks, and then
+131,072, with a range for each in an index of one minmax column; a query finds one of them, or all. Tells the best and the middle time of
+`given`: of a reader alone, and of one beside a writer that posts a tuple and publishes it, over and over; how often that writer published
+meanwhile; and the best time of an explain in the store itself, whose disk in memory has up to 1.1 GB. That program isn't proved, so it has the
+checks of `rt try` in it.
+
+With --proved it proves a smaller program by `rt run`, and what it stands on where no check has kept that. It times a reader alone, which takes
+a third to a half of the time that it takes with those checks.
 """
 import pathlib
 import shutil
@@ -17,36 +20,10 @@ import tempfile
 from unproved import HERE, KIT, TRY, toolchain
 
 ROUNDS = 50
-NEEDED = (
-    "given_bench: block_model store_layout disk_trait page_locks store_format page_store brin_insert summarise_core bitmap_scan"
-    " summary_directory\n"
-)
+NEEDED = "given_bench: block_model store_layout summary_directory"
+NEEDED_TOO = " disk_trait page_locks store_format page_store brin_insert summarise_core bitmap_scan"
 
-MAIN = """//! Times what a published directory answers.
-#![tactic(auto)]
-
-use bitmap_scan::Explain;
-use block_model::{
-    Class, Column, Cond, Conds, Index, Kind, Name, Op, Part, Query, Row, RowId, Schema, Sequence, Sizes, Table, Value, Values,
-};
-use brin_insert::{Insert, Queue};
-use disk_trait::SteadyDisk;
-use page_locks::{Did, Locks, Rights};
-use page_store::PageStore;
-use std::alloc::Global;
-use std::io;
-use std::sync::Wait;
-use std::sync::atomic::{AtomicU64, Ordering};
-use std::thread::{Threads, join};
-use std::time::Instant;
-use store_format::format;
-use store_layout::{LEAST, Layout, indexed_layout};
-use summarise_core::{Summarise, Wish};
-use summary_directory::{Directory, Post, Told, TupleBytes};
-
-const ROUNDS: u64 = 50;
-
-/// The final tuple of a range whose rows have its number alone.
+SHARED = """/// The final tuple of a range whose rows have its number alone.
 fn tuple(alloc: Global, range: u32) -> Option<TupleBytes> {
     let mut bytes = Vec::new(alloc);
     let number = range.to_be_bytes();
@@ -87,6 +64,44 @@ fn fill<R: Wait>(rt: &R, alloc: Global, directory: &mut Directory, blocks: u32) 
     directory.publish(rt).ok()
 }
 
+/// Prints how long the answer took, and how many blocks it has.
+fn ask(clock: &HostRuntime, alloc: Global, told: &mut Told, query: &Query, blocks: u32, case: &str) -> io::Result<()> {
+    let start = Instant::now(clock)?;
+    let given = told.given(alloc, query);
+    let took = start.elapsed(clock)?.as_nanos();
+    let count = given.map(|blocks| blocks.len()).unwrap_or(0);
+    println!(clock; "took {} {} {} {}", blocks, case, took, count)
+}
+"""
+
+MAIN = (
+    """//! Times what a published directory answers.
+#![tactic(auto)]
+
+use bitmap_scan::Explain;
+use block_model::{
+    Class, Column, Cond, Conds, Index, Kind, Name, Op, Part, Query, Row, RowId, Schema, Sequence, Sizes, Table, Value, Values,
+};
+use brin_insert::{Insert, Queue};
+use disk_trait::SteadyDisk;
+use page_locks::{Did, Locks, Rights};
+use page_store::PageStore;
+use std::alloc::Global;
+use std::io;
+use std::sync::Wait;
+use std::sync::atomic::{AtomicU64, Ordering};
+use std::thread::{Threads, join};
+use std::time::Instant;
+use store_format::format;
+use store_layout::{LEAST, Layout, indexed_layout};
+use summarise_core::{Summarise, Wish};
+use summary_directory::{Directory, Post, Told, TupleBytes};
+
+const ROUNDS: u64 = 50;
+
+"""
+    + SHARED
+    + """
 /// Publishes until it is told to stop, and tells how often.
 fn publish_on<R: Wait>(rt: &R, alloc: Global, directory: &mut Directory, stop: &AtomicU64) -> u64 {
     let mut count = 0;
@@ -117,11 +132,7 @@ fn measure<R: Wait + Threads>(
     };
     'alone: for round in 0..2 * ROUNDS {
         let (case, asked) = if round % 2 == 0 { ("one", &one) } else { ("all", &all) };
-        let start = Instant::now(clock)?;
-        let given = told.given(alloc, asked);
-        let took = start.elapsed(clock)?.as_nanos();
-        let count = given.map(|blocks| blocks.len()).unwrap_or(0);
-        println!(clock; "took {} {} {} {}", blocks, case, took, count)?;
+        ask(clock, alloc, &mut told, asked, blocks, case)?;
     }
     let stop = AtomicU64::new(0);
     let (times, published) = join(
@@ -253,16 +264,77 @@ fn main(rt: HostRuntime) -> io::Result<()> {
     Ok(())
 }
 """
+)
+
+# The program that is proved: a reader alone.
+PROVED = (
+    """//! Times what a published directory answers.
+#![tactic(auto)]
+
+use block_model::{Cond, Conds, Op, Query, Value};
+use std::alloc::Global;
+use std::io;
+use std::sync::Wait;
+use std::time::Instant;
+use store_layout::{LEAST, Layout, indexed_layout};
+use summary_directory::{Directory, Post, Told, TupleBytes};
+
+const ROUNDS: u64 = 50;
+
+"""
+    + SHARED
+    + """
+fn measure<R: Wait>(
+    rt: &R,
+    clock: &HostRuntime,
+    alloc: Global,
+    layout: &Layout,
+    directory: &mut Directory,
+    blocks: u32,
+) -> io::Result<()> {
+    let filled = fill(rt, alloc, directory, blocks);
+    let told = directory.tell(alloc, layout, 0);
+    let (Some(()), Ok(mut told), Some(one), Some(all)) = (filled, told, query(alloc, Op::Eq), query(alloc, Op::Ge)) else {
+        return Ok(());
+    };
+    'rounds: for _ in 0..ROUNDS {
+        ask(clock, alloc, &mut told, &one, blocks, "one")?;
+        ask(clock, alloc, &mut told, &all, blocks, "all")?;
+    }
+    Ok(())
+}
+
+fn bench<R: Wait>(rt: &R, clock: &HostRuntime, alloc: Global, blocks: u32) -> io::Result<()> {
+    let mut sizes = LEAST;
+    sizes.heap_blocks = blocks;
+    let Some(layout) = indexed_layout(alloc, 1, sizes) else {
+        return Ok(());
+    };
+    let Ok(mut directory) = Directory::new(alloc, 2) else {
+        return Ok(());
+    };
+    let measured = measure(rt, clock, alloc, &layout, &mut directory, blocks);
+    directory.close(rt);
+    measured
+}
+
+fn main(rt: HostRuntime) -> io::Result<()> {
+    let alloc = rt.alloc();
+    bench(&rt, &rt, alloc, 1000)?;
+    bench(&rt, &rt, alloc, 131072)
+}
+"""
+)
 
 
-def put_files(folder):
-    """A copy of the crates, and the program over them."""
+def put_files(folder, needed, text):
+    """A copy of the crates, and the program of that text over them, with its line of crates.txt."""
     shutil.copytree(HERE / "crates", folder / "crates", ignore=shutil.ignore_patterns("out"))
     shutil.copy(HERE / "HANDLES", folder)
-    (folder / "crates.txt").write_text((HERE / "crates.txt").read_text() + NEEDED)
+    (folder / "crates.txt").write_text((HERE / "crates.txt").read_text() + needed + "\n")
     crate = folder / "crates" / "given_bench"
     (crate / "src").mkdir(parents=True)
-    (crate / "src" / "main.rt").write_text(MAIN)
+    (crate / "src" / "main.rt").write_text(text)
     return crate
 
 
@@ -280,14 +352,33 @@ def run(crate, tools):
     return took, published, explained
 
 
+def tell(took, size, case, told):
+    times = [int(time) / 1000 for blocks, at, time, _ in took if (blocks, at) == (size, case)]
+    print(f"{size} ranges, {told}: best {min(times):.0f} µs, middle {statistics.median(times):.0f}")
+
+
+def main_proved():
+    """Proves the smaller program, and tells its times."""
+    with tempfile.TemporaryDirectory() as name:
+        crate = put_files(pathlib.Path(name), NEEDED, PROVED)
+        ran = subprocess.run(["rt", "run"], cwd=crate, capture_output=True, text=True)
+    took = [line.split()[1:] for line in ran.stdout.splitlines() if line.startswith("took")]
+    if len(took) != 4 * ROUNDS:
+        sys.exit(ran.stdout + ran.stderr)
+    for size in ("1000", "131072"):
+        tell(took, size, "one", "one kept")
+        tell(took, size, "all", "all kept")
+
+
 def main():
+    if sys.argv[1:] == ["--proved"]:
+        return main_proved()
     with tempfile.TemporaryDirectory() as name:
         folder = pathlib.Path(name)
-        took, published, explained = run(put_files(folder), toolchain(folder / "toolchain"))
+        took, published, explained = run(put_files(folder, NEEDED + NEEDED_TOO, MAIN), toolchain(folder / "toolchain"))
     for blocks in published:
         for case, told in (("one", "one kept"), ("all", "all kept"), ("beside", "one kept, beside a writer")):
-            times = [int(time) / 1000 for size, at, time, _ in took if (size, at) == (blocks, case)]
-            print(f"{blocks} ranges, {told}: best {min(times):.0f} µs, middle {statistics.median(times):.0f}")
+            tell(took, blocks, case, told)
         print(f"{blocks} ranges: the writer published {published[blocks]} times")
         times = [int(time) / 1000 for size, time, _ in explained if size == blocks]
         print(f"{blocks} ranges, an explain in the store: best {min(times):.0f} µs")

@@ -1,5 +1,5 @@
 -- what is known of tuples
-use Rattle.std.proofs.Common.{◌≡◌, ◌≢◌, ℕ, List, Option, None, inl, inr}
+use Rattle.std.proofs.Common.{ℕ, List, Option, None, inl, inr}
 use Rattle.std.specs.Prelude.{slice_index_or}
 use Rattle.std.proofs.lemmas.Bool.{cases_eq}
 use Rattle.kept_tuples.specs.declared.bounds.Bounds.{Bounds}

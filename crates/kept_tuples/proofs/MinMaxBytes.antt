@@ -1,5 +1,5 @@
 -- the bytes of a tuple of one minmax column
-use Rattle.std.proofs.Common.{◌≡◌, ◌≢◌, ℕ, zero, suc, ℤ, ◌+◌, ◌<◌, ◌≤◌, ◌^◌, Bool, true, false, ◌&&◌, ◌||◌, List, [], ◌∷◌, ◌++◌, All, length, take, drop, Option, None, Some, inl, inr, refl, sym, ap, subst, ◌∙◌, arith}
+use Rattle.std.proofs.Common.{◌≡◌, ℕ, ℤ, ◌+◌, ◌<◌, ◌≤◌, ◌^◌, Bool, true, false, List, [], ◌∷◌, ◌++◌, length, take, drop, Some, refl, sym, ap, subst, ◌∙◌, arith}
 use Rattle.std.specs.Int.{w64, cast_unsigned, bytes_high_first}
 use Rattle.std.specs.List.{list_all}
 use Rattle.std.proofs.lemmas.Bool.{true≢false}
@@ -9,9 +9,8 @@ use Rattle.byte_fields.specs.Fields.{AreBytes, AreBytes-take, field_at, length-f
 use Rattle.byte_fields.specs.Int8.{int8_bytes}
 use Rattle.opclass_any.specs.AnyClass.{bytes_of, is_of}
 use Rattle.opclass_minmax.specs.Bounds.{IsOrdered}
-use Rattle.range_tuple.specs.NullStates.{has_values, state_of}
 use Rattle.range_tuple.specs.TupleBytes.{columns_bytes, length_bytes, summary_bytes, tuple_bytes}
-use Rattle.range_tuple.specs.Tuples.{IndexedColumn, IsColumn, IsTuple, Tuple, has_nothing}
+use Rattle.range_tuple.specs.Tuples.{IsColumn, IsTuple, has_nothing}
 use Rattle.kept_tuples.specs.MinMaxTuples.{Tells, minmax_column, minmax_tuple}
 use Rattle.kept_tuples.specs.declared.bounds.Bounds.TheVariants.{MinMax}
 

@@ -1,6 +1,6 @@
 -- what conditions want of a minmax column, gathered
 use Rattle.std.proofs.Common.{◌≡◌, ℕ, suc, ℤ, ◌+◌, ◌<◌, ◌==◌, Bool, true, false, not, cond, ◌&&◌, ◌||◌, List, [], ◌∷◌, ◌++◌, length, take, get_or, eqb-true, refl, sym, ap, ◌∙◌, arith}
-use Rattle.std.specs.Prelude.{int_le, int_lt}
+use Rattle.std.specs.Prelude.{int_le}
 use Rattle.std.specs.List.{list_all}
 use Rattle.std.specs.Int.{int_max, int_min}
 use Rattle.std.proofs.Math.Bool.{and_assoc, and-true, or-true}
@@ -11,7 +11,6 @@ use Rattle.std.proofs.lemmas.List.Folds.{list_all-append}
 use Rattle.block_model.specs.declared.row.Cond.{Cond}
 use Rattle.block_model.specs.declared.value.Op.{Op}
 use Rattle.block_model.specs.declared.value.Op.TheVariants.{IsNull, NotNull}
-use Rattle.block_model.specs.declared.value.Value.{Value}
 use Rattle.opclass_any.specs.AnyClass.{consistent}
 use Rattle.opclass_minmax.specs.Bounds.{Between}
 use Rattle.opclass_minmax.specs.Consistent.{condition_holds}
@@ -19,7 +18,6 @@ use Rattle.range_tuple.specs.GatheredKeys.{asks_for_nulls, asks_for_values, is_n
 use Rattle.range_tuple.specs.Keeps.{column_allows, comparisons, keeps}
 use Rattle.opclass_api.specs.Conditions.{compares}
 use Rattle.opclass_api.specs.NumberBounds.{key_holds}
-use Rattle.range_tuple.specs.Tuples.{IndexedColumn}
 use Rattle.range_tuple.proofs.AskingColumns.{allows_asked}
 use Rattle.kept_tuples.specs.MinMaxTuples.{minmax_column, minmax_tuple}
 use Rattle.kept_tuples.specs.Wanted.{allows, allows_on, both, may_have}

@@ -1,8 +1,6 @@
-use Rattle.std.proofs.Common.{rules, arith, ◌≡◌, ℕ, ℤ, ◌≤ℤ◌, Bool, false, true, length, FitsSigned, Some, subst, w64, to_z, of_z}
+use Rattle.std.proofs.Common.{rules, arith, ◌≡◌, ℕ, ◌≤ℤ◌, false, true, FitsSigned, subst, w64}
 use Rattle.std.proofs.lemmas.Int.{to_z-of_z, ints}
 use Rattle.byte_fields.specs.Fields.{AreBytes, put_at}
-use Rattle.opclass_minmax.specs.Bounds.{IsOrdered}
-use Rattle.kept_tuples.specs.MinMaxTuples.{Tells}
 use Rattle.kept_tuples.proofs.MinMaxBytes.{tells_bytes}
 use Rattle.kept_tuples.proofs.bounds.Bounds.of.Goals as goal
 

@@ -1,4 +1,4 @@
-use Rattle.std.proofs.Common.{◌≡◌, ◌&&◌, Bool, ℤ, List, take, sym, ap, ◌∙◌}
+use Rattle.std.proofs.Common.{◌&&◌, List, sym, ap, ◌∙◌}
 use Rattle.std.specs.List.{list_all}
 use Rattle.std.proofs.lemmas.List.{take_all}
 use Rattle.block_model.specs.declared.row.Cond.{Cond}
