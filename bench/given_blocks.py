@@ -8,7 +8,7 @@ meanwhile; and the best time of an explain in the store itself, whose disk in me
 checks of `rt try` in it.
 
 With --proved it proves a smaller program by `rt run`, and what it stands on where no check has kept that. It times a reader alone, which takes
-a third to a half of the time that it takes with those checks.
+a fifth to a half of the time that it takes with those checks.
 """
 import pathlib
 import shutil
