@@ -40,14 +40,20 @@ COMMANDS = {
     "new run": ["run", *DECLARED],
     "run": ["run"],
     "demo": ["demo", "--seed", "1", "--rows", "16"],
+    "new threads": ["threads", *DECLARED],
+    "threads": ["threads"],
 }
 
 PUT = "s begin\ns insert t {}\ns commit\n"
 LOOK = "s begin\ns select {}\n"
 
+# Sessions that each put a row, and look for it in a further transaction: with the rows that they put.
+WORKERS = {"s1": 1, "s2": 2, "s3": 3}
+AT_WORK = ["begin", "insert t {}", "commit", "begin", "select t where a = {}", "commit"]
+
 # Each command with closed streams: its status; the rows behind it of a store that had row 7, where the script puts row 8; and those of a file that
 # was absent. A script can't be read from a closed input (4), and its first answer can't be written to a closed output (5); `init` does neither, and a
-# demo only writes. The rows of a demo are counted; it has them all before it writes.
+# demo only writes. The rows of a demo are counted; it has them all before it writes, and so has `threads`.
 CLOSED = [
     ("init", [0], 0, [], []),
     ("init", [1], 0, [], []),
@@ -61,6 +67,11 @@ CLOSED = [
     ("run", [1], 5, ["7"], None),
     ("run", [2], 0, ["7", "8"], None),
     ("run", [0, 1, 2], 4, ["7"], None),
+    ("new threads", [0], 4, [], []),
+    ("new threads", [1], 5, ["8"], ["8"]),
+    ("threads", [0], 4, ["7"], None),
+    ("threads", [1], 5, ["7", "8"], None),
+    ("threads", [2], 0, ["7", "8"], None),
     ("demo", [0], 0, None, 16),
     ("demo", [1], 5, None, 16),
     ("demo", [2], 0, None, 16),
@@ -261,6 +272,28 @@ def ends_of_its_own(check):
     check.same("more requests than a run takes", (came[0], came[-1]), (8, TEXTS[8]))
 
 
+def threads_keep_each_session_in_order(check):
+    """Whatever the order in which the workers come on: each session has its answers in the order of its lines, and each row that was put is there."""
+    sessions = {name: [line.format(value) for line in AT_WORK] for name, value in WORKERS.items()}
+    script = "".join(f"{name} {lines[turn]}\n" for turn in range(len(AT_WORK)) for name, lines in sessions.items()) + "m summarize i\nm summarize i\n"
+    for turn in range(20):
+        path = check.path()
+        status, output, text = check.end(path, "new threads", script)
+        check.same(f"workers, turn {turn}: status and text", (status, text), (0, ""))
+        told = [line.split() for line in output.splitlines()]
+        for name, value in WORKERS.items():
+            came = [words[1:] for words in told if words[0] == name]
+            begun = [words[1] for words in came if words[0] == "begun"]
+            put, looked = begun if len(begun) == 2 else ["0", "0"]
+            wanted = [["begun", put], ["inserted", f"{put}.0"], ["committed"], ["begun", looked], ["row", f"{put}.0", str(value)], ["rows", "1"], ["committed"]]
+            check.same(f"workers, turn {turn}: {name}", (came, int(put) < int(looked)), (wanted, True))
+        check.same(f"workers, turn {turn}: m", [words[1] for words in told if words[0] == "m"], ["summarized", "summarized"])
+        check.same(f"workers, turn {turn}: no other line", len(told), 7 * len(WORKERS) + 2)
+        check.same(f"workers, turn {turn}: rows", sorted(check.rows(path)), ["1", "2", "3"])
+        further = check.end(path, "threads", "s begin\ns step\ns commit\n")
+        check.same(f"workers, turn {turn}: a further run", (further[0], [line.split()[:2] for line in further[1].splitlines()]), (0, [["-", "error"], ["s", "begun"], ["s", "committed"]]))
+
+
 def limit(size, ignored):
     """Sets a limit to the size of files."""
     if ignored:
@@ -300,7 +333,7 @@ def new_files(check):
     if not keeps_zeros(check.folder):
         print("left out: the room of a new store, as this file system takes none for zeros")
         return
-    for command in ("init", "new run", "demo"):
+    for command in ("init", "new run", "new threads", "demo"):
         path = check.path()
         check.end(path, command)
         check.same(f"the room of a new store of {command}", has_room(path), True)
@@ -338,7 +371,7 @@ def fill(filler, free):
     filler.write_bytes(bytes(max(0, disk.f_bavail * disk.f_bsize - free)))
 
 
-CASES = [closed_streams, two_runs, locked_files, odd_files, unprivileged, odd_streams, ends_of_its_own, limited_files, new_files, full_disks]
+CASES = [closed_streams, two_runs, locked_files, odd_files, unprivileged, odd_streams, ends_of_its_own, threads_keep_each_session_in_order, limited_files, new_files, full_disks]
 
 
 def main():

@@ -16,10 +16,11 @@ use crate::standard::stand_ins;
 use crate::store_file::{disk_on, open};
 use block_model::Words;
 use brin_app::{
-    DAMAGED, DISK_FAULT, DONE, MEMORY, NO_STORE, READ_FAULT, USAGE, WRITE_FAULT, brin_main,
+    DAMAGED, DISK_FAULT, DONE, MEMORY, NO_STORE, READ_FAULT, Stranger, USAGE, WRITE_FAULT,
+    brin_main,
 };
-use disk_trait::FileDisk;
-use io_traits::{ReaderSource, WriterSink};
+use disk_trait::{Disk, FileDisk};
+use io_traits::{OpenGate, ReaderSource, WriterSink};
 use std::io::ErrorKind;
 use std::process::ExitCode;
 use std::{env, io};
@@ -65,11 +66,21 @@ fn ran(rt: &HostRuntime) -> Result<u8, u8> {
     Ok(run_over(rt, &given.words, disk))
 }
 
-/// Runs the words over a disk, from standard input to standard output.
-fn run_over(rt: &HostRuntime, words: &Words, disk: FileDisk) -> u8 {
+/// Runs the words over a disk on which no call has failed so far, from standard input to standard output.
+fn run_over(rt: &HostRuntime, words: &Words, disk: FileDisk) -> u8
+    requires { (⟦<FileDisk as Disk>⟧.told disk).faults ≡ 0 }
+{
     let mut source = ReaderSource::on(rt.reader());
     let mut sink = WriterSink::on(io::writer(rt));
-    let (status, _) = brin_main(rt.alloc(), words, disk, &mut source, &mut sink);
+    let (status, _) = brin_main::<Stranger, _, _, _, _, _>(
+        rt,
+        rt.alloc(),
+        words,
+        disk,
+        &mut source,
+        &mut sink,
+        &OpenGate,
+    );
     status
 }
 

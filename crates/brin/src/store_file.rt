@@ -1,9 +1,11 @@
 //! The store's file: opened and locked for one run, and where it is empty made as large as the store that the words make.
 
+ghost use Rattle.std.specs.Prelude.{◌≡◌, IfOk};
+
 use block_model::{PAGE_SIZE, Words};
 use brin_app::{DISK_FAULT, MEMORY, wanted_size};
 use command_line::{Command, CommandFault, read_command};
-use disk_trait::FileDisk;
+use disk_trait::{Disk, FileDisk};
 use std::fs::{File, OpenOptions};
 use std::io;
 use std::os::unix::fs::FileExt;
@@ -35,7 +37,9 @@ pub(crate) fn disk_on(
     path: &str,
     file: File,
     words: &Words,
-) -> Result<FileDisk, u8> {
+) -> Result<FileDisk, u8>
+    ensures { IfOk result (λ disk. (⟦<FileDisk as Disk>⟧.told disk).faults ≡ 0) }
+{
     let size = file.metadata().map_err(|_| DISK_FAULT)?.len();
     if size > 0 {
         return Ok(FileDisk::on(file, size));
@@ -54,7 +58,9 @@ fn new_disk(
     file: File,
     words: &Words,
     size: u64,
-) -> Result<FileDisk, u8> {
+) -> Result<FileDisk, u8>
+    ensures { IfOk result (λ disk. (⟦<FileDisk as Disk>⟧.told disk).faults ≡ 0) }
+{
     let pages = log_pages(rt, words)?;
     sync_folder(rt, folder_of(path)).map_err(|_| DISK_FAULT)?;
     match grow(&file, size, pages) {

@@ -53,6 +53,8 @@ pub init_alone : (sizes : Sizes) (declared : List (List ℕ)) (layout : DiskLayo
 init_alone sizes declared layout makes alone (tasks.Init other) also = ap tasks.Init (one_layout_for sizes declared layout other makes alone also)
 init_alone sizes declared layout makes alone (tasks.Run other) also = absurd also
 init_alone sizes declared layout makes alone tasks.RunStored also = absurd also
+init_alone sizes declared layout makes alone (tasks.Threads other) also = absurd also
+init_alone sizes declared layout makes alone tasks.ThreadsStored also = absurd also
 init_alone sizes declared layout makes alone (tasks.Demo other seed rows) also = absurd also
 
 pub run_alone : (sizes : Sizes) (declared : List (List ℕ)) (layout : DiskLayout) → IsLayoutFor sizes declared layout → ((schema : Schema) → Denotes declared schema → schema ≡ layout.schema)
@@ -60,13 +62,34 @@ pub run_alone : (sizes : Sizes) (declared : List (List ℕ)) (layout : DiskLayou
 run_alone sizes declared layout makes alone (tasks.Run other) also = ap tasks.Run (one_layout_for sizes declared layout other makes alone also)
 run_alone sizes declared layout makes alone (tasks.Init other) also = absurd also
 run_alone sizes declared layout makes alone tasks.RunStored also = absurd also
+run_alone sizes declared layout makes alone (tasks.Threads other) also = absurd also
+run_alone sizes declared layout makes alone tasks.ThreadsStored also = absurd also
 run_alone sizes declared layout makes alone (tasks.Demo other seed rows) also = absurd also
 
 pub stored_alone : (other : Task) → IsTaskOf commands.RunStored other → other ≡ tasks.RunStored
 stored_alone (tasks.Init other) also = absurd also
 stored_alone (tasks.Run other) also = absurd also
 stored_alone (tasks.Demo other seed rows) also = absurd also
+stored_alone (tasks.Threads other) also = absurd also
+stored_alone tasks.ThreadsStored also = absurd also
 stored_alone tasks.RunStored also = refl
+
+pub threads_alone : (sizes : Sizes) (declared : List (List ℕ)) (layout : DiskLayout) → IsLayoutFor sizes declared layout → ((schema : Schema) → Denotes declared schema → schema ≡ layout.schema)
+    → (other : Task) → IsTaskOf (commands.Threads sizes declared) other → other ≡ tasks.Threads layout
+threads_alone sizes declared layout makes alone (tasks.Threads other) also = ap tasks.Threads (one_layout_for sizes declared layout other makes alone also)
+threads_alone sizes declared layout makes alone (tasks.Init other) also = absurd also
+threads_alone sizes declared layout makes alone (tasks.Run other) also = absurd also
+threads_alone sizes declared layout makes alone tasks.RunStored also = absurd also
+threads_alone sizes declared layout makes alone tasks.ThreadsStored also = absurd also
+threads_alone sizes declared layout makes alone (tasks.Demo other seed rows) also = absurd also
+
+pub threads_stored_alone : (other : Task) → IsTaskOf commands.ThreadsStored other → other ≡ tasks.ThreadsStored
+threads_stored_alone (tasks.Init other) also = absurd also
+threads_stored_alone (tasks.Run other) also = absurd also
+threads_stored_alone (tasks.Demo other seed rows) also = absurd also
+threads_stored_alone (tasks.Threads other) also = absurd also
+threads_stored_alone tasks.RunStored also = absurd also
+threads_stored_alone tasks.ThreadsStored also = refl
 
 demo_is : (layout other : DiskLayout) (seed seed' rows rows' : ℕ) → other ≡ layout → seed' ≡ seed → rows' ≡ rows → tasks.Demo other seed' rows' ≡ tasks.Demo layout seed rows
 demo_is layout other seed seed' rows rows' l s r = ap (λ (m : DiskLayout). tasks.Demo m seed' rows') l ∙ ap (λ (n : ℕ). tasks.Demo layout n rows') s ∙ ap (λ (n : ℕ). tasks.Demo layout seed n) r
@@ -76,6 +99,8 @@ pub demo_alone : (seed rows : ℕ) (layout : DiskLayout) → IsDemoLayout rows l
 demo_alone seed rows layout makes alone (tasks.Init other) also = absurd also
 demo_alone seed rows layout makes alone (tasks.Run other) also = absurd also
 demo_alone seed rows layout makes alone tasks.RunStored also = absurd also
+demo_alone seed rows layout makes alone (tasks.Threads other) also = absurd also
+demo_alone seed rows layout makes alone tasks.ThreadsStored also = absurd also
 demo_alone seed rows layout makes alone (tasks.Demo other seed' rows') also =
     demo_is layout other seed seed' rows rows' (layout_is other layout (alone other.schema also.0.schema) (also.0.sizes_are ∙ sym makes.sizes_are)) also.1 also.2
 
@@ -88,14 +113,23 @@ pub not_wrong : (command : Command) (task : Task) → IsTaskOf command task → 
 not_wrong (commands.Init sizes declared) (tasks.Init layout) makes broken = lacks (first_broken_rule layout.schema sizes) makes.within (broken layout.schema makes.schema)
 not_wrong (commands.Init sizes declared) (tasks.Run layout) makes broken = makes
 not_wrong (commands.Init sizes declared) tasks.RunStored makes broken = makes
+not_wrong (commands.Init sizes declared) (tasks.Threads layout) makes broken = makes
+not_wrong (commands.Init sizes declared) tasks.ThreadsStored makes broken = makes
 not_wrong (commands.Init sizes declared) (tasks.Demo layout seed rows) makes broken = makes
 not_wrong (commands.Run sizes declared) (tasks.Run layout) makes broken = lacks (first_broken_rule layout.schema sizes) makes.within (broken layout.schema makes.schema)
 not_wrong (commands.Run sizes declared) (tasks.Init layout) makes broken = makes
 not_wrong (commands.Run sizes declared) tasks.RunStored makes broken = makes
+not_wrong (commands.Run sizes declared) (tasks.Threads layout) makes broken = makes
+not_wrong (commands.Run sizes declared) tasks.ThreadsStored makes broken = makes
 not_wrong (commands.Run sizes declared) (tasks.Demo layout seed rows) makes broken = makes
 not_wrong commands.RunStored task makes broken = broken
-not_wrong (commands.Threads sizes declared) task makes broken = makes
-not_wrong commands.ThreadsStored task makes broken = makes
+not_wrong (commands.Threads sizes declared) (tasks.Threads layout) makes broken = lacks (first_broken_rule layout.schema sizes) makes.within (broken layout.schema makes.schema)
+not_wrong (commands.Threads sizes declared) (tasks.Init layout) makes broken = makes
+not_wrong (commands.Threads sizes declared) (tasks.Run layout) makes broken = makes
+not_wrong (commands.Threads sizes declared) tasks.RunStored makes broken = makes
+not_wrong (commands.Threads sizes declared) tasks.ThreadsStored makes broken = makes
+not_wrong (commands.Threads sizes declared) (tasks.Demo layout seed rows) makes broken = makes
+not_wrong commands.ThreadsStored task makes broken = broken
 not_wrong (commands.Demo seed rows) task makes broken = broken
 
 -- ---- words

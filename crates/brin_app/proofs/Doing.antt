@@ -32,7 +32,7 @@ use Rattle.session_core.specs.StoreImage.{IsStoreImage, IsTableOn, database_with
 use Rattle.session_core.specs.OpenedParts.{ShowsStart}
 use Rattle.session_core.specs.Started.{HoldsImage, ImagesStay, OpensTable}
 use Rattle.brin_app.specs.declared.top.Task.{Task}
-use Rattle.brin_app.specs.declared.top.Task.TheVariants.{Demo, Init, Run, RunStored}
+use Rattle.brin_app.specs.declared.top.Task.TheVariants.{Demo, Init, Run, RunStored, Threads, ThreadsStored}
 use Rattle.session_orders.specs.CrashRule.{Stand}
 use Rattle.brin_app.specs.ScriptOutput.{EachImageHas, HoldsFresh, HoldsTable, IsFreshOutput, IsIdle, IsMade, IsOldOrEmpty, IsOpenedAt, IsScriptRun, IsUnopened, StartsOver}
 use Rattle.brin_app.specs.StatusCauses.{HasSpentCauses, IsCompleteOf, IsDoneSo, IsRefusedSo, IsSpentOf}
@@ -40,7 +40,7 @@ use Rattle.brin_app.specs.Statuses.{IsFit, IsStatus, IsUnfit, start_status}
 use Rattle.brin_app.specs.TaskOutputs.{IsOutputOf}
 use Rattle.session_orders.proofs.Crash.{image_as}
 use Rattle.brin_app.proofs.Known.{is_0, is_6, is_9, same_status, start_known}
-use Rattle.brin_app.proofs.Outputs.{idle_spent, run_complete, run_spent}
+use Rattle.brin_app.proofs.Outputs.{idle_past, idle_spent, run_complete, run_spent}
 
 -- ---- laws of the layers below
 
@@ -146,23 +146,32 @@ module _ (old : Told) (l k : Option (List ℕ)) (only : (image : List ℕ) → I
   }
   idle_output RunStored = λ tells layout table holds.
       inl (record { why = inr refl; idle = idle l k; any_moment = λ each. started old (IsImageWith layout table) (λ image since. each image (only image since)) })
+  idle_output (Threads layout) = inl refl
+  idle_output ThreadsStored = inl refl
 
   pub idle_refused_of : (task : Task) → IsRefusedSo task 7 old old l l k k
   idle_refused_of (Init layout) = λ wrong. record { why = inl refl; disk = refl; idle = idle l k }
   idle_refused_of (Run layout) = λ wrong. record { why = inl refl; disk = refl; idle = idle l k }
   idle_refused_of (Demo layout seed rows) = λ wrong. record { why = inl refl; disk = refl; idle = idle l k }
+  idle_refused_of (Threads layout) = λ wrong. record { why = inl refl; disk = refl; idle = idle l k }
+  idle_refused_of ThreadsStored = λ still.
+      record { none = λ tells none. record { why = inr (inl refl); idle = idle l k }; untouched = λ e. absurd (omega (arith, e)); front = λ e. absurd (omega (arith, e)) }
   idle_refused_of RunStored = record { none = λ tells none. record { why = inr (inl refl); idle = idle l k }; untouched = λ e. absurd (omega (arith, e)); front = λ e. absurd (omega (arith, e)) }
 
   pub idle_spent_of : (task : Task) → IsSpentOf task 7 old l l
   idle_spent_of (Init layout) = λ e. omega (arith, e)
   idle_spent_of (Run layout) = λ tells. idle_spent 7 (IsStart layout) layout l (λ e. omega (arith, e))
   idle_spent_of (Demo layout seed rows) = λ tells e. absurd (omega (arith, e))
+  idle_spent_of (Threads layout) = idle_past 7 l
+  idle_spent_of ThreadsStored = idle_past 7 l
   idle_spent_of RunStored = λ tells layout table holds. idle_spent 7 (StartsOver layout holds.pages holds.image.next table) layout l (λ e. omega (arith, e))
 
   pub idle_complete_of : (task : Task) → IsCompleteOf task 7 old l
   idle_complete_of (Init layout) = λ fits. inr refl
   idle_complete_of (Run layout) = λ tells fits limit room. inr refl
   idle_complete_of (Demo layout seed rows) = λ tells fits. inr refl
+  idle_complete_of (Threads layout) = tt
+  idle_complete_of ThreadsStored = tt
   idle_complete_of RunStored = λ tells layout table holds limit room. inr refl
 
 -- ---- a store that isn't opened
@@ -233,10 +242,17 @@ module _ (one : HaveOneLayout) (law : AreNotDamaged) (old new : Told) (l k : Opt
 pub table_at : (p : Place) (opening : DatabaseState) → p.opening ≡ opening → p.journal ≡ [] → (database_at p).table ≡ opening.table
 table_at p opening is none = ap (λ (j : List Entry). (serial_run p.opening j).table) none ∙ ap (λ (o : DatabaseState). o.table) is
 
+-- whatever the disk tells is a store's
+pub held_in : {D : Type 0} (told : D → Told) (old : Told) (s : StoreState D) → (IsTrue old.tells_contents → HasStore s.pages.layout old.size old.contents)
+    → (IsTrue old.tells_contents → OpensAs s.pages.layout old.contents s.pages.pages) → HoldsImage old → IsTrue old.tells_contents → ((layout : DiskLayout) (table : TableState) → HoldsTable old layout table → ⊥) → ⊥
+held_in told old s there pages image tells none =
+    let found = image tells s.pages.layout s.pages.pages (pages tells) in
+    none s.pages.layout found.0 (record { sized = (there tells).sized; pages = s.pages.pages; opens = pages tells; image = found.1 })
+
 module _ {D : Type 0} (told : D → Told) (one : HaveOneLayout) (old : Told) (s : StoreState D) (map : OpenToOneMap s.pages.layout)
     (there : IsTrue old.tells_contents → HasStore s.pages.layout old.size old.contents) (pages : IsTrue old.tells_contents → OpensAs s.pages.layout old.contents s.pages.pages)
     (same_tells : (told s.pages.disk).tells_contents ≡ old.tells_contents) (ready : s.pages.failed ≡ None) (opens : OpensTable told s) (stay : ImagesStay old (told s.pages.disk)) where
-  its_layout : (layout : DiskLayout) (table : TableState) → IsTrue old.tells_contents → HoldsTable old layout table → s.pages.layout ≡ layout
+  pub its_layout : (layout : DiskLayout) (table : TableState) → IsTrue old.tells_contents → HoldsTable old layout table → s.pages.layout ≡ layout
   its_layout layout table tells holds = one (take PAGE_SIZE old.contents) s.pages.layout layout (there tells).control holds.opens.control
 
   its_pages : (layout : DiskLayout) (table : TableState) → IsTrue old.tells_contents → (holds : HoldsTable old layout table) → s.pages.pages ≡ holds.pages
@@ -256,7 +272,7 @@ module _ {D : Type 0} (told : D → Told) (one : HaveOneLayout) (old : Told) (s 
       record { blocks = t.blocks; has = t.has; locks = (shown_of s).locks; unseen = t.unseen; is = t.shown }
 
   -- what the store shows over pages of a store with the table
-  abbrev ShowsOver : DiskLayout → TableState → PageMap → Type 0
+  abbrev pub ShowsOver : DiskLayout → TableState → PageMap → Type 0
   ShowsOver layout table held =
       (image : IsStoreImage layout held table) → (p : Place) × StartsOver layout held image.next table p × ShowsPlace s p × AllHaveTable told s.pages p
 
@@ -266,7 +282,7 @@ module _ {D : Type 0} (told : D → Told) (one : HaveOneLayout) (old : Told) (s 
       (p.0, record { opening = p.1; tables = tables_on p.0 p.2 }, p.2, p.3)
 
   -- its pages are those that the disk holds
-  its_opening : (layout : DiskLayout) (table : TableState) → IsTrue old.tells_contents → (holds : HoldsTable old layout table) → ShowsOver layout table holds.pages
+  pub its_opening : (layout : DiskLayout) (table : TableState) → IsTrue old.tells_contents → (holds : HoldsTable old layout table) → ShowsOver layout table holds.pages
   its_opening layout table tells holds =
       let own : ShowsOver s.pages.layout table s.pages.pages = own_opening table tells in
       subst (ShowsOver layout table) (its_pages layout table tells holds)
@@ -317,12 +333,6 @@ module _ {D : Type 0} (told : D → Told) (one : HaveOneLayout) (old : Told) (s 
         let start = fresh_start begins tells layout fresh in
         inr (run_at layout (IsStart layout) start.2 tells start.0 start.1 start.3 start.4)
 
-    -- whatever the disk tells is a store's
-    held_here : HoldsImage old → IsTrue old.tells_contents → ((layout : DiskLayout) (table : TableState) → HoldsTable old layout table → ⊥) → ⊥
-    held_here image tells none =
-        let found = image tells s.pages.layout s.pages.pages (pages tells) in
-        none s.pages.layout found.0 (record { sized = (there tells).sized; pages = s.pages.pages; opens = pages tells; image = found.1 })
-
     pub stored_done : HoldsImage old → IsStatus status → (r w : Type 0) → (status ≡ 4 → r) → (status ≡ 5 → w) → (old.faults ≤ (told s.pages.disk).faults) → (status ≡ 6 → s.pages.failed ≡ None → Rose (told s.pages.disk).faults new.faults)
         → (status ≡ 11 → Tells told s.pages → s.pages.failed ≡ None → ⊥) → (status ≢ 2) × (status ≢ 9) → IsDoneSo RunStored status old new l l' k k' r w
     stored_done image known r w read write later disk_ damage others =
@@ -334,7 +344,7 @@ module _ {D : Type 0} (told : D → Told) (one : HaveOneLayout) (old : Told) (s 
           write_fault = write;
           disk_fault = rose;
           no_store = λ nine. absurd (others.1 nine);
-          refused_disk = record { none = λ tells none. absurd (held_here image tells none); untouched = λ nine. absurd (others.1 nine); front = λ eleven tells. absurd (damage eleven (same_tells ∙ tells) ready) };
+          refused_disk = record { none = λ tells none. absurd (held_in told old s there pages image tells none); untouched = λ nine. absurd (others.1 nine); front = λ eleven tells. absurd (damage eleven (same_tells ∙ tells) ready) };
           damaged = λ eleven tells. absurd (damage eleven (same_tells ∙ tells) ready);
           no_usage = others.0;
           spent = λ tells layout table holds.

@@ -19,10 +19,10 @@ use Rattle.session_core.specs.Started.{HoldsImage}
 use Rattle.session_core.specs.StopRule.{IsImageWith}
 use Rattle.session_core.specs.StoreImage.{IsStoreImage, database_with}
 use Rattle.brin_app.specs.declared.top.Task.{Task}
-use Rattle.brin_app.specs.declared.top.Task.TheVariants.{Demo, Init, Run, RunStored}
+use Rattle.brin_app.specs.declared.top.Task.TheVariants.{Demo, Init, Run, RunStored, Threads, ThreadsStored}
 use Rattle.session_orders.specs.CrashRule.{HasTableOf, IsFurther}
 use Rattle.brin_app.specs.DemoOutput.{IsFreshDemo}
-use Rattle.brin_app.specs.Holding.{HasMade, HasRun, HoldsOn, HoldsOnFor, HoldsStore, HoldsSure, StaysStore}
+use Rattle.brin_app.specs.Holding.{HasMade, HasRun, HoldsOn, HoldsOnFor, HoldsStore, HoldsSure, ObeysLaws, StaysStore}
 use Rattle.brin_app.specs.Moments.{StopsOfRun}
 use Rattle.brin_app.specs.ScriptOutput.{EachImageHas, HoldsFresh, HoldsTable, IsOldOrEmpty, IsStoredOutput, IsUnopened}
 use Rattle.brin_app.specs.StatusCauses.{IsDoneSo}
@@ -58,6 +58,8 @@ made_run (Init layout) status made = made
 made_run (Run layout) status made = made
 made_run (Demo layout seed rows) status made = made
 made_run RunStored status made = absurd made
+made_run (Threads layout) status made = absurd made
+made_run ThreadsStored status made = absurd made
 
 -- where no store was opened, none was run
 refusal_only : (fault : StartFault) → HasRun (start_status fault) → ⊥
@@ -67,12 +69,6 @@ refusal_only starts.Disk run = (run_only 6 run).0 refl
 refusal_only starts.Memory run = (run_only 7 run).1 refl
 
 -- ---- disks
-
--- the laws of a disk, of what one tells
-pub record ObeysLaws (disk : Told) : Type 0 where
-  pub contents : IsTrue disk.tells_images → IsTrue disk.tells_contents
-  pub here : IsTrue disk.tells_images → IsTrue (disk.now disk.contents)
-  pub later : (t : ℕ) (image : List ℕ) → t ≤ disk.moment → IsTrue (disk.now image) → IsTrue (disk.since t image)
 
 pub laws_of : {D : Type 0} (told : D → Told) → ((d : D) (image : List ℕ) → IsTrue ((told d).now image) → IsTrue (told d).tells_contents) → ((d : D) → IsTrue (told d).tells_images → IsTrue ((told d).now (told d).contents))
     → ((d : D) (t : ℕ) (image : List ℕ) → t ≤ (told d).moment → IsTrue ((told d).now image) → IsTrue ((told d).since t image)) → (d : D) → ObeysLaws (told d)

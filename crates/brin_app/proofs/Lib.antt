@@ -15,4 +15,5 @@ pub mod Saying
 pub mod ScriptRoom
 pub mod Simulated
 pub mod Starting
+pub mod Threading
 pub mod WantedDisk

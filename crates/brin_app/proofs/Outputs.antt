@@ -12,7 +12,7 @@ use Rattle.script_semantics.specs.Place.{Place}
 use Rattle.brin_app.specs.declared.status.TheConstants.{SCRIPT_LIMIT}
 use Rattle.session_orders.specs.CrashRule.{Stand}
 use Rattle.brin_app.specs.ScriptOutput.{IsScriptRun, StopsOver, Texts, TextsOver, exit_status}
-use Rattle.brin_app.specs.StatusCauses.{FillsJournal, FitsLimit, HasSpentCauses, IsComplete, JournalWasFull}
+use Rattle.brin_app.specs.StatusCauses.{FillsJournal, FitsLimit, HasSpentCauses, IsComplete, IsSpentPast, JournalWasFull}
 
 -- the status tells whether a fault of the source, or of the sink, ended the run
 pub read_ended : (end : RunEnd) (status : ℕ) (F : Type 0) → status ≡ exit_status end → (IsErrOf end faults.Read → F) → status ≡ 4 → F
@@ -36,7 +36,7 @@ write_ended (Err (faults.Unanswered Disk)) status F is rose five = absurd (omega
 write_ended (Err (faults.Unanswered Damaged)) status F is rose five = absurd (omega (arith, is, five))
 
 -- the status tells whether a limit was passed
-spent_end : (end : RunEnd) → exit_status end ≡ 8 → (end ≡ (Err faults.Spent)) ⊎ (end ≡ (Err (faults.Unanswered Full)))
+pub spent_end : (end : RunEnd) → exit_status end ≡ 8 → (end ≡ (Err faults.Spent)) ⊎ (end ≡ (Err (faults.Unanswered Full)))
 spent_end (Ok u) e = absurd (omega (arith, e))
 spent_end (Err faults.Read) e = absurd (omega (arith, e))
 spent_end (Err faults.Write) e = absurd (omega (arith, e))
@@ -53,7 +53,7 @@ not_spent (Err faults.Write) n within is = absurd (let h : n ≤ SCRIPT_LIMIT = 
 not_spent (Err faults.Spent) n within is = refl
 not_spent (Err (faults.Unanswered fault)) n within is = absurd (let h : n ≤ SCRIPT_LIMIT = within (λ e. cc) in omega arith)
 
-came_length : (old new script : List ℕ) → Consumes (Some old) (Some new) script → length old ≡ length script + length new
+pub came_length : (old new script : List ℕ) → Consumes (Some old) (Some new) script → length old ≡ length script + length new
 came_length old new script e = ap length e ∙ length-append script new
 
 -- lines over stretches lead from place to place
@@ -125,3 +125,7 @@ module _ (Starts : Place → Type 0) (layout : DiskLayout) where
 pub idle_spent : (status : ℕ) (Starts : Place → Type 0) (layout : DiskLayout) (l : Option (List ℕ)) → status ≢ 8 → HasSpentCauses status Starts layout l l
 idle_spent status Starts layout None not = tt
 idle_spent status Starts layout (Some old) not = record { past_limit = λ e. absurd (omega (arith, e)); only = λ e. absurd (not e) }
+
+pub idle_past : (status : ℕ) (l : Option (List ℕ)) → IsSpentPast status l l
+idle_past status None = tt
+idle_past status (Some old) = λ e. absurd (omega (arith, e))

@@ -1,11 +1,11 @@
 -- what stands on the disk that comes back, where it tells its contents and its images
-use Rattle.std.specs.Prelude.{◌≡◌, ◌≢◌, ◌⊎◌, ℕ, IsTrue, List}
+use Rattle.std.specs.Prelude.{◌≡◌, ◌≢◌, ◌⊎◌, ℕ, ◌≤◌, IsTrue, List}
 use Rattle.block_model.specs.TableState.{TableState}
 use Rattle.disk_trait.specs.Told.{Told}
 use Rattle.store_layout.specs.DiskLayout.{DiskLayout}
 use Rattle.session_core.specs.Started.{HoldsImage}
 use Rattle.brin_app.specs.declared.top.Task.{Task}
-use Rattle.brin_app.specs.declared.top.Task.TheVariants.{Demo, Init, Run, RunStored}
+use Rattle.brin_app.specs.declared.top.Task.TheVariants.{Demo, Init, Run, RunStored, Threads, ThreadsStored}
 use Rattle.brin_app.specs.ScriptOutput.{EachImageHas, HoldsTable}
 use Rattle.brin_app.specs.WantedSizes.{AsksForNew}
 
@@ -30,7 +30,8 @@ pub record StaysStore (status : ℕ) (disk : Told) : Type 0 where
 abbrev pub HasRun : ℕ → Type 0
 HasRun status = (status ≡ 0) ⊎ ((status ≡ 4) ⊎ ((status ≡ 5) ⊎ (status ≡ 8)))
 
--- What stands there behind the words, by what stood there before.
+-- What stands there behind the words, by what stood there before. Of words that ask for `threads` nothing is said here: which table each image has then is
+-- said by the transcript, over an honest name alone (specs/Threads.antt).
 pub record HoldsOn (words : List (List ℕ)) (status : ℕ) (old new : Told) : Type 0 where
   -- a store for sure: whatever the words ask for, and whatever the status
   pub kept : HoldsStore old → StaysStore status new
@@ -45,9 +46,17 @@ HasMade (Init layout) status = HasRun status
 HasMade (Run layout) status = HasRun status
 HasMade (Demo layout seed rows) status = HasRun status
 HasMade RunStored status = ⊥
+HasMade (Threads layout) status = ⊥
+HasMade ThreadsStored status = ⊥
 
 -- the same behind a task
 pub record HoldsOnFor (task : Task) (status : ℕ) (old new : Told) : Type 0 where
   pub kept : HoldsStore old → StaysStore status new
   pub made : HasMade task status → IsTrue old.tells_images → StaysStore status new
   pub image : HoldsImage old → HasRun status ⊎ (status ≡ 9) → IsTrue old.tells_contents → IsTrue new.tells_images → HoldsImage new
+
+-- the laws of a disk, of what one tells
+pub record ObeysLaws (disk : Told) : Type 0 where
+  pub contents : IsTrue disk.tells_images → IsTrue disk.tells_contents
+  pub here : IsTrue disk.tells_images → IsTrue (disk.now disk.contents)
+  pub later : (t : ℕ) (image : List ℕ) → t ≤ disk.moment → IsTrue (disk.now image) → IsTrue (disk.since t image)

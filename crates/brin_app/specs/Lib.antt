@@ -11,6 +11,7 @@ pub mod Statuses
 pub mod StatusCauses
 pub mod TaskOutputs
 pub mod Tasks
+pub mod Threads
 pub mod WantedSizes
 pub mod WordsFaults
 pub use Rattle.script_semantics.specs.Place

@@ -14,7 +14,7 @@ use Rattle.script_run.specs.Answers.{AreAnswers}
 use Rattle.script_run.specs.Runs.{AreFirst}
 use Rattle.brin_app.specs.declared.status.TheConstants.{SCRIPT_LIMIT}
 use Rattle.brin_app.specs.declared.top.Task.{Task}
-use Rattle.brin_app.specs.declared.top.Task.TheVariants.{Demo, Init, Run, RunStored}
+use Rattle.brin_app.specs.declared.top.Task.TheVariants.{Demo, Init, Run, RunStored, Threads, ThreadsStored}
 use Rattle.brin_app.specs.DemoOutput.{IsCompleteDemo}
 use Rattle.brin_app.specs.ScriptOutput.{HoldsTable, IsIdle, StartsOver, Stops, Texts}
 use Rattle.brin_app.specs.Statuses.{IsStatus}
@@ -28,13 +28,22 @@ LacksStore (Init layout) disk = disk.size ≢ disk_size layout
 LacksStore (Run layout) disk = IsTrue disk.tells_contents → disk.size ≢ disk_size layout
 LacksStore (Demo layout seed rows) disk = IsTrue disk.tells_contents → disk.size ≢ disk_size layout
 LacksStore RunStored disk = IsTrue disk.tells_contents → HasNoStore disk.size disk.contents
+LacksStore (Threads layout) disk = IsTrue disk.tells_contents → disk.size ≢ disk_size layout
+LacksStore ThreadsStored disk = IsTrue disk.tells_contents → HasNoStore disk.size disk.contents
 
--- the store that stands there is damaged, where the disk tells its contents; one that was made isn't
-abbrev pub HasDamage : Task → Told → Type 0
-HasDamage RunStored disk = IsTrue disk.tells_contents → (at : ℕ) × IsDamagedStore disk.size disk.contents at
-HasDamage (Run layout) disk = IsTrue disk.tells_contents → ⊥
-HasDamage (Demo layout seed rows) disk = IsTrue disk.tells_contents → ⊥
-HasDamage (Init layout) disk = ⊥
+-- the disk tells its contents still, where it did
+abbrev pub TellsStill : (old new : Told) → Type 0
+TellsStill old new = IsTrue old.tells_contents → IsTrue new.tells_contents
+
+-- The store that stands there is damaged, where the disk tells its contents; one that was made isn't. Of `threads` it is so over a disk that tells them still when it
+-- comes back.
+abbrev pub HasDamage : Task → (old new : Told) → Type 0
+HasDamage RunStored old new = IsTrue old.tells_contents → (at : ℕ) × IsDamagedStore old.size old.contents at
+HasDamage (Run layout) old new = IsTrue old.tells_contents → ⊥
+HasDamage (Demo layout seed rows) old new = IsTrue old.tells_contents → ⊥
+HasDamage (Init layout) old new = ⊥
+HasDamage ThreadsStored old new = TellsStill old new → IsTrue old.tells_contents → (at : ℕ) × IsDamagedStore old.size old.contents at
+HasDamage (Threads layout) old new = TellsStill old new → IsTrue old.tells_contents → ⊥
 
 -- ---- a disk over which nothing can be done
 
@@ -60,6 +69,8 @@ IsRefusedSo (Init layout) status old new left left' taken taken' = old.size ≢ 
 IsRefusedSo (Run layout) status old new left left' taken taken' = old.size ≢ disk_size layout → IsRefusedBySize status old new left left' taken taken'
 IsRefusedSo (Demo layout seed rows) status old new left left' taken taken' = old.size ≢ disk_size layout → IsRefusedBySize status old new left left' taken taken'
 IsRefusedSo RunStored status old new left left' taken taken' = IsRefusedStored status old new left left' taken taken'
+IsRefusedSo (Threads layout) status old new left left' taken taken' = old.size ≢ disk_size layout → IsRefusedBySize status old new left left' taken taken'
+IsRefusedSo ThreadsStored status old new left left' taken taken' = TellsStill old new → IsRefusedStored status old new left left' taken taken'
 
 -- ---- a full journal, and too long a script
 
@@ -90,11 +101,19 @@ abbrev pub HasSpentCauses : ℕ → (Place → Type 0) → DiskLayout → Option
 HasSpentCauses status Starts layout (Some old) (Some new) = IsSpentExactly status Starts layout old new
 HasSpentCauses status Starts layout old new = Unit {0}
 
--- where the disk tells its contents: over a new store, and over each that may stand there; a demo fits the journal
+-- where the source tells its bytes, 8 comes where as many as the limit were taken and then another
+abbrev pub IsSpentPast : ℕ → Option (List ℕ) → Option (List ℕ) → Type 0
+IsSpentPast status (Some old) (Some new) = length old ≡ (SCRIPT_LIMIT + 1) + length new → status ≡ 8
+IsSpentPast status old new = Unit {0}
+
+-- Where the disk tells its contents: over a new store, and over each that may stand there; a demo fits the journal. When else 8 comes of `threads` specs/Threads.antt
+-- says.
 abbrev pub IsSpentOf : Task → ℕ → Told → Option (List ℕ) → Option (List ℕ) → Type 0
 IsSpentOf (Init layout) status disk left left' = status ≢ 8
 IsSpentOf (Run layout) status disk left left' = IsTrue disk.tells_contents → HasSpentCauses status (IsStart layout) layout left left'
 IsSpentOf (Demo layout seed rows) status disk left left' = IsTrue disk.tells_contents → status ≢ 8
+IsSpentOf (Threads layout) status disk left left' = IsSpentPast status left left'
+IsSpentOf ThreadsStored status disk left left' = IsSpentPast status left left'
 IsSpentOf RunStored status disk left left' =
     IsTrue disk.tells_contents → (layout : DiskLayout) (table : TableState) (holds : HoldsTable disk layout table) → HasSpentCauses status (StartsOver layout holds.pages holds.image.next table) layout left left'
 
@@ -112,11 +131,13 @@ FitsJournal Starts layout left = (left' : Option (List ℕ)) → JournalWasFull 
 abbrev pub IsComplete : ℕ → (Place → Type 0) → DiskLayout → Option (List ℕ) → Type 0
 IsComplete status Starts layout left = FitsLimit left → FitsJournal Starts layout left → (status ≡ 0) ⊎ (status ≡ 7)
 
--- the same of a task, where the disk that is to be made a store has the size, or a store stands there
+-- The same of a task, where the disk that is to be made a store has the size, or a store stands there. Of `threads` specs/Threads.antt says it.
 abbrev pub IsCompleteOf : Task → ℕ → Told → Option (List ℕ) → Type 0
 IsCompleteOf (Init layout) status disk left = disk.size ≡ disk_size layout → (status ≡ 0) ⊎ (status ≡ 7)
 IsCompleteOf (Run layout) status disk left = IsTrue disk.tells_contents → disk.size ≡ disk_size layout → IsComplete status (IsStart layout) layout left
 IsCompleteOf (Demo layout seed rows) status disk left = IsCompleteDemo status layout disk
+IsCompleteOf (Threads layout) status disk left = Unit {0}
+IsCompleteOf ThreadsStored status disk left = Unit {0}
 IsCompleteOf RunStored status disk left =
     IsTrue disk.tells_contents → (layout : DiskLayout) (table : TableState) (holds : HoldsTable disk layout table) → IsComplete status (StartsOver layout holds.pages holds.image.next table) layout left
 
@@ -131,7 +152,7 @@ pub record IsDoneSo (task : Task) (status : ℕ) (old new : Told) (left left' ta
   pub disk_fault : status ≡ 6 → Rose old.faults new.faults
   pub no_store : status ≡ 9 → LacksStore task old
   pub refused_disk : IsRefusedSo task status old new left left' taken taken'
-  pub damaged : status ≡ 11 → HasDamage task old
+  pub damaged : status ≡ 11 → HasDamage task old new
   pub no_usage : status ≢ 2
   pub spent : IsSpentOf task status old left left'
   pub complete : ¬ read_rose → ¬ write_rose → ¬ (Rose old.faults new.faults) → IsCompleteOf task status old left

@@ -1,6 +1,6 @@
 //! The top call.
 
-ghost use Rattle.std.specs.Prelude.{◌≡◌, ◌≢◌, ◌⊎◌, None, Ok, Err, IfOk, IfErr, OnOk, IsSome, IsTrue};
+ghost use Rattle.std.specs.Prelude.{◌≡◌, ◌≢◌, ◌⊎◌, ℕ, List, None, Ok, Err, IfOk, IfErr, OnOk, IsSome, IsTrue};
 ghost use Rattle.block_model.specs.Causes.{Rose};
 ghost use Rattle.block_model.specs.DatabaseState.{initial_state};
 ghost use Rattle.block_model.specs.declared.schema.Schema.{Schema};
@@ -13,12 +13,13 @@ ghost use Rattle.session_parts.specs.ShowsPlace.{ShowsPlace};
 ghost use Rattle.session_core.specs.StopRule.{AllHaveTable};
 ghost use Rattle.session_core.specs.Started.{HoldsImage};
 ghost use Rattle.session_core.specs.FreshPages.{IsOldOrFresh};
-ghost use Rattle.brin_app.specs.Holding.{HoldsOn, HoldsOnFor};
+ghost use Rattle.brin_app.specs.Holding.{HoldsOn, HoldsOnFor, ObeysLaws};
 ghost use Rattle.brin_app.specs.ScriptOutput.{EachImageHas, EachImageIsFresh, HoldsFresh, IsFreshOutput, IsMade, IsOldOrEmpty, IsScriptRun, exit_status};
 ghost use Rattle.brin_app.specs.StatusCauses.{HasDamage, IsCompleteOf, IsDoneSo, IsRefusedSo, IsSpentOf, LacksStore};
 ghost use Rattle.brin_app.specs.Statuses.{IsFit, IsStatus, IsUnfit, format_status, start_status};
 ghost use Rattle.command_line.specs.Laws.{AreDemoNumbers};
-ghost use Rattle.brin_app.specs.Tasks.{Asks, HasDemoNumbers, HasNoLayout, HasNumbers, IsLayoutFor, IsTaskOf, IsUsage, IsWrong};
+ghost use Rattle.brin_app.specs.Tasks.{Asks, AsksForThreads, AsksOnlyForThreads, HasDemoNumbers, HasNoLayout, HasNumbers, IsLayoutFor, IsTaskOf, IsThreaded, IsUsage, IsWrong};
+ghost use Rattle.brin_app.specs.Threads.{IsCompleteFor, IsGivenFor, IsTooMuch, IsWorkedFor};
 ghost use Rattle.command_line.specs.declared.command.Command.TheVariants as commands;
 ghost use Rattle.brin_app.specs.declared.top.Task.{Task};
 ghost use Rattle.brin_app.specs.declared.top.Task.TheVariants as tasks;
@@ -31,43 +32,56 @@ use crate::status::{
     DAMAGED, DISK_FAULT, DONE, LIMIT, MEMORY, NO_STORE, READ_FAULT, SCRIPT_LIMIT, USAGE,
     WRITE_FAULT,
 };
+use crate::threads::{run_new_threads, run_stored_threads};
 use block_model::{NoMemory, Schema, Sizes, Words};
 use command_line::{
     Command, CommandFault, DeclFault, demos_have_limits, read_command, read_declarations,
 };
 use demo_script::demo_layout;
 use disk_trait::Disk;
-use io_traits::{Sink, Source};
+use io_traits::{Gate, Sink, Source};
 use recovery::StartFault;
 use script_run::{AnswerFault, RunFault, run};
 use session_core::{
     Store, a_format_leaves_old_or_none_or_new, a_new_store_is_an_image,
     a_new_store_opens_to_fresh_pages,
 };
+use session_stepper::Names;
 use std::alloc::Global;
+use std::sync::Wait;
+use std::thread::Threads;
 use store_format::{FormatFault, format, one_layout};
 use store_layout::Layout;
 
 /// Does what the words of a command line say. `init` with options and the declarations of tables and indexes makes an empty store of the disk; `run`
 /// with them does so first, and then runs the script of the source over it, line after line, and writes the text of each line to the sink before the
 /// next line is judged; `run` alone runs it over the store that stands on the disk. `demo` makes a store of its own, reads nothing of the source, and
-/// writes what its script sums up. `threads` does nothing yet. The status is 0 where all was done, 2 where the words are no command, or `threads`, or a limit is passed, 4 for a read fault, 5 for a write fault, 6 for a disk fault, 7 for want of memory, 8 where the requests of a line
+/// writes what its script sums up. `threads` makes or opens a store as `run` does, reads the script of the source whole, and has the lines of each of its
+/// sessions answered by a worker of its own, in a thread where `rt` makes one; the texts of all lines are written at the end. What its workers share is known by its type
+/// alone: so a name carries into that type what the call was given. The status is 0 where all was done, 2 where the words are no command, or a limit is passed, 4 for a read fault, 5 for a write fault, 6 for a disk fault, 7 for want of memory, 8 where the requests of a line
 /// don't fit into the journal of 1048576 entries, or 1073741824 bytes of script were taken and another came, 9 where no store stands on the disk, or
 /// it hasn't the size for one, and 11 where the store is damaged. The disk comes back with each.
-pub fn brin_main<D: Disk + Drop, S: Source, K: Sink>(
-    alloc: Global,
-    words: &Words,
-    disk: D,
-    source: &mut S,
-    sink: &mut K,
-) -> (u8, D)
+pub fn brin_main<
+    N: Names + Send,
+    R: Threads + Wait + Sync,
+    D: Disk + Send + Drop,
+    S: Source,
+    K: Sink,
+    G: Gate + Sync,
+>(rt: &R, alloc: Global, words: &Words, disk: D, source: &mut S, sink: &mut K, gate: &G) -> (u8, D)
     // A run over the store that stands there needs one that a stop of a store left, or bytes that are none; other tasks need nothing of the disk. From call to
     // call `holds_on` gives it.
-    requires { Asks words.now tasks.RunStored → HoldsImage (D.told disk) }
+    requires image { Asks words.now tasks.RunStored → HoldsImage (D.told disk) }
+    requires threads_image { Asks words.now tasks.ThreadsStored → HoldsImage (D.told disk) }
+    // For the words of `threads` alone: the name knows the disk's count of faults; and where it is honest, what it says is so.
+    requires faults { AsksForThreads words.now → N.faults ≡ (D.told disk).faults }
+    requires given { IsTrue N.honest → (task : Task) → Asks words.now task → IsGivenFor task (D.told disk) (S.left source.old) N.opening N.layout N.script }
     // What is written, and which table a stop at any moment leaves.
     ensures script_output { (task : Task) → Asks words.now task → IsOutputOf task result.0 (D.told disk) (D.told result.1) (S.left source.old) (S.left source.new) (K.taken sink.old) (K.taken sink.new) }
     // What stands on the disk that comes back: where it tells its images, a further run may be called over it, if a store stood there for sure or was made.
-    ensures holds_on { HoldsOn words.now result.0 (D.told disk) (D.told result.1) }
+    ensures holds_on { AsksOnlyForThreads words.now ⊎ HoldsOn words.now result.0 (D.told disk) (D.told result.1) }
+    // What becomes of a script of `threads` over an honest name: it has a right transcript, which is written.
+    ensures threads_output { IsTrue N.honest → (task : Task) → Asks words.now task → IsWorkedFor task result.0 (D.told disk) (D.told result.1) (S.left source.old) (S.left source.new) (K.taken sink.old) (K.taken sink.new) N.opening N.layout N.script }
 
     // Which statuses there are, and when each comes. Want of memory, 7, is free.
     ensures known { IsStatus result.0 }
@@ -78,29 +92,44 @@ pub fn brin_main<D: Disk + Drop, S: Source, K: Sink>(
     ensures write_fault { result.0 ≡ 5 → Rose (K.faults sink.old) (K.faults sink.new) }
     ensures disk_fault { result.0 ≡ 6 → Rose (D.told disk).faults (D.told result.1).faults }
     ensures no_store { result.0 ≡ 9 → (task : Task) → Asks words.now task → LacksStore task (D.told disk) }
-    ensures damaged { result.0 ≡ 11 → (task : Task) → Asks words.now task → HasDamage task (D.told disk) }
+    ensures damaged { result.0 ≡ 11 → (task : Task) → Asks words.now task → HasDamage task (D.told disk) (D.told result.1) }
     // What is done over a disk that hasn't the size, or holds no store.
     ensures refused_disk { (task : Task) → Asks words.now task → IsRefusedSo task result.0 (D.told disk) (D.told result.1) (S.left source.old) (S.left source.new) (K.taken sink.old) (K.taken sink.new) }
     ensures spent { (task : Task) → Asks words.now task → IsSpentOf task result.0 (D.told disk) (S.left source.old) (S.left source.new) }
     ensures complete { (task : Task) → Asks words.now task → ¬ (Rose (S.faults source.old) (S.faults source.new)) → ¬ (Rose (K.faults sink.old) (K.faults sink.new)) → ¬ (Rose (D.told disk).faults (D.told result.1).faults)
         → IsCompleteOf task result.0 (D.told disk) (S.left source.old) }
+    // The same of `threads`, over an honest name.
+    ensures threads_spent { IsTrue N.honest → AsksForThreads words.now → result.0 ≡ 8 → IsTooMuch N.opening N.layout N.script }
+    ensures threads_complete { IsTrue N.honest → (task : Task) → Asks words.now task → ¬ (Rose (S.faults source.old) (S.faults source.new)) → ¬ (Rose (K.faults sink.old) (K.faults sink.new)) → ¬ (Rose (D.told disk).faults (D.told result.1).faults)
+        → IsCompleteFor task result.0 (D.told disk) N.opening N.layout N.script }
 {
     one_layout();
     each_image_opens_to_one_map();
+    disk_laws(&disk);
     match read_words(alloc, words) {
-        Ok(task) => perform(alloc, task, disk, source, sink),
+        Ok(task) => perform::<N, R, D, S, K, G>(rt, alloc, task, disk, source, sink, gate),
         Err(WordsFault::Usage) => (USAGE, disk),
         Err(WordsFault::Memory) => (MEMORY, disk),
     }
 }
 
-/// What words ask for: a new store of this layout; a script over one; a script over the store that stands there; or the demo of this seed and of so many
-/// rows over a new store.
+/// Does nothing; tells its caller the laws of the disk.
+fn disk_laws<D: Disk>(disk: &D)
+    ensures obeys { ObeysLaws (D.told disk.now) }
+    ensures only { (image : List ℕ) → IsTrue ((D.told disk.now).since (D.told disk.now).moment image) → IsTrue ((D.told disk.now).now image) }
+{
+    let _ = disk;
+}
+
+/// What words ask for: a new store of this layout; a script over one; a script over the store that stands there; both with one worker a session; or the demo
+/// of this seed and of so many rows over a new store.
 #[derive(Debug, Drop)]
 pub enum Task {
     Init(Layout),
     Run(Layout),
     RunStored,
+    Threads(Layout),
+    ThreadsStored,
     Demo {
         layout: Layout,
         seed: u32,
@@ -173,8 +202,11 @@ fn task_of(alloc: Global, command: Command) -> Result<Task, WordsFault>
             declarations,
         } => run_task(alloc, sizes, &declarations),
         Command::RunStored => Ok(Task::RunStored),
-        Command::Threads { .. } => Err(WordsFault::Usage),
-        Command::ThreadsStored => Err(WordsFault::Usage),
+        Command::Threads {
+            sizes,
+            declarations,
+        } => threads_task(alloc, sizes, &declarations),
+        Command::ThreadsStored => Ok(Task::ThreadsStored),
         Command::Demo { seed, rows } => demo_task(alloc, seed, rows),
     }
 }
@@ -219,6 +251,19 @@ fn run_task(alloc: Global, sizes: Sizes, declarations: &Words) -> Result<Task, W
     }
 }
 
+/// A script over one, by one worker a session.
+fn threads_task(alloc: Global, sizes: Sizes, declarations: &Words) -> Result<Task, WordsFault>
+    ensures asked { IfOk result (IsTaskOf (commands.Threads sizes declarations.now)) }
+    ensures alone { IfOk result (λ task. (other : Task) → IsTaskOf (commands.Threads sizes declarations.now) other → other ≡ task) }
+    ensures numbers { IfOk result HasNumbers }
+    ensures usage { result ≡ Err WordsFault.Usage → HasNoLayout sizes declarations.now }
+{
+    match layout_for(alloc, sizes, declarations) {
+        Ok(layout) => Ok(Task::Threads(layout)),
+        Err(fault) => Err(fault),
+    }
+}
+
 /// The layout of these sizes and of what the words declare.
 fn layout_for(alloc: Global, sizes: Sizes, declarations: &Words) -> Result<Layout, WordsFault>
     ensures made { IfOk result (IsLayoutFor sizes declarations.now) }
@@ -241,22 +286,32 @@ fn layout_of(schema: Schema, sizes: Sizes) -> Result<Layout, WordsFault>
 }
 
 /// Does the task.
-fn perform<D: Disk + Drop, S: Source, K: Sink>(
-    alloc: Global,
-    task: Task,
-    disk: D,
-    source: &mut S,
-    sink: &mut K,
-) -> (u8, D)
-    requires image { task ≡ tasks.RunStored → HoldsImage (D.told disk) }
+fn perform<
+    N: Names + Send,
+    R: Threads + Wait + Sync,
+    D: Disk + Send + Drop,
+    S: Source,
+    K: Sink,
+    G: Gate + Sync,
+>(rt: &R, alloc: Global, task: Task, disk: D, source: &mut S, sink: &mut K, gate: &G) -> (u8, D)
+    requires image { (task ≡ tasks.RunStored) ⊎ (task ≡ tasks.ThreadsStored) → HoldsImage (D.told disk) }
     requires numbers { HasNumbers task }
+    requires faults { IsThreaded task → N.faults ≡ (D.told disk).faults }
+    requires given { IsTrue N.honest → IsGivenFor task (D.told disk) (S.left source.old) N.opening N.layout N.script }
     ensures done { IsDoneSo task result.0 (D.told disk) (D.told result.1) (S.left source.old) (S.left source.new) (K.taken sink.old) (K.taken sink.new) (Rose (S.faults source.old) (S.faults source.new)) (Rose (K.faults sink.old) (K.faults sink.new)) }
-    ensures holds_on { HoldsOnFor task result.0 (D.told disk) (D.told result.1) }
+    ensures holds_on { IsThreaded task ⊎ HoldsOnFor task result.0 (D.told disk) (D.told result.1) }
+    ensures threads { IsTrue N.honest → IsWorkedFor task result.0 (D.told disk) (D.told result.1) (S.left source.old) (S.left source.new) (K.taken sink.old) (K.taken sink.new) N.opening N.layout N.script }
 {
     match task {
         Task::Init(layout) => init(&layout, disk),
         Task::Run(layout) => run_new(alloc, &layout, disk, source, sink),
         Task::RunStored => run_stored(alloc, disk, source, sink),
+        Task::Threads(layout) => {
+            run_new_threads::<N, R, D, S, K, G>(rt, alloc, &layout, disk, source, sink, gate)
+        }
+        Task::ThreadsStored => {
+            run_stored_threads::<N, R, D, S, K, G>(rt, alloc, disk, source, sink, gate)
+        }
         Task::Demo { layout, seed, rows } => {
             run_demo(alloc, &layout, DemoNumbers { seed, rows }, disk, sink)
         }

@@ -7,8 +7,8 @@ use crate::top::{Task, WordsFault, read_words};
 use block_model::{NoMemory, Words};
 use std::alloc::Global;
 
-/// How many bytes a disk has of which the words make a store: `init` does so, `run` with declarations, and `demo`. `None` for all other words. `Err` is want
-/// of memory.
+/// How many bytes a disk has of which the words make a store: `init` does so, `run` and `threads` with declarations, and `demo`. `None` for all other words.
+/// `Err` is want of memory.
 pub fn wanted_size(alloc: Global, words: &Words) -> Result<Option<u64>, NoMemory>
     ensures { IfOk result (IsWantedSize words.now) }
 {
@@ -27,6 +27,8 @@ fn size_for(task: &Task) -> Option<u64>
         Task::Init(layout) => Some(layout.disk_size()),
         Task::Run(layout) => Some(layout.disk_size()),
         Task::Demo { layout, .. } => Some(layout.disk_size()),
+        Task::Threads(layout) => Some(layout.disk_size()),
         Task::RunStored => None,
+        Task::ThreadsStored => None,
     }
 }

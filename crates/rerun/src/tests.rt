@@ -4,6 +4,8 @@ use crate::{Room, Streams, run_twice};
 use block_model::Words;
 use io_traits::{MemorySink, MemorySource};
 use std::alloc::Global;
+use std::sync::Wait;
+use std::thread::Threads;
 
 /// A store of one table, on a small disk.
 const MAKING: [&[u8]; 6] = [
@@ -45,16 +47,16 @@ fn streams(alloc: Global, script: &[u8]) -> Option<Streams> {
 }
 
 /// The statuses of the two runs, and whether the second script finds the row that the first one put. `None` where no store is made.
-fn found(alloc: Global) -> Option<(u8, u8, bool)> {
+fn found<R: Threads + Wait + Sync>(rt: &R, alloc: Global) -> Option<(u8, u8, bool)> {
     let making = words(alloc, &MAKING)?;
     let running = words(alloc, &RUNNING)?;
     let mut puts = streams(alloc, PUTS)?;
     let mut looks = streams(alloc, LOOKS)?;
-    let ends = run_twice(alloc, &making, &running, ROOM, &mut puts, &mut looks).ok()?;
+    let ends = run_twice(rt, alloc, &making, &running, ROOM, &mut puts, &mut looks).ok()?;
     Some((ends.first, ends.second, looks.texts.bytes() == FOUND))
 }
 
 #[test]
 fn the_second_script_finds_the_row_of_the_first(rt: HostRuntime) {
-    assert_eq!(rt; found(rt.alloc()), Some((0, 0, true)));
+    assert_eq!(rt; found(&rt, rt.alloc()), Some((0, 0, true)));
 }

@@ -1,11 +1,12 @@
 //! A run of the program over a disk.
 
-ghost use Rattle.std.specs.Prelude.{◌<◌};
+ghost use Rattle.std.specs.Prelude.{◌≡◌, ◌<◌, IfOk, true};
+ghost use Rattle.brin_app.specs.Tasks.{AsksForThreads};
 
 use block_model::{NoMemory, Words};
-use brin_app::brin_main;
+use brin_app::{DISK_FAULT, Stranger, asks_for_threads, brin_main};
 use disk_trait::{Disk, VeiledDisk};
-use io_traits::{MemorySink, MemorySource};
+use io_traits::{MemorySink, MemorySource, OpenGate};
 use std::alloc::Global;
 use std::str;
 
@@ -70,8 +71,10 @@ impl Answer {
     }
 }
 
-/// Runs the words and the script over the disk, and answers it. No row has to show what its disk holds, so it is veiled.
-pub fn run_on<D: Disk + Drop>(
+/// Runs the words and the script over the disk, and answers it. No row has to show what its disk holds, so it is veiled. Words of `threads` are for a disk on which no
+/// call has failed so far; over another one the status is `DISK_FAULT`.
+pub fn run_on<D: Disk + Send + Drop>(
+    rt: &HostRuntime,
     alloc: Global,
     words: &Words,
     script: &[u8],
@@ -85,8 +88,31 @@ pub fn run_on<D: Disk + Drop>(
     let mut source = MemorySource::new(script, piece, reads);
     let mut sink = MemorySink::new(alloc, streams.room, piece, writes)?;
     let veiled = VeiledDisk::over(disk);
-    let (status, veiled) = brin_main(alloc, words, veiled, &mut source, &mut sink);
+    if !may_run(alloc, words, veiled.faults())? {
+        let status = DISK_FAULT;
+        return Ok((Answer { status, sink }, veiled.into_inner()));
+    }
+    let (status, veiled) = brin_main::<Stranger, _, _, _, _, _>(
+        rt,
+        alloc,
+        words,
+        veiled,
+        &mut source,
+        &mut sink,
+        &OpenGate,
+    );
     Ok((Answer { status, sink }, veiled.into_inner()))
+}
+
+/// Whether the words may be run over a disk with so many faults: those of `threads` where it has none.
+fn may_run(alloc: Global, words: &Words, faults: u64) -> Result<bool, NoMemory>
+    ensures { IfOk result (λ may. may ≡ true → AsksForThreads words.now → 0 ≡ faults) }
+{
+    if faults == 0 {
+        return Ok(true);
+    }
+    let threads = asks_for_threads(alloc, words)?;
+    Ok(!threads)
 }
 
 /// The list of the call, if there is one.

@@ -13,6 +13,7 @@ use std::alloc::Global;
 /// Makes a run for each byte of the stretch. It is answered something, and its status is one of those that the row says, or that of a store, of none, or of
 /// a damaged one.
 pub fn check_bytes(
+    rt: &HostRuntime,
     alloc: Global,
     run: &Run<'_>,
     command: &Command<'_>,
@@ -29,7 +30,7 @@ pub fn check_bytes(
         turn(&mut turned, at, stretch.value);
         let script = run.lines.script.as_slice();
         let streams = Streams::large(65536);
-        let (answer, _) = run_on(alloc, &command.words, script, &streams, turned)?;
+        let (answer, _) = run_on(rt, alloc, &command.words, script, &streams, turned)?;
         if let Some(difference) = check_answer(alloc, run, at, &answer)? {
             return Ok((Some(difference), disk));
         }

@@ -37,6 +37,7 @@ fn troubled(
 
 /// Makes a run with trouble at a call, and leaves the image that the row picks.
 pub fn check_trouble(
+    rt: &HostRuntime,
     alloc: Global,
     run: &Run<'_>,
     command: &Command<'_>,
@@ -48,7 +49,7 @@ pub fn check_trouble(
     let disk = troubled(alloc, bytes.as_slice(), trouble, call)?;
     let streams = Streams::large(run.lines.replies.len());
     let script = run.lines.script.as_slice();
-    let (answer, disk) = run_on(alloc, &command.words, script, &streams, disk)?;
+    let (answer, disk) = run_on(rt, alloc, &command.words, script, &streams, disk)?;
     let replies = run.lines.replies.as_slice();
     let difference = answer_differs(alloc, command.text, replies, run.status, &answer)?;
     Ok((difference, SteadyDisk::from_image(disk.image(run.image)?)))
@@ -57,6 +58,7 @@ pub fn check_trouble(
 /// A run over a disk of these bytes, with one trouble.
 #[derive(Clone, Copy)]
 struct Case<'a, 'b> {
+    rt: &'a HostRuntime,
     alloc: Global,
     run: &'a Run<'a>,
     command: &'a Command<'a>,
@@ -70,6 +72,7 @@ type Ran = (Answer, MemoryDisk);
 
 /// Makes a run with each trouble at each call that is chosen, and without it. The disk that is left is that of the last one.
 pub fn check_calls<'a>(
+    rt: &'a HostRuntime,
     alloc: Global,
     run: &'a Run<'a>,
     command: &'a Command<'a>,
@@ -79,6 +82,7 @@ pub fn check_calls<'a>(
     let bytes = bytes_of(alloc, &mut disk)?;
     for trouble in [Trouble::Stop, Trouble::Fault] {
         let case = Case {
+            rt,
             alloc,
             run,
             command,
@@ -114,7 +118,14 @@ impl Case<'_, '_> {
         let disk = troubled(self.alloc, self.bytes, self.trouble, call)?;
         let streams = Streams::large(self.run.lines.replies.len());
         let script = self.run.lines.script.as_slice();
-        run_on(self.alloc, &self.command.words, script, &streams, disk)
+        run_on(
+            self.rt,
+            self.alloc,
+            &self.command.words,
+            script,
+            &streams,
+            disk,
+        )
     }
 
     /// A run whose call failed has status 6, and writes a front of the replies. Each image of its disk has the rows of the commits that were answered, or
@@ -128,7 +139,7 @@ impl Case<'_, '_> {
             return self.differs(call, 0, "a front of the replies", answer.text());
         }
         for pick in 0..count_images(disk, self.choice)? {
-            let seen = look(self.alloc, disk.image(pick)?)?;
+            let seen = look(self.rt, self.alloc, disk.image(pick)?)?;
             if !self.may_see(answer, seen.as_str()) {
                 return self.differs(call, pick, "the rows of its commits", seen.as_str());
             }
@@ -181,7 +192,7 @@ impl Case<'_, '_> {
             return self.differs(call, 0, "more calls", "fewer");
         }
         for pick in 0..count_images(disk, self.choice)? {
-            let seen = look(self.alloc, disk.image(pick)?)?;
+            let seen = look(self.rt, self.alloc, disk.image(pick)?)?;
             if !self.is_last(seen.as_str()) {
                 return self.differs(call, pick, "the rows of all commits", seen.as_str());
             }

@@ -21,12 +21,12 @@ z commit
 
 /// What a run over the bytes tells: the status where it isn't 0, all texts where a line was refused, and else the texts of its selects without their
 /// session.
-pub fn look(alloc: Global, bytes: Vec<u8>) -> Result<String, NoMemory> {
+pub fn look(rt: &HostRuntime, alloc: Global, bytes: Vec<u8>) -> Result<String, NoMemory> {
     let mut words = Words::new(alloc);
     words.push(b"run")?;
     let streams = Streams::large(65536);
     let disk = SteadyDisk::from_image(bytes);
-    let (answer, _) = run_on(alloc, &words, LOOK.as_bytes(), &streams, disk)?;
+    let (answer, _) = run_on(rt, alloc, &words, LOOK.as_bytes(), &streams, disk)?;
     let status = answer.status;
     if status != DONE {
         return Ok(format!(in alloc; "status {status}")?);

@@ -39,7 +39,7 @@ fn check_file(rt: &HostRuntime, file: &str) -> Result<Option<u64>, Error> {
 /// How many rows there are, where each holds.
 fn check_rows(rt: &HostRuntime, file: &str, rows: &[Row<'_>]) -> Result<Option<u64>, Error> {
     for row in rows {
-        match check_row(rt.alloc(), row) {
+        match check_row(rt, rt.alloc(), row) {
             Ok(None) => {}
             Ok(Some(difference)) => {
                 tell(rt, file, row.name, &difference)?;

@@ -12,6 +12,7 @@ use std::str;
 /// Two statements, of so many steps together, in a row's run.
 #[derive(Clone, Copy)]
 struct Pair<'a> {
+    rt: &'a HostRuntime,
     alloc: Global,
     run: &'a Run<'a>,
     command: &'a Command<'a>,
@@ -22,6 +23,7 @@ struct Pair<'a> {
 
 /// Makes the run in each order of the steps.
 pub fn check_orders<'a>(
+    rt: &'a HostRuntime,
     alloc: Global,
     run: &'a Run<'a>,
     command: &'a Command<'a>,
@@ -31,6 +33,7 @@ pub fn check_orders<'a>(
     };
     let steps = first.steps.saturating_add(second.steps);
     let pair = Pair {
+        rt,
         alloc,
         run,
         command,
@@ -63,7 +66,7 @@ impl Pair<'_> {
         let streams = Streams::large(65536);
         let disk = new_disk(alloc, self.command)?;
         let words = &self.command.words;
-        let (answer, _) = run_on(alloc, words, script.as_slice(), &streams, disk)?;
+        let (answer, _) = run_on(self.rt, alloc, words, script.as_slice(), &streams, disk)?;
         let place = format!(in alloc; "order {order:b}")?;
         let place = place.as_str();
         if answer.status != DONE {

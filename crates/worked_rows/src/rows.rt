@@ -17,10 +17,14 @@ use std::mem;
 pub type Outcome = (Option<Difference>, SteadyDisk);
 
 /// Where the row doesn't hold, with bytes one by one or in large pieces.
-pub fn check_row(alloc: Global, row: &Row<'_>) -> Result<Option<Difference>, NoMemory> {
+pub fn check_row(
+    rt: &HostRuntime,
+    alloc: Global,
+    row: &Row<'_>,
+) -> Result<Option<Difference>, NoMemory> {
     for piece in [Piece::Byte, Piece::Large] {
         if is_made_by(row, piece)
-            && let Some(difference) = check_runs(alloc, row, piece)?
+            && let Some(difference) = check_runs(rt, alloc, row, piece)?
         {
             return Ok(Some(difference));
         }
@@ -45,7 +49,12 @@ fn is_plain(way: Way) -> bool {
     matches!(way, Way::Plain)
 }
 
-fn check_runs(alloc: Global, row: &Row<'_>, piece: Piece) -> Result<Option<Difference>, NoMemory> {
+fn check_runs(
+    rt: &HostRuntime,
+    alloc: Global,
+    row: &Row<'_>,
+    piece: Piece,
+) -> Result<Option<Difference>, NoMemory> {
     let mut disks = Disks {
         alloc,
         left: SteadyDisk::new(alloc, 0)?,
@@ -54,7 +63,7 @@ fn check_runs(alloc: Global, row: &Row<'_>, piece: Piece) -> Result<Option<Diffe
     for run in row.runs.iter() {
         disks.keep(row, run)?;
         for command in run.commands.iter() {
-            if let Some(difference) = disks.check(run, command, piece)? {
+            if let Some(difference) = disks.check(rt, run, command, piece)? {
                 return Ok(Some(difference));
             }
         }
@@ -82,6 +91,7 @@ impl Disks {
     /// Makes a run.
     fn check(
         &mut self,
+        rt: &HostRuntime,
         run: &Run<'_>,
         command: &Command<'_>,
         piece: Piece,
@@ -93,7 +103,7 @@ impl Disks {
                 return Ok(Some(difference));
             }
         }
-        let (difference, disk) = outcome(self.alloc, run, command, piece, disk)?;
+        let (difference, disk) = outcome(rt, self.alloc, run, command, piece, disk)?;
         self.left = disk;
         Ok(difference)
     }
@@ -124,6 +134,7 @@ fn has_second_start(row: &Row<'_>) -> bool {
 
 /// Makes a run in its way.
 fn outcome(
+    rt: &HostRuntime,
     alloc: Global,
     run: &Run<'_>,
     command: &Command<'_>,
@@ -132,18 +143,19 @@ fn outcome(
 ) -> Result<Outcome, NoMemory> {
     match run.way {
         Way::Plain | Way::Large | Way::Read(_) | Way::Write(_) => {
-            check_plain(alloc, run, command, piece, disk)
+            check_plain(rt, alloc, run, command, piece, disk)
         }
-        Way::Call(trouble, call) => check_trouble(alloc, run, command, disk, trouble, call),
-        Way::EachCall(choice) => check_calls(alloc, run, command, disk, choice),
-        Way::EachOrder => Ok((check_orders(alloc, run, command)?, disk)),
-        Way::EachByte(stretch) => check_bytes(alloc, run, command, disk, stretch),
+        Way::Call(trouble, call) => check_trouble(rt, alloc, run, command, disk, trouble, call),
+        Way::EachCall(choice) => check_calls(rt, alloc, run, command, disk, choice),
+        Way::EachOrder => Ok((check_orders(rt, alloc, run, command)?, disk)),
+        Way::EachByte(stretch) => check_bytes(rt, alloc, run, command, disk, stretch),
         Way::Wants(size) => Ok((check_wanted(alloc, command, size)?, disk)),
     }
 }
 
 /// Makes a run on whose disk no call fails.
 fn check_plain(
+    rt: &HostRuntime,
     alloc: Global,
     run: &Run<'_>,
     command: &Command<'_>,
@@ -159,7 +171,7 @@ fn check_plain(
         ..Streams::large(replies.len())
     };
     let script = run.lines.script.as_slice();
-    let (answer, disk) = run_on(alloc, &command.words, script, &streams, disk)?;
+    let (answer, disk) = run_on(rt, alloc, &command.words, script, &streams, disk)?;
     let difference = answer_differs(alloc, command.text, replies, run.status, &answer)?;
     Ok((difference, disk))
 }

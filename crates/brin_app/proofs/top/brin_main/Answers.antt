@@ -1,13 +1,54 @@
-use Rattle.std.proofs.Common.{Err, refl, ap, subst}
+use Rattle.std.proofs.Common.{Err, refl, ap, subst, inl, inr}
 use Rattle.brin_app.specs.Tasks.{Asks}
 use Rattle.brin_app.proofs.Doing.{idle_complete_of, idle_output, idle_refused_of, idle_spent_of}
-use Rattle.brin_app.proofs.Holding.{holds_words, idle_on, laws_of, run_only}
+use Rattle.brin_app.proofs.Holding.{holds_words, idle_on, run_only}
 use Rattle.brin_app.proofs.Known.{is_2, is_7}
 use Rattle.brin_app.proofs.Performed.{performed}
+use Rattle.brin_app.proofs.Threading.{complete_for, idle_completed, idle_worked, spent_for, worked_task}
 use Rattle.brin_app.proofs.top.brin_main.Goals as goal
 
 pub perform-requires-clause-image : goal.perform-requires-clause-image
-perform-requires-clause-image g c = λ is. c.requires (subst (Asks c.args.words.now) is c.in-Ok.ensures.asked)
+perform-requires-clause-image g c κs within is = elim is [
+  | inl run ↦ c.requires.image (subst (Asks c.args.words.now) run c.in-Ok.ensures.asked)
+  | inr threads ↦ c.requires.threads_image (subst (Asks c.args.words.now) threads c.in-Ok.ensures.asked)
+]
+
+pub perform-requires-clause-faults : goal.perform-requires-clause-faults
+perform-requires-clause-faults g c κs within threaded = c.requires.faults (c.in-Ok.task, c.in-Ok.ensures.asked, threaded)
+
+pub perform-requires-clause-given : goal.perform-requires-clause-given
+perform-requires-clause-given g c κs within honest = c.requires.given honest c.in-Ok.task c.in-Ok.ensures.asked
+
+pub returns-in-Ok-clause-threads_output : goal.returns-in-Ok-clause-threads_output
+returns-in-Ok-clause-threads_output g c = λ honest task asked. worked_task c.perform.result.0 (g.D.Disk.told c.args.disk) (g.D.Disk.told c.perform.result.1) (g.S.Source.left c.args.source.now) (g.S.Source.left c.perform.new.source) (g.K.Sink.taken c.args.sink.now) (g.K.Sink.taken c.perform.new.sink)
+    g.N.Names.opening g.N.Names.layout g.N.Names.script c.in-Ok.task task (c.in-Ok.ensures.alone task asked) (c.perform.ensures.threads honest)
+
+pub returns-in-Ok-clause-threads_spent : goal.returns-in-Ok-clause-threads_spent
+returns-in-Ok-clause-threads_spent g c = λ honest asks eight.
+    spent_for g.N.Names.opening g.N.Names.layout g.N.Names.script (g.D.Disk.told c.perform.result.1) (g.K.Sink.taken c.args.sink.now) (g.K.Sink.taken c.perform.new.sink) c.perform.result.0 (g.D.Disk.told c.args.disk)
+    (g.S.Source.left c.args.source.now) (g.S.Source.left c.perform.new.source) asks.0 asks.2 (worked_task c.perform.result.0 (g.D.Disk.told c.args.disk) (g.D.Disk.told c.perform.result.1) (g.S.Source.left c.args.source.now) (g.S.Source.left c.perform.new.source) (g.K.Sink.taken c.args.sink.now) (g.K.Sink.taken c.perform.new.sink)
+    g.N.Names.opening g.N.Names.layout g.N.Names.script c.in-Ok.task asks.0 (c.in-Ok.ensures.alone asks.0 asks.1) (c.perform.ensures.threads honest)) eight
+
+pub returns-in-Ok-clause-threads_complete : goal.returns-in-Ok-clause-threads_complete
+returns-in-Ok-clause-threads_complete g c = λ honest task asked no_read no_write no_disk.
+    complete_for g.N.Names.opening g.N.Names.layout g.N.Names.script (g.D.Disk.told c.perform.result.1) (g.K.Sink.taken c.args.sink.now) (g.K.Sink.taken c.perform.new.sink) c.perform.result.0 (g.D.Disk.told c.args.disk)
+    (g.S.Source.left c.args.source.now) (g.S.Source.left c.perform.new.source) task (c.requires.given honest task asked) (worked_task c.perform.result.0 (g.D.Disk.told c.args.disk) (g.D.Disk.told c.perform.result.1) (g.S.Source.left c.args.source.now) (g.S.Source.left c.perform.new.source) (g.K.Sink.taken c.args.sink.now) (g.K.Sink.taken c.perform.new.sink)
+    g.N.Names.opening g.N.Names.layout g.N.Names.script c.in-Ok.task task (c.in-Ok.ensures.alone task asked) (c.perform.ensures.threads honest))
+    (λ e. no_read (c.perform.ensures.done.read_fault e)) (λ e. no_write (c.perform.ensures.done.write_fault e)) (λ e. no_disk (c.perform.ensures.done.disk_fault e))
+    (performed c.args.words.now c.in-Ok.task c.in-Ok.ensures.alone c.perform.ensures.done task asked).no_store
+
+pub returns-in-Err-Usage-clause-threads_output : goal.returns-in-Err-Usage-clause-threads_output
+returns-in-Err-Usage-clause-threads_output g c = λ _ task asked. absurd (c.in-Err-Usage.ensures.nothing (ap Err c.in-Err-Usage.field-0-is) task asked)
+
+pub returns-in-Err-Usage-clause-threads_complete : goal.returns-in-Err-Usage-clause-threads_complete
+returns-in-Err-Usage-clause-threads_complete g c = λ _ task asked. absurd (c.in-Err-Usage.ensures.nothing (ap Err c.in-Err-Usage.field-0-is) task asked)
+
+pub returns-in-Err-Memory-clause-threads_output : goal.returns-in-Err-Memory-clause-threads_output
+returns-in-Err-Memory-clause-threads_output g c = λ _ task _. idle_worked (g.D.Disk.told c.args.disk) _ _ c.disk_laws.ensures.only _ _ _ task
+
+pub returns-in-Err-Memory-clause-threads_complete : goal.returns-in-Err-Memory-clause-threads_complete
+returns-in-Err-Memory-clause-threads_complete g c = λ _ task _ _ _ _.
+    idle_completed (g.D.Disk.told c.args.disk) (g.S.Source.left c.args.source.now) (g.K.Sink.taken c.args.sink.now) c.disk_laws.ensures.only _ _ _ task
 
 pub returns-in-Ok-clause-known : goal.returns-in-Ok-clause-known
 returns-in-Ok-clause-known g c = c.perform.ensures.done.known
@@ -70,26 +111,27 @@ pub returns-in-Err-Memory-clause-known : goal.returns-in-Err-Memory-clause-known
 returns-in-Err-Memory-clause-known g c = is_7
 
 pub returns-in-Err-Memory-clause-script_output : goal.returns-in-Err-Memory-clause-script_output
-returns-in-Err-Memory-clause-script_output g c = λ task _. idle_output (g.D.Disk.told c.args.disk) _ _ (g.met.D.Disk.since_now_is_now c.args.disk) task
+returns-in-Err-Memory-clause-script_output g c = λ task _. idle_output (g.D.Disk.told c.args.disk) _ _ c.disk_laws.ensures.only task
 
 pub returns-in-Err-Memory-clause-refused_disk : goal.returns-in-Err-Memory-clause-refused_disk
-returns-in-Err-Memory-clause-refused_disk g c = λ task _. idle_refused_of (g.D.Disk.told c.args.disk) _ _ (g.met.D.Disk.since_now_is_now c.args.disk) task
+returns-in-Err-Memory-clause-refused_disk g c = λ task _. idle_refused_of (g.D.Disk.told c.args.disk) _ _ c.disk_laws.ensures.only task
 
 pub returns-in-Err-Memory-clause-spent : goal.returns-in-Err-Memory-clause-spent
-returns-in-Err-Memory-clause-spent g c = λ task _. idle_spent_of (g.D.Disk.told c.args.disk) _ (g.K.Sink.taken c.args.sink.now) (g.met.D.Disk.since_now_is_now c.args.disk) task
+returns-in-Err-Memory-clause-spent g c = λ task _. idle_spent_of (g.D.Disk.told c.args.disk) _ (g.K.Sink.taken c.args.sink.now) c.disk_laws.ensures.only task
 
 pub returns-in-Err-Memory-clause-complete : goal.returns-in-Err-Memory-clause-complete
-returns-in-Err-Memory-clause-complete g c = λ task _ _ _ _. idle_complete_of (g.D.Disk.told c.args.disk) _ (g.K.Sink.taken c.args.sink.now) (g.met.D.Disk.since_now_is_now c.args.disk) task
+returns-in-Err-Memory-clause-complete g c = λ task _ _ _ _. idle_complete_of (g.D.Disk.told c.args.disk) _ (g.K.Sink.taken c.args.sink.now) c.disk_laws.ensures.only task
 
 pub returns-in-Ok-clause-holds_on : goal.returns-in-Ok-clause-holds_on
-returns-in-Ok-clause-holds_on g c = holds_words c.args.words.now c.in-Ok.task c.in-Ok.ensures.alone c.perform.ensures.holds_on
+returns-in-Ok-clause-holds_on g c = elim c.perform.ensures.holds_on [
+  | inl threaded ↦ inl (c.in-Ok.task, c.in-Ok.ensures.asked, threaded, c.in-Ok.ensures.alone)
+  | inr holds ↦ inr (holds_words c.args.words.now c.in-Ok.task c.in-Ok.ensures.alone holds)
+]
 
 pub returns-in-Err-Usage-clause-holds_on : goal.returns-in-Err-Usage-clause-holds_on
 returns-in-Err-Usage-clause-holds_on g c =
-    let obeys = laws_of g.D.Disk.told g.met.D.Disk.images_need_contents g.met.D.Disk.contents_are_an_image g.met.D.Disk.now_is_since in
-    idle_on c.one_layout.ensures c.each_image_opens_to_one_map.ensures c.args.words.now 2 (g.D.Disk.told c.args.disk) (obeys c.args.disk) (λ run. (run_only 2 run).4 refl)
+    inr (idle_on c.one_layout.ensures c.each_image_opens_to_one_map.ensures c.args.words.now 2 (g.D.Disk.told c.args.disk) c.disk_laws.ensures.obeys (λ run. (run_only 2 run).4 refl))
 
 pub returns-in-Err-Memory-clause-holds_on : goal.returns-in-Err-Memory-clause-holds_on
 returns-in-Err-Memory-clause-holds_on g c =
-    let obeys = laws_of g.D.Disk.told g.met.D.Disk.images_need_contents g.met.D.Disk.contents_are_an_image g.met.D.Disk.now_is_since in
-    idle_on c.one_layout.ensures c.each_image_opens_to_one_map.ensures c.args.words.now 7 (g.D.Disk.told c.args.disk) (obeys c.args.disk) (λ run. (run_only 7 run).1 refl)
+    inr (idle_on c.one_layout.ensures c.each_image_opens_to_one_map.ensures c.args.words.now 7 (g.D.Disk.told c.args.disk) c.disk_laws.ensures.obeys (λ run. (run_only 7 run).1 refl))

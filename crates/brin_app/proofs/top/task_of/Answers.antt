@@ -4,7 +4,7 @@ use Rattle.command_line.specs.declared.command.Command.{Command}
 use Rattle.brin_app.specs.declared.top.Task.{Task}
 use Rattle.brin_app.specs.declared.top.Task.TheVariants as tasks
 use Rattle.brin_app.specs.Tasks.{HasDemoNumbers, IsTaskOf, IsWrong}
-use Rattle.brin_app.proofs.Asked.{stored_alone}
+use Rattle.brin_app.proofs.Asked.{stored_alone, threads_stored_alone}
 use Rattle.brin_app.proofs.top.task_of.Goals as goal
 
 pub returns-in-Init-clause-asked : goal.returns-in-Init-clause-asked
@@ -33,21 +33,31 @@ returns-in-RunStored-clause-asked c = subst (λ (m : Command). IsTaskOf m tasks.
 pub returns-in-RunStored-clause-alone : goal.returns-in-RunStored-clause-alone
 returns-in-RunStored-clause-alone c = subst (λ (m : Command). (other : Task) → IsTaskOf m other → other ≡ tasks.RunStored) (sym c.in-RunStored.is) stored_alone
 
-pub returns-in-Threads-clause-usage : goal.returns-in-Threads-clause-usage
-returns-in-Threads-clause-usage c = λ e. subst IsWrong (sym c.in-Threads.is) tt
+pub returns-in-Threads-clause-asked : goal.returns-in-Threads-clause-asked
+returns-in-Threads-clause-asked c = subst (λ (m : Command). IfOk c.threads_task.result (IsTaskOf m)) (sym c.in-Threads.is) c.threads_task.ensures.asked
 
-pub returns-in-ThreadsStored-clause-usage : goal.returns-in-ThreadsStored-clause-usage
-returns-in-ThreadsStored-clause-usage c = λ e. subst IsWrong (sym c.in-ThreadsStored.is) tt
+pub returns-in-Threads-clause-alone : goal.returns-in-Threads-clause-alone
+returns-in-Threads-clause-alone c =
+    subst (λ (m : Command). IfOk c.threads_task.result (λ task. (other : Task) → IsTaskOf m other → other ≡ task)) (sym c.in-Threads.is) c.threads_task.ensures.alone
+
+pub returns-in-Threads-clause-usage : goal.returns-in-Threads-clause-usage
+returns-in-Threads-clause-usage c = λ e. subst IsWrong (sym c.in-Threads.is) (c.threads_task.ensures.usage e)
+
+pub returns-in-ThreadsStored-clause-asked : goal.returns-in-ThreadsStored-clause-asked
+returns-in-ThreadsStored-clause-asked c = subst (λ (m : Command). IsTaskOf m tasks.ThreadsStored) (sym c.in-ThreadsStored.is) tt
+
+pub returns-in-ThreadsStored-clause-alone : goal.returns-in-ThreadsStored-clause-alone
+returns-in-ThreadsStored-clause-alone c = subst (λ (m : Command). (other : Task) → IsTaskOf m other → other ≡ tasks.ThreadsStored) (sym c.in-ThreadsStored.is) threads_stored_alone
 
 pub demo_task-requires : goal.demo_task-requires
 demo_task-requires c = subst HasDemoNumbers c.in-Demo.is c.requires
 
-pub returns-clause-asked : goal.returns-clause-asked
-returns-clause-asked c = subst (λ (m : Command). IfOk c.demo_task.result (IsTaskOf m)) (sym c.in-Demo.is) c.demo_task.ensures.asked
+pub returns-in-Demo-clause-asked : goal.returns-in-Demo-clause-asked
+returns-in-Demo-clause-asked c = subst (λ (m : Command). IfOk c.demo_task.result (IsTaskOf m)) (sym c.in-Demo.is) c.demo_task.ensures.asked
 
-pub returns-clause-alone : goal.returns-clause-alone
-returns-clause-alone c =
+pub returns-in-Demo-clause-alone : goal.returns-in-Demo-clause-alone
+returns-in-Demo-clause-alone c =
     subst (λ (m : Command). IfOk c.demo_task.result (λ task. (other : Task) → IsTaskOf m other → other ≡ task)) (sym c.in-Demo.is) c.demo_task.ensures.alone
 
-pub returns-clause-usage : goal.returns-clause-usage
-returns-clause-usage c = λ e. absurd (c.demo_task.ensures.memory e)
+pub returns-in-Demo-clause-usage : goal.returns-in-Demo-clause-usage
+returns-in-Demo-clause-usage c = λ e. absurd (c.demo_task.ensures.memory e)

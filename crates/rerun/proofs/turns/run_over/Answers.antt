@@ -1,13 +1,10 @@
-use Rattle.brin_app.specs.declared.top.Task.TheVariants.{RunStored}
-use Rattle.rerun.proofs.Turning.{runs_over}
+use Rattle.std.proofs.Common.{refl}
+use Rattle.disk_trait.specs.Memory.{told_by_memory}
+use Rattle.brin_app.proofs.Holding.{run_only}
 use Rattle.rerun.proofs.turns.run_over.Goals as goal
 
-pub brin_main-requires : goal.brin_main-requires
-brin_main-requires c = λ _. c.requires
+pub returns-in-Ok-true-clause-ran : goal.returns-in-Ok-true-clause-ran
+returns-in-Ok-true-clause-ran g c = λ _ has. absurd ((run_only 2 has).4 refl)
 
-pub returns-clause-ran : goal.returns-clause-ran
-returns-clause-ran c = λ asked has layout table sure.
-    runs_over layout table c.brin_main.result.0 _ _ _ _ sure (c.brin_main.ensures.holds_on.kept (layout, table, sure)) has (c.brin_main.ensures.script_output RunStored asked)
-
-pub returns-clause-image : goal.returns-clause-image
-returns-clause-image c = λ store. (c.brin_main.ensures.holds_on.kept store).image
+pub returns-in-Err-clause-ran : goal.returns-in-Err-clause-ran
+returns-in-Err-clause-ran g c = λ _ has. absurd ((run_only 7 has).1 refl)

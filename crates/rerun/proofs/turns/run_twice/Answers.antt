@@ -4,12 +4,12 @@ use Rattle.brin_app.specs.Place.{database_at}
 use Rattle.rerun.proofs.turns.run_twice.Goals as goal
 
 pub run_over-one-requires : goal.run_over-one-requires
-run_over-one-requires c = c.in_ok-disk.ensures.store.image
+run_over-one-requires g c sync = c.in_ok-disk.ensures.store.image
 
 pub run_over-two-requires : goal.run_over-two-requires
-run_over-two-requires c = c.run_over-one.ensures.image (c.in_ok-disk.ensures.store.store (λ e. omega (arith, e)))
+run_over-two-requires g c sync = c.run_over-one.ensures.image (c.in_ok-disk.ensures.store.store (λ e. omega (arith, e)))
 
 pub returns : goal.returns
-returns c = λ layout making running first second.
+returns g c = λ layout making running first second.
     let one = c.run_over-one.ensures.ran running first layout initial_state.table (c.in_ok-disk.ensures.empty layout making) in
     record { made = _; between = _; one = one; two = c.run_over-two.ensures.ran running second layout (database_at one.run.after).table one.holds }

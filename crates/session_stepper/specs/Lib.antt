@@ -1,0 +1,9 @@
+pub mod NoLayout
+pub mod EntryCode
+pub mod Statuses
+pub mod TranscribedState
+pub mod Calls
+pub mod Transcribed
+pub mod Locked
+pub mod Beginning
+pub mod StateCode

@@ -1,0 +1,5 @@
+pub mod PlaceSums
+pub mod SaidOnce
+pub mod WrittenParts
+pub mod Taking
+pub mod Outcomes
