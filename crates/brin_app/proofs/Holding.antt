@@ -118,7 +118,7 @@ holds_words {status} words task alone holds = record {
 
 module _ (one : HaveOneLayout) (map : (layout : DiskLayout) → OpenToOneMap layout) where
   -- the contents are an image of a store, and open to nothing else
-  image_held : (disk : Told) (layout : DiskLayout) (table : TableState) → IsImageWith layout table disk.contents → HoldsImage disk
+  pub image_held : (disk : Told) (layout : DiskLayout) (table : TableState) → IsImageWith layout table disk.contents → HoldsImage disk
   image_held disk layout table has tells other pages opens =
       let same : layout ≡ other = one (take PAGE_SIZE disk.contents) layout other has.1.control opens.control in
       let own : OpensAs layout disk.contents pages = subst (λ (m : DiskLayout). OpensAs m disk.contents pages) (sym same) opens in

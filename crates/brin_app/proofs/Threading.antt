@@ -30,18 +30,21 @@ use Rattle.session_parts.specs.ShowsPlace.{ShowsPlace}
 use Rattle.session_parts.specs.StoreStates.{StoreState}
 use Rattle.session_core.specs.Started.{HoldsImage, ImagesStay}
 use Rattle.session_core.specs.StopRule.{AllHaveTable, IsImageWith}
+use Rattle.transactions.specs.FoundLaws.{table_committed}
 use Rattle.session_core.specs.StoreImage.{IsStoreImage, database_with, opened_at}
 use Rattle.threads_run.specs.Given.{IsOpenedFor, IsTakenSo, TakesBytes}
 use Rattle.threads_run.specs.Output.{IsThreadsOutput, IsUnbegun, HasWorked}
 use Rattle.brin_app.specs.declared.status.TheConstants.{SCRIPT_LIMIT}
 use Rattle.brin_app.specs.declared.top.Task.{Task}
 use Rattle.brin_app.specs.declared.top.Task.TheVariants.{Demo, Init, Run, RunStored, Threads, ThreadsStored}
+use Rattle.brin_app.specs.Holding.{HasRun, ObeysLaws}
 use Rattle.brin_app.specs.ScriptOutput.{EachImageHas, HoldsTable, IsOldOrEmpty, IsUnmade, IsUnopened, StartsOver, exit_status}
 use Rattle.brin_app.specs.StatusCauses.{IsDoneSo, IsSpentPast, LacksStore}
 use Rattle.brin_app.specs.Statuses.{IsFit, IsStatus, IsUnfit, start_status}
 use Rattle.brin_app.specs.Tasks.{Asks, IsThreaded}
 use Rattle.brin_app.specs.Threads.{FillsJournalSo, HasRead, HasWorkers, IsCompleteFor, IsGivenFor, IsGivenNew, IsGivenStored, IsTooMuch, IsWorkedFor}
-use Rattle.brin_app.proofs.Doing.{AreNotDamaged, HaveOneLayout, has_store, idle, undamaged}
+use Rattle.brin_app.proofs.Doing.{AreNotDamaged, HaveOneLayout, OpenToOneMap, has_store, idle, undamaged}
+use Rattle.brin_app.proofs.Holding.{image_held, run_only}
 use Rattle.brin_app.proofs.Outputs.{came_length, idle_past, spent_end}
 
 -- ---- the opening
@@ -336,6 +339,41 @@ module _ (opening : DatabaseState) (layout : DiskLayout) (script : List ℕ) (ne
   complete_for status old left left' (Demo made seed rows) given worked read write disk_ lacks = tt
 
 -- ---- words
+
+-- ---- a further run
+
+module _ (opening : DatabaseState) (layout : DiskLayout) (script : List ℕ) (new : Told) (taken taken' : Option (List ℕ)) where
+  -- each image has some table
+  some_table : (status : ℕ) → HasWorkers status opening layout script new taken taken' → (image : List ℕ) → IsTrue (new.now image) → (table : TableState) × IsImageWith layout table image
+  some_table status run image now = elim run.output [
+    | inl none ↦ (opening.table, none.images image now)
+    | inr ran ↦ elim ran.1.images.1 image now [
+      | inl has ↦ (ran.1.s.table, has)
+      | inr commits ↦ (table_committed ran.1.s ran.1.images.0, commits.1)
+    ]
+  ]
+
+  module _ (one : HaveOneLayout) (map : (layout : DiskLayout) → OpenToOneMap layout) (laws : ObeysLaws new) (images : IsTrue new.tells_images) where
+    holds_by : (status : ℕ) → HasWorkers status opening layout script new taken taken' → HoldsImage new
+    holds_by status run = let has = some_table status run new.contents (laws.here images) in image_held one map new layout has.0 has.1
+
+    -- a further run may be called where the workers have run
+    pub holds_for : (status : ℕ) (old : Told) (left left' : Option (List ℕ)) (task : Task) → IsThreaded task → IsWorkedFor task status old new left left' taken taken' opening layout script → HasRun status → HoldsImage new
+    holds_for status old left left' (Threads made) is (inl un) has = elim un.why [
+      | inl six ↦ absurd ((run_only status has).0 six)
+      | inr (inl seven) ↦ absurd ((run_only status has).1 seven)
+      | inr (inr nine) ↦ absurd ((run_only status has).2 nine)
+    ]
+    holds_for status old left left' (Threads made) is (inr run) has = holds_by status run.1
+    holds_for status old left left' ThreadsStored is (inl un) has = elim un.why [
+      | inl six ↦ absurd ((run_only status has).0 six)
+      | inr seven ↦ absurd ((run_only status has).1 seven)
+    ]
+    holds_for status old left left' ThreadsStored is (inr run) has = holds_by status run
+    holds_for status old left left' (Init made) is worked has = absurd is
+    holds_for status old left left' (Run made) is worked has = absurd is
+    holds_for status old left left' RunStored is worked has = absurd is
+    holds_for status old left left' (Demo made seed rows) is worked has = absurd is
 
 pub worked_task : (status : ℕ) (old new : Told) (l l' k k' : Option (List ℕ)) (opening : DatabaseState) (layout : DiskLayout) (script : List ℕ) (task other : Task) → other ≡ task
     → IsWorkedFor task status old new l l' k k' opening layout script → IsWorkedFor other status old new l l' k k' opening layout script

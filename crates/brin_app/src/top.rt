@@ -13,7 +13,7 @@ ghost use Rattle.session_parts.specs.ShowsPlace.{ShowsPlace};
 ghost use Rattle.session_core.specs.StopRule.{AllHaveTable};
 ghost use Rattle.session_core.specs.Started.{HoldsImage};
 ghost use Rattle.session_core.specs.FreshPages.{IsOldOrFresh};
-ghost use Rattle.brin_app.specs.Holding.{HoldsOn, HoldsOnFor, ObeysLaws};
+ghost use Rattle.brin_app.specs.Holding.{HasRun, HoldsOn, HoldsOnFor, ObeysLaws};
 ghost use Rattle.brin_app.specs.ScriptOutput.{EachImageHas, EachImageIsFresh, HoldsFresh, IsFreshOutput, IsMade, IsOldOrEmpty, IsScriptRun, exit_status};
 ghost use Rattle.brin_app.specs.StatusCauses.{HasDamage, IsCompleteOf, IsDoneSo, IsRefusedSo, IsSpentOf, LacksStore};
 ghost use Rattle.brin_app.specs.Statuses.{IsFit, IsStatus, IsUnfit, format_status, start_status};
@@ -82,6 +82,8 @@ pub fn brin_main<
     ensures holds_on { AsksOnlyForThreads words.now ⊎ HoldsOn words.now result.0 (D.told disk) (D.told result.1) }
     // What becomes of a script of `threads` over an honest name: it has a right transcript, which is written.
     ensures threads_output { IsTrue N.honest → (task : Task) → Asks words.now task → IsWorkedFor task result.0 (D.told disk) (D.told result.1) (S.left source.old) (S.left source.new) (K.taken sink.old) (K.taken sink.new) N.opening N.layout N.script }
+    // A further run may be called over what stands on the disk then.
+    ensures threads_holds_on { IsTrue N.honest → AsksForThreads words.now → HasRun result.0 → IsTrue (D.told result.1).tells_images → HoldsImage (D.told result.1) }
 
     // Which statuses there are, and when each comes. Want of memory, 7, is free.
     ensures known { IsStatus result.0 }

@@ -1,10 +1,10 @@
 use Rattle.std.proofs.Common.{Err, refl, ap, subst, inl, inr}
 use Rattle.brin_app.specs.Tasks.{Asks}
 use Rattle.brin_app.proofs.Doing.{idle_complete_of, idle_output, idle_refused_of, idle_spent_of}
-use Rattle.brin_app.proofs.Holding.{holds_words, idle_on, run_only}
+use Rattle.brin_app.proofs.Holding.{holds_words, idle_on, laws_of, run_only}
 use Rattle.brin_app.proofs.Known.{is_2, is_7}
 use Rattle.brin_app.proofs.Performed.{performed}
-use Rattle.brin_app.proofs.Threading.{complete_for, idle_completed, idle_worked, spent_for, worked_task}
+use Rattle.brin_app.proofs.Threading.{complete_for, holds_for, idle_completed, idle_worked, spent_for, worked_task}
 use Rattle.brin_app.proofs.top.brin_main.Goals as goal
 
 pub perform-requires-clause-image : goal.perform-requires-clause-image
@@ -29,6 +29,14 @@ returns-in-Ok-clause-threads_spent g c = λ honest asks eight.
     (g.S.Source.left c.args.source.now) (g.S.Source.left c.perform.new.source) asks.0 asks.2 (worked_task c.perform.result.0 (g.D.Disk.told c.args.disk) (g.D.Disk.told c.perform.result.1) (g.S.Source.left c.args.source.now) (g.S.Source.left c.perform.new.source) (g.K.Sink.taken c.args.sink.now) (g.K.Sink.taken c.perform.new.sink)
     g.N.Names.opening g.N.Names.layout g.N.Names.script c.in-Ok.task asks.0 (c.in-Ok.ensures.alone asks.0 asks.1) (c.perform.ensures.threads honest)) eight
 
+pub returns-in-Ok-clause-threads_holds_on : goal.returns-in-Ok-clause-threads_holds_on
+returns-in-Ok-clause-threads_holds_on g c = λ honest asks ran images.
+    let obeys = laws_of g.D.Disk.told g.met.D.Disk.images_need_contents g.met.D.Disk.contents_are_an_image g.met.D.Disk.now_is_since in
+    holds_for g.N.Names.opening g.N.Names.layout g.N.Names.script (g.D.Disk.told c.perform.result.1) (g.K.Sink.taken c.args.sink.now) (g.K.Sink.taken c.perform.new.sink) c.one_layout.ensures c.each_image_opens_to_one_map.ensures
+    (obeys c.perform.result.1) images c.perform.result.0 (g.D.Disk.told c.args.disk) (g.S.Source.left c.args.source.now) (g.S.Source.left c.perform.new.source) asks.0 asks.2
+    (worked_task c.perform.result.0 (g.D.Disk.told c.args.disk) (g.D.Disk.told c.perform.result.1) (g.S.Source.left c.args.source.now) (g.S.Source.left c.perform.new.source) (g.K.Sink.taken c.args.sink.now) (g.K.Sink.taken c.perform.new.sink)
+    g.N.Names.opening g.N.Names.layout g.N.Names.script c.in-Ok.task asks.0 (c.in-Ok.ensures.alone asks.0 asks.1) (c.perform.ensures.threads honest)) ran
+
 pub returns-in-Ok-clause-threads_complete : goal.returns-in-Ok-clause-threads_complete
 returns-in-Ok-clause-threads_complete g c = λ honest task asked no_read no_write no_disk.
     complete_for g.N.Names.opening g.N.Names.layout g.N.Names.script (g.D.Disk.told c.perform.result.1) (g.K.Sink.taken c.args.sink.now) (g.K.Sink.taken c.perform.new.sink) c.perform.result.0 (g.D.Disk.told c.args.disk)
@@ -39,6 +47,12 @@ returns-in-Ok-clause-threads_complete g c = λ honest task asked no_read no_writ
 
 pub returns-in-Err-Usage-clause-threads_output : goal.returns-in-Err-Usage-clause-threads_output
 returns-in-Err-Usage-clause-threads_output g c = λ _ task asked. absurd (c.in-Err-Usage.ensures.nothing (ap Err c.in-Err-Usage.field-0-is) task asked)
+
+pub returns-in-Err-Usage-clause-threads_holds_on : goal.returns-in-Err-Usage-clause-threads_holds_on
+returns-in-Err-Usage-clause-threads_holds_on g c = λ _ _ run _. absurd ((run_only 2 run).4 refl)
+
+pub returns-in-Err-Memory-clause-threads_holds_on : goal.returns-in-Err-Memory-clause-threads_holds_on
+returns-in-Err-Memory-clause-threads_holds_on g c = λ _ _ run _. absurd ((run_only 7 run).1 refl)
 
 pub returns-in-Err-Usage-clause-threads_complete : goal.returns-in-Err-Usage-clause-threads_complete
 returns-in-Err-Usage-clause-threads_complete g c = λ _ task asked. absurd (c.in-Err-Usage.ensures.nothing (ap Err c.in-Err-Usage.field-0-is) task asked)
