@@ -1,11 +1,14 @@
 //! Whether the words of a command line ask for workers.
 
-ghost use Rattle.std.specs.Prelude.{◌≡◌, IfOk, true, false};
-ghost use Rattle.brin_app.specs.Tasks.{AsksForThreads, IsThreaded};
+ghost use Rattle.std.specs.Prelude.{◌≡◌, IfOk, IfSome, true, false};
+ghost use Rattle.brin_app.specs.Tasks.{Asks, AsksForThreads, IsThreaded};
+ghost use Rattle.brin_app.specs.declared.top.Task.{Task};
+ghost use Rattle.brin_app.specs.declared.top.Task.TheVariants as tasks;
 
 use crate::top::{Task, WordsFault, read_words};
 use block_model::{NoMemory, Words};
 use std::alloc::Global;
+use store_layout::Layout;
 
 /// Whether the words ask for a script that is run by one worker a session, as `threads` does. `Err` is want of memory.
 pub fn asks_for_threads(alloc: Global, words: &Words) -> Result<bool, NoMemory>
@@ -15,6 +18,18 @@ pub fn asks_for_threads(alloc: Global, words: &Words) -> Result<bool, NoMemory>
     match read_words(alloc, words) {
         Ok(task) => Ok(is_threaded(&task)),
         Err(WordsFault::Usage) => Ok(false),
+        Err(WordsFault::Memory) => Err(NoMemory),
+    }
+}
+
+/// The layout of the new store over which the words ask for a script that is run by one worker a session; `None` where they ask for none. `Err` is want of memory.
+pub fn threads_layout(alloc: Global, words: &Words) -> Result<Option<Layout>, NoMemory>
+    ensures asked { IfOk result (λ found. IfSome found (λ layout. Asks words.now (tasks.Threads layout))) }
+    ensures alone { IfOk result (λ found. IfSome found (λ layout. (task : Task) → Asks words.now task → task ≡ tasks.Threads layout)) }
+{
+    match read_words(alloc, words) {
+        Ok(Task::Threads(layout)) => Ok(Some(layout)),
+        Ok(_) | Err(WordsFault::Usage) => Ok(None),
         Err(WordsFault::Memory) => Err(NoMemory),
     }
 }

@@ -20,12 +20,13 @@ mod threads;
 mod top;
 mod wanted;
 
-pub use asks::asks_for_threads;
+pub use asks::{asks_for_threads, threads_layout};
 pub use laws::{every_script_has_a_start, short_scripts_fit, the_lines_of_a_run_hold_throughout};
 pub use session_stepper::{Names, Stranger};
 pub use status::{
     DAMAGED, DISK_FAULT, DONE, LIMIT, MEMORY, NO_STORE, READ_FAULT, SCRIPT_LIMIT, USAGE,
     WRITE_FAULT,
 };
+pub use store_layout::Layout;
 pub use top::{Task, brin_main};
 pub use wanted::wanted_size;

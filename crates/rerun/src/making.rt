@@ -56,6 +56,14 @@ fn new_disk(alloc: Global, words: &Words, room: Room) -> Result<MemoryDisk, u8>
         Ok(true) => return Err(USAGE),
         Err(_) => return Err(MEMORY),
     }
+    recording_disk(alloc, words, room)
+}
+
+/// A disk of the size that a store wants for which the words ask. `Err` is the status where they ask for none, or memory is short.
+pub(crate) fn recording_disk(alloc: Global, words: &Words, room: Room) -> Result<MemoryDisk, u8>
+    ensures asked { IfOk result (λ _. (layout : DiskLayout) × MakesStore words.now layout) }
+    ensures new { IfOk result (λ _. ¬ (Asks words.now tasks.RunStored)) }
+{
     let Ok(wanted) = wanted_size(alloc, words) else {
         return Err(MEMORY);
     };

@@ -5,6 +5,8 @@ ghost use Rattle.block_model.specs.DatabaseState.{DatabaseState, initial_state};
 ghost use Rattle.store_layout.specs.DiskLayout.{DiskLayout};
 ghost use Rattle.session_stepper.specs.NoLayout.{no_layout};
 
+use std::marker::Brand;
+
 /// It has no calls: contracts alone see its members.
 pub trait Names {
     /// The disk's count of faults.
@@ -25,6 +27,19 @@ pub trait Names {
 pub struct Stranger;
 
 impl Names for Stranger {
+    ghost faults = { 0 };
+
+    ghost honest = { false };
+
+    ghost opening = { initial_state };
+
+    ghost layout = { no_layout };
+
+    ghost script = { [] };
+}
+
+/// A name of which each call may pick what it says, in the proof of the call.
+impl Names for Brand {
     ghost faults = { 0 };
 
     ghost honest = { false };
