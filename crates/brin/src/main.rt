@@ -8,11 +8,11 @@
 mod standard;
 mod store_file;
 
-ghost use Rattle.std.specs.Prelude.{◌≡◌, ◌↔◌, None};
+ghost use Rattle.std.specs.Prelude.{◌≡◌, ◌↔◌, None, IfOk};
 ghost use Rattle.std.specs.IoError.{error_kind};
 ghost use Rattle.brin_app.specs.declared.status.TheConstants.{DONE, MEMORY, USAGE};
 
-use crate::standard::stand_ins;
+use crate::standard::{StandIns, stand_ins};
 use crate::store_file::{disk_on, open};
 use block_model::Words;
 use brin_app::{
@@ -21,8 +21,11 @@ use brin_app::{
 };
 use disk_trait::{Disk, FileDisk};
 use io_traits::{OpenGate, ReaderSource, WriterSink};
+use std::alloc::Global;
 use std::io::ErrorKind;
 use std::process::ExitCode;
+use std::sync::Wait;
+use std::thread::Threads;
 use std::{env, io};
 
 /// What the program was given: the path of the store's file, and the words behind it.
@@ -56,27 +59,42 @@ fn unread(error: &io::Error) -> u8
     }
 }
 
-/// Runs the words behind the path over the file, and answers the status. Before it opens the file each standard stream is an open one.
-fn ran(rt: &HostRuntime) -> Result<u8, u8> {
-    let _stand_ins = stand_ins(rt)?;
+/// What is run: the words behind the path, over the disk of its file. What was opened in place of closed standard streams stays open as long.
+#[derive(Drop)]
+struct Opened {
+    words: Words,
+    disk: FileDisk,
+    _stand_ins: StandIns,
+}
+
+/// Opens the file of the first word as a disk, on which no call has failed so far, or answers the status where it can't be had. Before that each standard stream is an
+/// open one.
+fn opened(rt: &HostRuntime) -> Result<Opened, u8>
+    ensures { IfOk result (λ opened. (⟦<FileDisk as Disk>⟧.told opened.disk).faults ≡ 0) }
+{
+    let stand_ins = stand_ins(rt)?;
     let given = read_args(rt)?;
     let path = given.path.as_str();
     let file = open(rt, path)?;
     let disk = disk_on(rt, path, file, &given.words)?;
-    Ok(run_over(rt, &given.words, disk))
+    Ok(Opened {
+        words: given.words,
+        disk,
+        _stand_ins: stand_ins,
+    })
 }
 
-/// Runs the words over a disk on which no call has failed so far, from standard input to standard output.
-fn run_over(rt: &HostRuntime, words: &Words, disk: FileDisk) -> u8
-    requires { (⟦<FileDisk as Disk>⟧.told disk).faults ≡ 0 }
+/// Runs the words over the disk, from standard input to standard output, and answers the status.
+fn run_over<R: Threads + Wait + Sync + Input + Print>(rt: &R, alloc: Global, opened: Opened) -> u8
+    requires { (⟦<FileDisk as Disk>⟧.told opened.disk).faults ≡ 0 }
 {
     let mut source = ReaderSource::on(rt.reader());
     let mut sink = WriterSink::on(io::writer(rt));
     let (status, _) = brin_main::<Stranger, _, _, _, _, _>(
         rt,
-        rt.alloc(),
-        words,
-        disk,
+        alloc,
+        &opened.words,
+        opened.disk,
         &mut source,
         &mut sink,
         &OpenGate,
@@ -102,8 +120,8 @@ fn text(status: u8) -> Option<&'static str>
 }
 
 fn main(rt: HostRuntime) -> ExitCode {
-    let status = match ran(&rt) {
-        Ok(status) => status,
+    let status = match opened(&rt) {
+        Ok(opened) => run_over(&rt, rt.alloc(), opened),
         Err(status) => status,
     };
     if let Some(text) = text(status) {

@@ -9,6 +9,8 @@ use disk_trait::{Disk, VeiledDisk};
 use io_traits::{MemorySink, MemorySource, OpenGate};
 use std::alloc::Global;
 use std::str;
+use std::sync::Wait;
+use std::thread::Threads;
 
 /// How many bytes come or go in one call: one, or a large piece.
 #[derive(Clone, Copy, Debug, PartialEq, Eq)]
@@ -73,8 +75,8 @@ impl Answer {
 
 /// Runs the words and the script over the disk, and answers it. No row has to show what its disk holds, so it is veiled. Words of `threads` are for a disk on which no
 /// call has failed so far; over another one the status is `DISK_FAULT`.
-pub fn run_on<D: Disk + Send + Drop>(
-    rt: &HostRuntime,
+pub fn run_on<R: Threads + Wait + Sync, D: Disk + Send + Drop>(
+    rt: &R,
     alloc: Global,
     words: &Words,
     script: &[u8],

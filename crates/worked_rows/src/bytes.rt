@@ -9,11 +9,13 @@ use block_model::NoMemory;
 use brin_app::{DAMAGED, DONE, NO_STORE};
 use disk_trait::{Disk, SteadyDisk};
 use std::alloc::Global;
+use std::sync::Wait;
+use std::thread::Threads;
 
 /// Makes a run for each byte of the stretch. It is answered something, and its status is one of those that the row says, or that of a store, of none, or of
 /// a damaged one.
-pub fn check_bytes(
-    rt: &HostRuntime,
+pub fn check_bytes<R: Threads + Wait + Sync>(
+    rt: &R,
     alloc: Global,
     run: &Run<'_>,
     command: &Command<'_>,

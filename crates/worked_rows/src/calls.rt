@@ -11,6 +11,8 @@ use brin_app::{DISK_FAULT, DONE};
 use disk_trait::{MemoryDisk, SteadyDisk};
 use std::alloc::Global;
 use std::str;
+use std::sync::Wait;
+use std::thread::Threads;
 
 /// More calls of the disk than are tried of a run.
 const MANY: u64 = 500;
@@ -36,8 +38,8 @@ fn troubled(
 }
 
 /// Makes a run with trouble at a call, and leaves the image that the row picks.
-pub fn check_trouble(
-    rt: &HostRuntime,
+pub fn check_trouble<R: Threads + Wait + Sync>(
+    rt: &R,
     alloc: Global,
     run: &Run<'_>,
     command: &Command<'_>,
@@ -58,7 +60,6 @@ pub fn check_trouble(
 /// A run over a disk of these bytes, with one trouble.
 #[derive(Clone, Copy)]
 struct Case<'a, 'b> {
-    rt: &'a HostRuntime,
     alloc: Global,
     run: &'a Run<'a>,
     command: &'a Command<'a>,
@@ -71,8 +72,8 @@ struct Case<'a, 'b> {
 type Ran = (Answer, MemoryDisk);
 
 /// Makes a run with each trouble at each call that is chosen, and without it. The disk that is left is that of the last one.
-pub fn check_calls<'a>(
-    rt: &'a HostRuntime,
+pub fn check_calls<'a, R: Threads + Wait + Sync>(
+    rt: &R,
     alloc: Global,
     run: &'a Run<'a>,
     command: &'a Command<'a>,
@@ -82,7 +83,6 @@ pub fn check_calls<'a>(
     let bytes = bytes_of(alloc, &mut disk)?;
     for trouble in [Trouble::Stop, Trouble::Fault] {
         let case = Case {
-            rt,
             alloc,
             run,
             command,
@@ -90,7 +90,7 @@ pub fn check_calls<'a>(
             trouble,
             choice,
         };
-        if let Some(difference) = case.check(&mut disk)? {
+        if let Some(difference) = case.check(rt, &mut disk)? {
             return Ok((Some(difference), disk));
         }
     }
@@ -98,15 +98,19 @@ pub fn check_calls<'a>(
 }
 
 impl Case<'_, '_> {
-    fn check(&self, left: &mut SteadyDisk) -> Result<Option<Difference>, NoMemory> {
+    fn check<R: Threads + Wait + Sync>(
+        &self,
+        rt: &R,
+        left: &mut SteadyDisk,
+    ) -> Result<Option<Difference>, NoMemory> {
         for turn in 1..MANY {
             let call = turn.saturating_mul(self.choice.every);
-            let ran = self.ran(call)?;
+            let ran = self.ran(rt, call)?;
             if ran.0.status == DONE {
                 *left = SteadyDisk::from_image(ran.1.image(1)?);
-                return self.check_end(&ran, call);
+                return self.check_end(rt, &ran, call);
             }
-            if let Some(difference) = self.check_call(&ran, call)? {
+            if let Some(difference) = self.check_call(rt, &ran, call)? {
                 return Ok(Some(difference));
             }
         }
@@ -114,23 +118,21 @@ impl Case<'_, '_> {
     }
 
     /// Makes the run with the trouble at that call.
-    fn ran(&self, call: u64) -> Result<Ran, NoMemory> {
+    fn ran<R: Threads + Wait + Sync>(&self, rt: &R, call: u64) -> Result<Ran, NoMemory> {
         let disk = troubled(self.alloc, self.bytes, self.trouble, call)?;
         let streams = Streams::large(self.run.lines.replies.len());
         let script = self.run.lines.script.as_slice();
-        run_on(
-            self.rt,
-            self.alloc,
-            &self.command.words,
-            script,
-            &streams,
-            disk,
-        )
+        run_on(rt, self.alloc, &self.command.words, script, &streams, disk)
     }
 
     /// A run whose call failed has status 6, and writes a front of the replies. Each image of its disk has the rows of the commits that were answered, or
     /// of one more where one was in hand. Where nothing was answered and the words make a store, it may be none.
-    fn check_call(&self, ran: &Ran, call: u64) -> Result<Option<Difference>, NoMemory> {
+    fn check_call<R: Threads + Wait + Sync>(
+        &self,
+        rt: &R,
+        ran: &Ran,
+        call: u64,
+    ) -> Result<Option<Difference>, NoMemory> {
         let (answer, disk) = ran;
         if answer.status != DISK_FAULT {
             return self.differs(call, 0, "status 6", "another one");
@@ -139,7 +141,7 @@ impl Case<'_, '_> {
             return self.differs(call, 0, "a front of the replies", answer.text());
         }
         for pick in 0..count_images(disk, self.choice)? {
-            let seen = look(self.rt, self.alloc, disk.image(pick)?)?;
+            let seen = look(rt, self.alloc, disk.image(pick)?)?;
             if !self.may_see(answer, seen.as_str()) {
                 return self.differs(call, pick, "the rows of its commits", seen.as_str());
             }
@@ -150,7 +152,7 @@ impl Case<'_, '_> {
     /// Whether this may be seen of an image of the disk that the answer left.
     fn may_see(&self, answer: &Answer, seen: &str) -> bool {
         let text = answer.text();
-        if text.is_empty() && seen == NO_STORE && self.command.text != "run" {
+        if text.is_empty() && seen == NO_STORE && makes_store(self.command) {
             return true;
         }
         let commits = text.matches(" committed\n").count();
@@ -181,7 +183,12 @@ impl Case<'_, '_> {
     }
 
     /// A run without trouble answers its replies, and leaves the rows of all commits. It makes as many calls as the row says.
-    fn check_end(&self, ran: &Ran, call: u64) -> Result<Option<Difference>, NoMemory> {
+    fn check_end<R: Threads + Wait + Sync>(
+        &self,
+        rt: &R,
+        ran: &Ran,
+        call: u64,
+    ) -> Result<Option<Difference>, NoMemory> {
         let (answer, disk) = ran;
         let replies = self.run.lines.replies.as_slice();
         let text = self.command.text;
@@ -192,7 +199,7 @@ impl Case<'_, '_> {
             return self.differs(call, 0, "more calls", "fewer");
         }
         for pick in 0..count_images(disk, self.choice)? {
-            let seen = look(self.rt, self.alloc, disk.image(pick)?)?;
+            let seen = look(rt, self.alloc, disk.image(pick)?)?;
             if !self.is_last(seen.as_str()) {
                 return self.differs(call, pick, "the rows of all commits", seen.as_str());
             }
@@ -220,6 +227,11 @@ impl Case<'_, '_> {
         let difference = Difference::new(self.alloc, place.as_str(), wanted, got)?;
         Ok(Some(difference))
     }
+}
+
+/// Whether the words make a store: those of these rows that don't are one word alone.
+fn makes_store(command: &Command<'_>) -> bool {
+    command.text != "run" && command.text != "threads"
 }
 
 /// Whether the first of these lines is the reply to a commit.

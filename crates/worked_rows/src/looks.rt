@@ -5,6 +5,8 @@ use block_model::{NoMemory, Words};
 use brin_app::DONE;
 use disk_trait::SteadyDisk;
 use std::alloc::Global;
+use std::sync::Wait;
+use std::thread::Threads;
 
 /// What is seen of bytes that are no store.
 pub const NO_STORE: &str = "status 9";
@@ -21,7 +23,11 @@ z commit
 
 /// What a run over the bytes tells: the status where it isn't 0, all texts where a line was refused, and else the texts of its selects without their
 /// session.
-pub fn look(rt: &HostRuntime, alloc: Global, bytes: Vec<u8>) -> Result<String, NoMemory> {
+pub fn look<R: Threads + Wait + Sync>(
+    rt: &R,
+    alloc: Global,
+    bytes: Vec<u8>,
+) -> Result<String, NoMemory> {
     let mut words = Words::new(alloc);
     words.push(b"run")?;
     let streams = Streams::large(65536);

@@ -8,11 +8,12 @@ use block_model::NoMemory;
 use brin_app::DONE;
 use std::alloc::Global;
 use std::str;
+use std::sync::Wait;
+use std::thread::Threads;
 
 /// Two statements, of so many steps together, in a row's run.
 #[derive(Clone, Copy)]
 struct Pair<'a> {
-    rt: &'a HostRuntime,
     alloc: Global,
     run: &'a Run<'a>,
     command: &'a Command<'a>,
@@ -22,8 +23,8 @@ struct Pair<'a> {
 }
 
 /// Makes the run in each order of the steps.
-pub fn check_orders<'a>(
-    rt: &'a HostRuntime,
+pub fn check_orders<'a, R: Threads + Wait + Sync>(
+    rt: &R,
     alloc: Global,
     run: &'a Run<'a>,
     command: &'a Command<'a>,
@@ -33,7 +34,6 @@ pub fn check_orders<'a>(
     };
     let steps = first.steps.saturating_add(second.steps);
     let pair = Pair {
-        rt,
         alloc,
         run,
         command,
@@ -42,17 +42,21 @@ pub fn check_orders<'a>(
         steps,
     };
     match 1u32.checked_shl(steps) {
-        Some(end) => pair.check(end),
+        Some(end) => pair.check(rt, end),
         None => numbers_differ(alloc, "steps", 31, u64::from(steps)),
     }
 }
 
 impl Pair<'_> {
     /// Makes the run in each order. In it the first statement steps where a bit is set.
-    fn check(&self, end: u32) -> Result<Option<Difference>, NoMemory> {
+    fn check<R: Threads + Wait + Sync>(
+        &self,
+        rt: &R,
+        end: u32,
+    ) -> Result<Option<Difference>, NoMemory> {
         for order in 0..end {
             if order.count_ones() == self.first.steps
-                && let Some(difference) = self.check_order(order)?
+                && let Some(difference) = self.check_order(rt, order)?
             {
                 return Ok(Some(difference));
             }
@@ -60,13 +64,17 @@ impl Pair<'_> {
         Ok(None)
     }
 
-    fn check_order(&self, order: u32) -> Result<Option<Difference>, NoMemory> {
+    fn check_order<R: Threads + Wait + Sync>(
+        &self,
+        rt: &R,
+        order: u32,
+    ) -> Result<Option<Difference>, NoMemory> {
         let alloc = self.alloc;
         let script = self.script(order)?;
         let streams = Streams::large(65536);
         let disk = new_disk(alloc, self.command)?;
         let words = &self.command.words;
-        let (answer, _) = run_on(self.rt, alloc, words, script.as_slice(), &streams, disk)?;
+        let (answer, _) = run_on(rt, alloc, words, script.as_slice(), &streams, disk)?;
         let place = format!(in alloc; "order {order:b}")?;
         let place = place.as_str();
         if answer.status != DONE {

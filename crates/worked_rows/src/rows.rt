@@ -12,13 +12,15 @@ use brin_app::wanted_size;
 use disk_trait::SteadyDisk;
 use std::alloc::Global;
 use std::mem;
+use std::sync::Wait;
+use std::thread::Threads;
 
 /// What a run differs in, if it does, and the disk that it left.
 pub type Outcome = (Option<Difference>, SteadyDisk);
 
 /// Where the row doesn't hold, with bytes one by one or in large pieces.
-pub fn check_row(
-    rt: &HostRuntime,
+pub fn check_row<R: Threads + Wait + Sync>(
+    rt: &R,
     alloc: Global,
     row: &Row<'_>,
 ) -> Result<Option<Difference>, NoMemory> {
@@ -49,8 +51,8 @@ fn is_plain(way: Way) -> bool {
     matches!(way, Way::Plain)
 }
 
-fn check_runs(
-    rt: &HostRuntime,
+fn check_runs<R: Threads + Wait + Sync>(
+    rt: &R,
     alloc: Global,
     row: &Row<'_>,
     piece: Piece,
@@ -89,9 +91,9 @@ impl Disks {
     }
 
     /// Makes a run.
-    fn check(
+    fn check<R: Threads + Wait + Sync>(
         &mut self,
-        rt: &HostRuntime,
+        rt: &R,
         run: &Run<'_>,
         command: &Command<'_>,
         piece: Piece,
@@ -133,8 +135,8 @@ fn has_second_start(row: &Row<'_>) -> bool {
 }
 
 /// Makes a run in its way.
-fn outcome(
-    rt: &HostRuntime,
+fn outcome<R: Threads + Wait + Sync>(
+    rt: &R,
     alloc: Global,
     run: &Run<'_>,
     command: &Command<'_>,
@@ -154,8 +156,8 @@ fn outcome(
 }
 
 /// Makes a run on whose disk no call fails.
-fn check_plain(
-    rt: &HostRuntime,
+fn check_plain<R: Threads + Wait + Sync>(
+    rt: &R,
     alloc: Global,
     run: &Run<'_>,
     command: &Command<'_>,
