@@ -347,7 +347,7 @@ module _ (opening : DatabaseState) (layout : DiskLayout) (script : List ℕ) (ne
   some_table : (status : ℕ) → HasWorkers status opening layout script new taken taken' → (image : List ℕ) → IsTrue (new.now image) → (table : TableState) × IsImageWith layout table image
   some_table status run image now = elim run.output [
     | inl none ↦ (opening.table, none.images image now)
-    | inr ran ↦ elim ran.1.images.1 image now [
+    | inr ran ↦ elim (ran.1.images.1 image now) [
       | inl has ↦ (ran.1.s.table, has)
       | inr commits ↦ (table_committed ran.1.s ran.1.images.0, commits.1)
     ]

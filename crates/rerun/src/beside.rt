@@ -42,9 +42,7 @@ pub fn run_beside<R: Threads + Wait + Sync, G: Gate + Sync>(
         return Err(USAGE);
     };
     let disk = recording_disk(alloc, words, room)?;
-    Ok(run_named::<Brand, R, G>(
-        rt, alloc, words, &layout, disk, streams, gate,
-    ))
+    Ok(run_named::<Brand, R, G>(rt, alloc, words, &layout, disk, streams, gate))
 }
 
 /// Runs the script over a new store of that layout, on that disk. The name says what the call is given.
