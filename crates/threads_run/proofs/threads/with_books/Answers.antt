@@ -4,7 +4,7 @@ use Rattle.script_run.specs.Script.{script_lines}
 use Rattle.plain_script.specs.PlainScripts.{HasItsSessions, PlainScript, plain_script}
 use Rattle.plain_script.specs.SessionLines.{numbers_of, sum_below, sum_below-numbers}
 use Rattle.threads_run.specs.Output.{AllImagesHave, HasWorked}
-use Rattle.threads_run.proofs.Outcomes.{has_worked, images_at_first}
+use Rattle.threads_run.proofs.Outcomes.{has_worked, images_at_first, never_unread}
 use Rattle.threads_run.proofs.PlaceSums.{places}
 use Rattle.threads_run.proofs.threads.with_books.Goals as goal
 
@@ -27,6 +27,9 @@ returns-in-Err-clause-output g c honest limit bytes =
       images = subst (λ disk. AllImagesHave g.N.Names.layout g.N.Names.opening.table (g.D.Disk.told disk)) (sym c.in-Err.ensures.err)
           (images_at_first g.D.Disk.told g.N.Names.opening g.N.Names.layout c.args.store given.place given.begins given.all);
     })
+
+pub returns-in-Ok-new-clause-begun : goal.returns-in-Ok-new-clause-begun
+returns-in-Ok-new-clause-begun g c = never_unread c.worked.result.kept.ended c.written.result.0 _ _ _ c.written.ensures.bytes
 
 pub returns-in-Ok-new-clause-output : goal.returns-in-Ok-new-clause-output
 returns-in-Ok-new-clause-output g c honest limit bytes =

@@ -4,6 +4,24 @@ use Rattle.std.specs.List.{sum_by}
 use Rattle.threads_run.proofs.PlaceSums.{all_answered, ones, written_back}
 use Rattle.threads_run.proofs.threads.worked.Goals as goal
 
+pub run_all-requires-clause-parts : goal.run_all-requires-clause-parts
+run_all-requires-clause-parts g c κs within k d inside =
+    let value = c.as_mut_slice.ensures.value in
+    let one = c.requires.parts k d (omega (arith, inside, ap length value)) in
+    let share = ap (λ ws. (slice_index_or ws k d).share.parts) value ∙ one.0 in
+    let end = ap (λ ws. (slice_index_or ws k d).end.parts) value ∙ one.1 in
+    (omega (arith, share), omega (arith, end))
+
+pub run_all-requires-clause-fresh : goal.run_all-requires-clause-fresh
+run_all-requires-clause-fresh g c κs within k d inside =
+    let value = c.as_mut_slice.ensures.value in
+    let fresh = c.requires.fresh k d (omega (arith, inside, ap length value)) in (
+      ap (λ ws. (slice_index_or ws k d).done) value ∙ fresh.0,
+      ap (λ ws. (slice_index_or ws k d).ended) value ∙ fresh.1,
+      ap (λ ws. (slice_index_or ws k d).share.amount) value ∙ fresh.2,
+      ap (λ ws. (slice_index_or ws k d).end.amount) value ∙ fresh.3,
+    )
+
 pub audit-requires : goal.audit-requires
 audit-requires g c =
     let new = c.run_all.new.workers in
