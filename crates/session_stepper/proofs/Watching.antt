@@ -1,12 +1,11 @@
 -- what is known over an honest name, behind each call
-use Rattle.std.proofs.Common.{◌≡◌, ◌⊎◌, inl, inr, ℕ, List, [], ◌∷◌, ◌++◌, Option, None, Some, refl, sym, ap, ◌∙◌, subst, append-nil}
-use Rattle.std.specs.Prelude.{MatchOption, slice_index_or, slice_set}
+use Rattle.std.proofs.Common.{◌≡◌, inl, inr, ℕ, List, [], ◌∷◌, ◌++◌, Option, None, Some, refl, sym, ap, ◌∙◌, subst, append-nil}
+use Rattle.std.specs.Prelude.{MatchOption, slice_set}
 use Rattle.std.proofs.lemmas.Bool.{false≢true}
 use Rattle.std.specs.Option.{is_some}
-use Rattle.block_model.specs.declared.reply.Refusal.{Refusal}
-use Rattle.block_model.specs.declared.reply.Reply.{Reply}
 use Rattle.block_model.specs.declared.reply.Reply.TheVariants as replies
 use Rattle.block_model.specs.DatabaseState.{DatabaseState}
+use Rattle.block_model.specs.SerialRun.{IsLegal}
 use Rattle.demo_script.specs.declared.answer.Answer.TheVariants as answers
 use Rattle.disk_trait.specs.Told.{Told}
 use Rattle.io_traits.specs.declared.stepper.Turn.{Turn}
@@ -17,20 +16,19 @@ use Rattle.reply_texts.specs.DroppedTexts.{dropped_text}
 use Rattle.reply_texts.specs.Texts.{reply_text}
 use Rattle.script_run.specs.declared.engine.AnswerFault.{AnswerFault}
 use Rattle.script_run.specs.declared.engine.AnswerFault.TheVariants as faults
-use Rattle.store_layout.specs.declared.statement.Statement.{Statement}
 use Rattle.store_layout.specs.DiskLayout.{DiskLayout}
 use Rattle.store_layout.specs.FirstBrokenRule.{IsFirstBroken, IsLeastBroken, KeepsLimits, first_broken_rule}
 use Rattle.transactions.specs.StopLaws.{EachImage}
 use Rattle.script_semantics.specs.LineTexts.{Submits, dropped_at}
 use Rattle.script_semantics.specs.Place.{Place}
 use Rattle.script_semantics.specs.StatementSteps.{LacksRoom, Moved, Ended, Waits}
-use Rattle.transcripts.specs.Transcript.{IsNext, Line, Said}
+use Rattle.transcripts.specs.Transcript.{Said}
 use Rattle.transcript_laws.specs.Schedule.{AtOpening, AtStart, ByReply, MakesStep, NotByMove, NotByWait, Refuses, Schedule, Takes, entry_of}
 use Rattle.transcript_laws.specs.ScheduleLaws.{FitsSchema, SchedulesAreTranscripts}
 use Rattle.plain_script.specs.HeldScripts.{HeldScript}
 use Rattle.plain_script.specs.PlainScripts.{PlainScript}
 use Rattle.session_parts.specs.ShowsPlace.{ShowsPlace}
-use Rattle.session_parts.specs.StoreStates.{StoreState, hand_at}
+use Rattle.session_parts.specs.StoreStates.{StoreState}
 use Rattle.session_core.specs.StopRule.{AllHaveTable}
 use Rattle.session_orders.specs.CrashRule.{HasTableOf}
 use Rattle.session_orders.specs.Leading.{PlacesLead, PlacesStop, StopsWith}
@@ -42,17 +40,8 @@ use Rattle.session_stepper.specs.declared.ending.Ending.TheVariants as endings
 use Rattle.session_stepper.specs.Beginning.{Begins, IsBegun, IsGiven}
 use Rattle.session_stepper.specs.Calls as calls
 use Rattle.session_stepper.specs.Calls.{IsAdvanced, IsSubmitted, ending_of}
-use Rattle.session_stepper.specs.Locked.{IsKnown, IsWatched, IsWatchedSomewhere}
-use Rattle.session_stepper.specs.TranscribedState.{IsAtWork, IsOpenNext, TranscribedState, lines_in, name_in}
-
-none_some : (why : Ending) → None ≡ Some why → ⊥
-none_some why e = cc
-
-some_none : (why : Ending) → Some why ≡ None → ⊥
-some_none why e = cc
-
-some_same : (a b : Ending) → Some a ≡ Some b → a ≡ b
-some_same a b e = cc
+use Rattle.session_stepper.specs.Locked.{ByRefusal, ByStep, IsKnown, IsWatched, IsWatchedSomewhere, LeadsByAnswer, StandsAt, StandsBy}
+use Rattle.session_stepper.specs.TranscribedState.{TranscribedState, lines_in, name_in}
 
 module _ {D : Type 0} (told : D → Told) (opening : DatabaseState) (layout : DiskLayout) where
   -- by the script that it has
@@ -62,62 +51,69 @@ module _ {D : Type 0} (told : D → Told) (opening : DatabaseState) (layout : Di
   abbrev pub WatchedAt : PlainScript → TranscribedState D → Type 0
   WatchedAt script s = IsWatchedSomewhere told opening layout script s
 
-  module _ (s : TranscribedState D) (p : Place) (w : Watched s p) where
-    -- it ends, and nothing else changes
-    pub stopped : (why : Ending) → (why ≡ endings.Spent → (n : ℕ) × LacksRoom p n) → (why ≡ endings.Damaged → ⊥) → WatchedAt s.script.script (record s { ended = Some why })
-    stopped why spent whole = (
+  -- the journal of a place that a store shows is legal
+  shown_legal : (s : StoreState D) (p : Place) → ShowsPlace s p → p.opening ≡ opening → IsLegal opening p.journal
+  shown_legal s p shown same = subst (λ (o : DatabaseState). IsLegal o p.journal) same shown.legal
+
+  module _ (s : TranscribedState D) (p : Place) (w : Watched s p) (none : s.ended ≡ None) where
+    here : StandsAt told s.store p
+    here = subst (λ (o : Option Ending). StandsBy told s.store p o) none w.stands
+
+    -- it ends at the place, and nothing else changes
+    pub stopped : WatchedAt s.script.script (record s { ended = Some endings.OutOfPlace })
+    stopped = (
       p,
       record {
         tells = w.tells;
         opens = w.opens;
+        opening_is = w.opening_is;
         layout_is = w.layout_is;
         script_is = refl;
         schedule = w.schedule;
-        live = λ none. absurd (some_none why none);
+        legal = w.legal;
+        stands = here;
         stop = w.stop;
-        spent = λ is. spent (some_same why endings.Spent is);
-        whole = λ is. whole (some_same why endings.Damaged is);
       },
     )
 
-    -- it ends at the place, over a store whose images have its table, or that with a commit in hand
-    pub loses : (why : Ending) (store : StoreState D) (held : HeldScript) → Leaves told s.store.pages store.pages → held.script ≡ s.script.script → ((n : ℕ) × EachImage told store.pages (HasTableOf p n))
-        → (why ≡ endings.Spent → (n : ℕ) × LacksRoom p n) → (why ≡ endings.Damaged → ⊥) → WatchedAt s.script.script (record s { store = store; script = held; ended = Some why })
-    loses why store held leaves same stop spent whole = (
+    -- it ends so, over a store that stands so by that end
+    ends_so : (why : Ending) (store : StoreState D) (held : HeldScript) → Leaves told s.store.pages store.pages → held.script ≡ s.script.script → StandsBy told store p (Some why)
+        → ((n : ℕ) × EachImage told store.pages (HasTableOf p n)) → WatchedAt s.script.script (record s { store = store; script = held; ended = Some why })
+    ends_so why store held leaves same stands stop = (
       p,
       record {
         tells = leaves.tells ∙ w.tells;
         opens = w.opens;
+        opening_is = w.opening_is;
         layout_is = leaves.layout ∙ w.layout_is;
         script_is = same;
         schedule = w.schedule;
-        live = λ none. absurd (some_none why none);
+        legal = w.legal;
+        stands = stands;
         stop = stop;
-        spent = λ is. spent (some_same why endings.Spent is);
-        whole = λ is. whole (some_same why endings.Damaged is);
       },
     )
 
-    module _ (none : s.ended ≡ None) (ready : s.store.pages.failed ≡ None) (store : StoreState D) where
+    module _ (ready : s.store.pages.failed ≡ None) (store : StoreState D) where
       -- the store goes on to a place that the sessions' lines lead to
       pub lives : (P : Place → Place → Type 0) (held : HeldScript) (said : List Said) (in_hand : List (Option ℕ)) → PlacesLead told s.store store P → held.script ≡ s.script.script
           → ((q : Place) → ShowsPlace s.store p → ShowsPlace store q → P p q → Schedule layout s.script.script.names s.script.script.lines opening said q)
           → WatchedAt s.script.script (record s { store = store; script = held; said = said; in_hand = in_hand })
       lives P held said in_hand leads same goes =
-          let live = w.live none in
-          let far = leads.places w.tells ready p live.0 in
-          let all = far.stops live.1 in (
+          let far = leads.places w.tells ready p here.0 in
+          let all = far.stops here.1 in
+          let same_opening : far.place.opening ≡ opening = far.further.opening ∙ w.opening_is in (
             far.place,
             record {
               tells = leads.leaves.tells ∙ w.tells;
               opens = w.opens;
+              opening_is = same_opening;
               layout_is = leads.leaves.layout ∙ w.layout_is;
               script_is = same;
-              schedule = goes far.place live.0 far.shown far.so;
-              live = λ _. (far.shown, all.1);
+              schedule = goes far.place here.0 far.shown far.so;
+              legal = shown_legal store far.place far.shown same_opening;
+              stands = subst (λ (o : Option Ending). StandsBy told store far.place o) (sym none) (far.shown, all.1);
               stop = (0, λ image now. inl (all.1 image now));
-              spent = λ is. absurd (none_some endings.Spent (sym none ∙ is));
-              whole = λ is. none_some endings.Damaged (sym none ∙ is);
             },
           )
 
@@ -125,39 +121,21 @@ module _ {D : Type 0} (told : D → Told) (opening : DatabaseState) (layout : Di
       unmade : (n : ℕ) (fault : AnswerFault) → Leaves told s.store.pages store.pages → StopsWith told s.store store n fault (IsNotMade n fault) p → WatchedAt s.script.script (record s { store = store; ended = Some (ending_of fault) })
       unmade n faults.Memory leaves stops = absurd stops.so.0
       unmade n faults.Full leaves stops =
-          loses endings.Spent store s.script leaves refl
-          (n, subst (λ (x : Place). EachImage told store.pages (HasTableOf x n)) stops.so.1 (λ image now. inl ((stops.left.1 (w.live none).1).1 image now)))
-          (λ _. (n, subst (λ (x : Place). LacksRoom x n) stops.so.1 stops.so.0)) (λ is. spent_whole is)
-        where
-          spent_whole : endings.Spent ≡ endings.Damaged → ⊥
-          spent_whole e = cc
+          let at : StandsAt told store p = subst (λ (x : Place). StandsAt told store x) stops.so.1 (stops.left.0, (stops.left.1 here.1).1) in
+          ends_so endings.Spent store s.script leaves refl (at, (n, subst (λ (x : Place). LacksRoom x n) stops.so.1 stops.so.0)) (n, λ image now. inl (at.1 image now))
       unmade n faults.Disk leaves stops =
-          loses endings.Disk store s.script leaves refl (n, subst (λ (x : Place). EachImage told store.pages (HasTableOf x n)) stops.so.1 (stops.left (w.live none).1).1) (λ is. absurd (disk_spent is)) (λ is. disk_whole is)
-        where
-          disk_spent : endings.Disk ≡ endings.Spent → ⊥
-          disk_spent e = cc
-
-          disk_whole : endings.Disk ≡ endings.Damaged → ⊥
-          disk_whole e = cc
+          ends_so endings.Disk store s.script leaves refl tt (n, subst (λ (x : Place). EachImage told store.pages (HasTableOf x n)) stops.so.1 (stops.left here.1).1)
       unmade n faults.Damaged leaves stops = absurd stops.left
 
       pub stops_there : (n : ℕ) (fault : AnswerFault) → PlacesStop told s.store store n fault (IsNotMade n fault) → WatchedAt s.script.script (record s { store = store; ended = Some (ending_of fault) })
-      stops_there n fault stops = unmade n fault stops.leaves (stops.places w.tells ready p (w.live none).0)
+      stops_there n fault stops = unmade n fault stops.leaves (stops.places w.tells ready p here.0)
 
-      pub lost : (n : ℕ) (held : HeldScript) → Leaves told s.store.pages store.pages → held.script ≡ s.script.script → LeavesTables told s.store store n → WatchedAt s.script.script (record s { store = store; script = held; ended = Some endings.Memory })
-      lost n held leaves same tables = loses endings.Memory store held leaves same (n, tables p (w.live none).0 (w.live none).1) (λ is. absurd (memory_spent is)) (λ is. memory_whole is)
-        where
-          memory_spent : endings.Memory ≡ endings.Spent → ⊥
-          memory_spent e = cc
-
-          memory_whole : endings.Memory ≡ endings.Damaged → ⊥
-          memory_whole e = cc
-
-  place_spent : endings.OutOfPlace ≡ endings.Spent → ⊥
-  place_spent e = cc
-
-  place_whole : endings.OutOfPlace ≡ endings.Damaged → ⊥
-  place_whole e = cc
+      -- a line is answered, and the text is lost
+      pub lost : (n : ℕ) (P : Place → Place → Type 0) (held : HeldScript) → PlacesLead told s.store store P → held.script ≡ s.script.script → ((q : Place) → P p q → LeadsByAnswer n p q) → LeavesTables told s.store store n
+          → WatchedAt s.script.script (record s { store = store; script = held; ended = Some endings.Memory })
+      lost n P held leads same by_answer tables =
+          let far = leads.places w.tells ready p here.0 in
+          ends_so endings.Memory store held leads.leaves same (far.place, (n, by_answer far.place far.so), (far.shown, (far.stops here.1).1)) (n, tables p here.0 here.1)
 
   -- ---- the calls, by the script that it has
 
@@ -167,7 +145,7 @@ module _ {D : Type 0} (told : D → Told) (opening : DatabaseState) (layout : Di
   submitted_there : (s s' : TranscribedState D) (n number : ℕ) (turn : Turn) (p : Place) → Watched s p → IsReady s → IsSubmitted told s s' n number turn → WatchedAt s.script.script s'
   submitted_there s s' n number _ p w ready (calls.WasOver over) = subst (λ (x : TranscribedState D). WatchedAt s.script.script x) (sym over.same) (p, w)
   submitted_there s s' n number _ p w ready (calls.NotNext out why) =
-      subst (λ (x : TranscribedState D). WatchedAt s.script.script x) (sym out.same) (stopped s p w endings.OutOfPlace (λ is. absurd (place_spent is)) (λ is. place_whole is))
+      subst (λ (x : TranscribedState D). WatchedAt s.script.script x) (sym out.same) (stopped s p w out.was)
   submitted_there s s' n number _ p w ready (calls.Takes statement none at leads same is) =
       subst (λ (x : TranscribedState D). WatchedAt s.script.script x) (sym is)
       (lives s p w none (ready none) s'.store (λ a b. Submits a n statement None b) s'.script s.said (slice_set s.in_hand n (Some number)) leads same
@@ -177,12 +155,12 @@ module _ {D : Type 0} (told : D → Told) (opening : DatabaseState) (layout : Di
       (lives s p w none (ready none) s'.store (λ a b. Submits a n statement (Some refusal) b) s'.script (s.said ++ entry_of n number (reply_text (name_in s n) (replies.Refused refusal)) ∷ []) s.in_hand leads same
       (λ q before _ submits. Refuses s.said p q n number statement refusal w.schedule (nothing_in_hand s.store n p (ap is_some idle) before) at.next submits))
   submitted_there s s' n number _ p w ready (calls.LosesRefusal statement refusal none at leads same tables is) =
-      subst (λ (x : TranscribedState D). WatchedAt s.script.script x) (sym is) (lost s p w none (ready none) s'.store n s'.script leads.leaves same tables)
+      subst (λ (x : TranscribedState D). WatchedAt s.script.script x) (sym is) (lost s p w none (ready none) s'.store n (λ a b. Submits a n statement (Some refusal) b) s'.script leads same (λ q submits. ByRefusal statement refusal submits) tables)
 
   advanced_there : (s s' : TranscribedState D) (n : ℕ) (turn : Turn) (p : Place) → Watched s p → IsReady s → IsAdvanced told s s' n turn → WatchedAt s.script.script s'
   advanced_there s s' n _ p w ready (calls.WasOver over) = subst (λ (x : TranscribedState D). WatchedAt s.script.script x) (sym over.same) (p, w)
   advanced_there s s' n _ p w ready (calls.NothingInHand out why) =
-      subst (λ (x : TranscribedState D). WatchedAt s.script.script x) (sym out.same) (stopped s p w endings.OutOfPlace (λ is. absurd (place_spent is)) (λ is. place_whole is))
+      subst (λ (x : TranscribedState D). WatchedAt s.script.script x) (sym out.same) (stopped s p w out.was)
   advanced_there s s' n _ p w ready (calls.GoesOn number point none at leads is) =
       subst (λ (x : TranscribedState D). WatchedAt s.script.script x) (sym is)
       (lives s p w none (ready none) s'.store (StepsSo n (answers.Moved point)) s.script s.said s.in_hand leads refl
@@ -200,7 +178,7 @@ module _ {D : Type 0} (told : D → Told) (opening : DatabaseState) (layout : Di
       (sym (are q shown))
       (MakesStep s.said (entry_of n number (dropped_text (dropped_at q n) ++ reply_text (name_in s n) reply) ∷ []) p q n number at.statement (Ended reply) w.schedule at.next steps (ByReply reply))))
   advanced_there s s' n _ p w ready (calls.LosesReply number reply none at leads tables is) =
-      subst (λ (x : TranscribedState D). WatchedAt s.script.script x) (sym is) (lost s p w none (ready none) s'.store n s.script leads.leaves refl tables)
+      subst (λ (x : TranscribedState D). WatchedAt s.script.script x) (sym is) (lost s p w none (ready none) s'.store n (StepsSo n (answers.Ended reply)) s.script leads refl (λ q steps. ByStep reply steps) tables)
   advanced_there s s' n _ p w ready (calls.Stops number fault none at stops room is) =
       subst (λ (x : TranscribedState D). WatchedAt s.script.script x) (sym is) (stops_there s p w none (ready none) s'.store n fault stops)
 
@@ -238,24 +216,29 @@ module _ {D : Type 0} (told : D → Told) (opening : DatabaseState) (layout : Di
   -- ---- before the first line
 
   pub watched_new : (script : PlainScript) (store : StoreState D) (held : HeldScript) (s : TranscribedState D) → IsGiven told opening layout script store held.script → store.pages.failed ≡ None → IsBegun told store held s → WatchedAt script s
-  watched_new script store held s given ready begun = (
-    record given.place { names = script.names },
-    record {
-      tells = subst (λ (v : View D). Tells told v) (sym begun.sessions.pages) given.tells;
-      opens = given.opens;
-      layout_is = ap (λ (v : View D). v.layout) begun.sessions.pages ∙ given.layout_is;
-      script_is = ap (λ (h : HeldScript). h.script) begun.script_is ∙ given.script_is;
-      schedule = subst (λ (l : List Said). Schedule layout script.names script.lines opening l (record given.place { names = script.names })) (sym begun.said) (schedule_new given.place given.begins);
-      live = λ _. (
-        subst (λ (x : PlainScript). ShowsPlace s.store (record given.place { names = x.names })) given.script_is (begun.sessions.places given.tells ready given.place given.shown),
-        subst (λ (v : View D). AllHaveTable told v given.place) (sym begun.sessions.pages) given.all,
-      );
-      stop = (0, λ image now. inl (subst (λ (v : View D). AllHaveTable told v given.place) (sym begun.sessions.pages) given.all image now));
-      spent = λ is. absurd (none_some endings.Spent (sym begun.ended ∙ is));
-      whole = λ is. none_some endings.Damaged (sym begun.ended ∙ is);
-    },
-  )
+  watched_new script store held s given ready begun =
+      let place = record given.place { names = script.names } in
+      let same_opening : place.opening ≡ opening = opening_of given.place given.begins in
+      let shown : ShowsPlace s.store place = subst (λ (x : PlainScript). ShowsPlace s.store (record given.place { names = x.names })) given.script_is (begun.sessions.places given.tells ready given.place given.shown) in
+      let all : AllHaveTable told s.store.pages place = subst (λ (v : View D). AllHaveTable told v given.place) (sym begun.sessions.pages) given.all in (
+        place,
+        record {
+          tells = subst (λ (v : View D). Tells told v) (sym begun.sessions.pages) given.tells;
+          opens = given.opens;
+          opening_is = same_opening;
+          layout_is = ap (λ (v : View D). v.layout) begun.sessions.pages ∙ given.layout_is;
+          script_is = ap (λ (h : HeldScript). h.script) begun.script_is ∙ given.script_is;
+          schedule = subst (λ (l : List Said). Schedule layout script.names script.lines opening l place) (sym begun.said) (schedule_new given.place given.begins);
+          legal = shown_legal s.store place shown same_opening;
+          stands = subst (λ (o : Option Ending). StandsBy told s.store place o) (sym begun.ended) (shown, all);
+          stop = (0, λ image now. inl (all image now));
+        },
+      )
     where
+      opening_of : (place : Place) → Begins layout opening place → place.opening ≡ opening
+      opening_of place (inl opened) = opened.opening_is
+      opening_of place (inr started) = started.0.opening ∙ sym started.1
+
       schedule_new : (place : Place) → Begins layout opening place → Schedule layout script.names script.lines opening [] (record place { names = script.names })
       schedule_new place (inl opened) = AtOpening place opened
       schedule_new place (inr started) = AtStart place started.0 started.1
