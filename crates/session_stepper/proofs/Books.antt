@@ -1,16 +1,16 @@
 -- what is so of each call over any name: its entries, its end and the end's cause
-use Rattle.std.proofs.Common.{◌≡◌, ◌⊎◌, inl, inr, ℕ, ◌+◌, ◌<◌, ◌≤◌, false, true, List, [], ◌∷◌, ◌++◌, length, Option, None, Some, refl, sym, ap, ◌∙◌, subst, arith, length-append}
+use Rattle.std.proofs.Common.{◌≡◌, ℕ, ◌+◌, ◌<◌, ◌≤◌, false, List, [], ◌∷◌, ◌++◌, length, Option, None, Some, refl, sym, ap, ◌∙◌, subst, arith, length-append}
 use Rattle.std.specs.Prelude.{IfSome, IsNone, IsSome, ◌↔◌, slice_set}
 use Rattle.std.specs.Option.{is_some}
 use Rattle.std.proofs.lemmas.Bool.{false≢true, true≢false}
 use Rattle.block_model.specs.declared.reply.Reply.TheVariants as replies
-use Rattle.block_model.specs.Causes.{Rose, rose_earlier}
+use Rattle.block_model.specs.Causes.{rose_earlier}
 use Rattle.demo_script.specs.declared.answer.Answer.TheVariants as answers
 use Rattle.disk_trait.specs.Told.{Told}
 use Rattle.io_traits.specs.declared.stepper.Turn.{Turn}
 use Rattle.io_traits.specs.declared.stepper.Turn.TheVariants as turns
 use Rattle.io_traits.specs.Turns.{count_done, count_ended}
-use Rattle.page_map.specs.Keeps.{Leaves, Tells}
+use Rattle.page_map.specs.Keeps.{Leaves}
 use Rattle.page_map.specs.PageMap.{View}
 use Rattle.reply_texts.specs.DroppedTexts.{dropped_text}
 use Rattle.reply_texts.specs.Texts.{reply_text}
@@ -30,7 +30,7 @@ use Rattle.session_stepper.specs.declared.ending.Ending.TheVariants as endings
 use Rattle.session_stepper.specs.Beginning.{IsBegun}
 use Rattle.session_stepper.specs.Calls as calls
 use Rattle.session_stepper.specs.Calls.{IsAdvanced, IsOver, IsSubmitted, ending_of}
-use Rattle.session_stepper.specs.Locked.{HasEnded, IsLocked, LockedState}
+use Rattle.session_stepper.specs.Locked.{HasEnded, IsLocked}
 use Rattle.session_stepper.specs.TranscribedState.{TranscribedState, name_in}
 
 -- whether a call has ended all, by its answer

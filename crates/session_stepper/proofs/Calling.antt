@@ -1,24 +1,17 @@
 -- what a submission and a step of a transcribed store come to, at each way out
-use Rattle.std.proofs.Common.{◌≡◌, ◌≢◌, inl, inr, ℕ, zero, suc, ◌+◌, ◌<◌, ◌≤◌, Bool, true, false, List, [], ◌∷◌, ◌++◌, length, Option, None, Some, Ok, Err, refl, sym, ap, ◌∙◌, subst, arith}
+use Rattle.std.proofs.Common.{◌≡◌, inl, ℕ, zero, suc, ◌<◌, true, false, List, [], ◌∷◌, length, Option, None, Some, refl, sym, ap, ◌∙◌, subst, arith}
 use Rattle.std.proofs.lemmas.Bool.{false≢true, true≢false}
 use Rattle.std.proofs.lemmas.List.Elements.{All-head, All-tail}
 use Rattle.std.proofs.lemmas.Option.{none-some, same_Some}
-use Rattle.std.specs.Prelude.{All, IsSome, slice_get, slice_index_or, slice_set}
+use Rattle.std.specs.Prelude.{All, IsSome, slice_get, slice_index_or}
 use Rattle.std.specs.Option.{is_some}
 use Rattle.block_model.specs.declared.reply.Refusal.{Refusal}
-use Rattle.block_model.specs.declared.reply.Reply.{Reply}
-use Rattle.block_model.specs.declared.reply.Reply.TheVariants as replies
 use Rattle.disk_trait.specs.Told.{Told}
-use Rattle.page_map.specs.PageMap.{View}
-use Rattle.reply_texts.specs.Texts.{reply_text}
 use Rattle.store_layout.specs.declared.statement.Statement.{Statement}
 use Rattle.store_layout.specs.StatementFits.{IsStatementFor}
 use Rattle.script_semantics.specs.LineTexts.{Submits}
-use Rattle.script_semantics.specs.Place.{Place}
-use Rattle.transcripts.specs.Transcript.{IsNext, Line, Said, entries_of}
-use Rattle.transcript_laws.specs.Schedule.{entry_of}
+use Rattle.transcripts.specs.Transcript.{IsNext, Line}
 use Rattle.plain_script.specs.HeldScripts.{HeldScript, IsLineOf}
-use Rattle.session_parts.specs.ShowsPlace.{ShowsPlace}
 use Rattle.session_parts.specs.StepIs.{LeadsOn}
 use Rattle.session_parts.specs.StoreStates.{StoreState, hand_at}
 use Rattle.session_orders.specs.Leading.{PlacesLead}

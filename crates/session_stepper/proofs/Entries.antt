@@ -1,16 +1,14 @@
 -- entries, lines in hand and statements that are held, one session at a time
-use Rattle.std.proofs.Common.{◌≡◌, ◌≢◌, inl, inr, ℕ, zero, suc, ◌+◌, ◌<◌, ◌≤◌, Bool, true, false, cond, ◌==◌, List, [], ◌∷◌, ◌++◌, length, Some, refl, sym, ap, ◌∙◌, subst, arith, eq-eqb, ne_eqb, add-one}
+use Rattle.std.proofs.Common.{◌≡◌, ◌≢◌, inl, inr, ℕ, zero, suc, ◌+◌, ◌<◌, Bool, true, false, cond, ◌==◌, List, [], ◌∷◌, ◌++◌, length, Some, refl, sym, ap, ◌∙◌, subst, arith, eq-eqb, ne_eqb, add-one}
 use Rattle.std.proofs.lemmas.Bool.{cases_eq}
 use Rattle.std.proofs.lemmas.List.{get_or-set_same, get_or-set_other, length-set}
 use Rattle.std.proofs.lemmas.Option.{none-some}
 use Rattle.std.specs.Prelude.{filter, take, slice_get, slice_index_or, slice_set, Option, None}
-use Rattle.std.specs.Option.{is_some}
 use Rattle.store_layout.specs.declared.statement.Statement.{Statement}
 use Rattle.transcripts.specs.Transcript.{IsNext, Line, Said, entries_of, lines_of}
 use Rattle.transcript_laws.specs.Schedule.{entry_of}
 use Rattle.plain_script.specs.HeldScripts.{IsLineOf}
 use Rattle.session_stepper.specs.TranscribedState.{line_at}
-use Rattle.session_stepper.specs.Transcribed.{one_in_hand}
 
 -- ---- one entry more
 

@@ -1,13 +1,12 @@
 -- what holds of a transcribed store, behind each way out of a call
-use Rattle.std.proofs.Common.{◌≡◌, ◌≢◌, ◌⊎◌, inl, inr, ℕ, zero, suc, ◌+◌, ◌<◌, ◌≤◌, Bool, true, false, List, [], ◌∷◌, ◌++◌, length, Option, None, Some, Ok, Err, refl, sym, ap, ◌∙◌, subst, arith}
-use Rattle.std.proofs.lemmas.Bool.{cases_eq, false≢true, true≢false}
+use Rattle.std.proofs.Common.{◌≡◌, ◌≢◌, inl, inr, ℕ, zero, suc, ◌+◌, ◌<◌, ◌≤◌, Bool, true, false, List, [], ◌∷◌, ◌++◌, length, Option, None, Some, refl, sym, ap, ◌∙◌, subst, arith}
+use Rattle.std.proofs.lemmas.Bool.{cases_eq}
 use Rattle.std.proofs.lemmas.List.{length-replicate, length-set}
 use Rattle.std.proofs.lemmas.Option.{none-some}
 use Rattle.disk_trait.specs.Told.{Told}
 use Rattle.page_map.specs.PageMap.{View}
 use Rattle.std.specs.Prelude.{map, replicate, slice_get, slice_index_or, slice_set}
 use Rattle.std.specs.Option.{is_some}
-use Rattle.block_model.specs.declared.schema.Schema.{Schema}
 use Rattle.store_layout.specs.declared.statement.Statement.{Statement}
 use Rattle.store_layout.specs.DiskLayout.{DiskLayout}
 use Rattle.transcripts.specs.Transcript.{IsNext, Line, Said, entries_of}
@@ -18,9 +17,9 @@ use Rattle.plain_script.specs.PlainScripts.{HasItsSessions, PlainScript}
 use Rattle.session_parts.specs.StoreStates.{StoreState, hand_at}
 use Rattle.session_stepper.specs.declared.ending.Ending.{Ending}
 use Rattle.session_stepper.specs.Beginning.{HasAllSessions, IsFresh}
-use Rattle.session_stepper.specs.TranscribedState.{IsOpenNext, TranscribedState, line_at, lines_in}
+use Rattle.session_stepper.specs.TranscribedState.{TranscribedState, line_at, lines_in}
 use Rattle.session_stepper.specs.Transcribed.{IsTranscribed, one_in_hand}
-use Rattle.session_stepper.proofs.Entries.{another_line, counted_on, held_on, next_stays, other_entry, other_line, own_entry, own_line}
+use Rattle.session_stepper.proofs.Entries.{counted_on, held_on, next_stays, other_entry, other_line, own_entry, own_line}
 
 not_ended : (why : Ending) → Some why ≡ None → ⊥
 not_ended why e = cc

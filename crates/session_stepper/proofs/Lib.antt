@@ -5,3 +5,4 @@ pub mod Naming
 pub mod Watching
 pub mod Calling
 pub mod Ways
+pub mod Sending

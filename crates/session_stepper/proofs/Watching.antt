@@ -1,10 +1,8 @@
 -- what is known over an honest name, behind each call
-use Rattle.std.proofs.Common.{◌≡◌, ◌⊎◌, inl, inr, ℕ, List, [], ◌∷◌, ◌++◌, Option, None, Some, refl, sym, ap, ◌∙◌, subst, append-nil}
-use Rattle.std.specs.Prelude.{MatchOption, slice_index_or, slice_set}
+use Rattle.std.proofs.Common.{◌≡◌, inl, inr, ℕ, List, [], ◌∷◌, ◌++◌, Option, None, Some, refl, sym, ap, ◌∙◌, subst, append-nil}
+use Rattle.std.specs.Prelude.{MatchOption, slice_set}
 use Rattle.std.proofs.lemmas.Bool.{false≢true}
 use Rattle.std.specs.Option.{is_some}
-use Rattle.block_model.specs.declared.reply.Refusal.{Refusal}
-use Rattle.block_model.specs.declared.reply.Reply.{Reply}
 use Rattle.block_model.specs.declared.reply.Reply.TheVariants as replies
 use Rattle.block_model.specs.DatabaseState.{DatabaseState}
 use Rattle.block_model.specs.SerialRun.{IsLegal}
@@ -18,20 +16,19 @@ use Rattle.reply_texts.specs.DroppedTexts.{dropped_text}
 use Rattle.reply_texts.specs.Texts.{reply_text}
 use Rattle.script_run.specs.declared.engine.AnswerFault.{AnswerFault}
 use Rattle.script_run.specs.declared.engine.AnswerFault.TheVariants as faults
-use Rattle.store_layout.specs.declared.statement.Statement.{Statement}
 use Rattle.store_layout.specs.DiskLayout.{DiskLayout}
 use Rattle.store_layout.specs.FirstBrokenRule.{IsFirstBroken, IsLeastBroken, KeepsLimits, first_broken_rule}
 use Rattle.transactions.specs.StopLaws.{EachImage}
 use Rattle.script_semantics.specs.LineTexts.{Submits, dropped_at}
 use Rattle.script_semantics.specs.Place.{Place}
 use Rattle.script_semantics.specs.StatementSteps.{LacksRoom, Moved, Ended, Waits}
-use Rattle.transcripts.specs.Transcript.{IsNext, Line, Said}
+use Rattle.transcripts.specs.Transcript.{Said}
 use Rattle.transcript_laws.specs.Schedule.{AtOpening, AtStart, ByReply, MakesStep, NotByMove, NotByWait, Refuses, Schedule, Takes, entry_of}
 use Rattle.transcript_laws.specs.ScheduleLaws.{FitsSchema, SchedulesAreTranscripts}
 use Rattle.plain_script.specs.HeldScripts.{HeldScript}
 use Rattle.plain_script.specs.PlainScripts.{PlainScript}
 use Rattle.session_parts.specs.ShowsPlace.{ShowsPlace}
-use Rattle.session_parts.specs.StoreStates.{StoreState, hand_at}
+use Rattle.session_parts.specs.StoreStates.{StoreState}
 use Rattle.session_core.specs.StopRule.{AllHaveTable}
 use Rattle.session_orders.specs.CrashRule.{HasTableOf}
 use Rattle.session_orders.specs.Leading.{PlacesLead, PlacesStop, StopsWith}
@@ -44,7 +41,7 @@ use Rattle.session_stepper.specs.Beginning.{Begins, IsBegun, IsGiven}
 use Rattle.session_stepper.specs.Calls as calls
 use Rattle.session_stepper.specs.Calls.{IsAdvanced, IsSubmitted, ending_of}
 use Rattle.session_stepper.specs.Locked.{ByRefusal, ByStep, IsKnown, IsWatched, IsWatchedSomewhere, LeadsByAnswer, StandsAt, StandsBy}
-use Rattle.session_stepper.specs.TranscribedState.{IsAtWork, IsOpenNext, TranscribedState, lines_in, name_in}
+use Rattle.session_stepper.specs.TranscribedState.{TranscribedState, lines_in, name_in}
 
 module _ {D : Type 0} (told : D → Told) (opening : DatabaseState) (layout : DiskLayout) where
   -- by the script that it has

@@ -1,5 +1,5 @@
 -- each way out of a submission and of a step, as its call leaves the store
-use Rattle.std.proofs.Common.{◌≡◌, ◌≢◌, ℕ, zero, suc, ◌+◌, ◌<◌, Bool, true, false, List, [], ◌∷◌, ◌++◌, length, Option, None, Some, refl, sym, ap, ◌∙◌, subst, arith}
+use Rattle.std.proofs.Common.{◌≡◌, ◌≢◌, ℕ, zero, suc, ◌+◌, ◌<◌, true, false, List, [], ◌∷◌, ◌++◌, length, Option, None, Some, refl, sym, ap, ◌∙◌, subst, arith}
 use Rattle.std.proofs.lemmas.Bool.{true≢false}
 use Rattle.std.proofs.lemmas.Option.{none-some}
 use Rattle.std.specs.Prelude.{IsSome, slice_get, slice_index_or, slice_set}
@@ -17,9 +17,7 @@ use Rattle.reply_texts.specs.DroppedTexts.{dropped_text}
 use Rattle.reply_texts.specs.Texts.{reply_text}
 use Rattle.script_run.specs.declared.engine.AnswerFault.{AnswerFault}
 use Rattle.store_layout.specs.declared.statement.Statement.{Statement}
-use Rattle.store_layout.specs.DiskLayout.{DiskLayout}
 use Rattle.script_semantics.specs.LineTexts.{Submits}
-use Rattle.script_semantics.specs.Place.{Place}
 use Rattle.transcripts.specs.Transcript.{Said}
 use Rattle.transcript_laws.specs.Schedule.{entry_of}
 use Rattle.plain_script.specs.HeldScripts.{HeldScript, IsLineOf}

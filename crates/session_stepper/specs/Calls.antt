@@ -1,5 +1,5 @@
 -- what a line's submission and a step of it come to
-use Rattle.std.specs.Prelude.{◌≡◌, ◌⊎◌, ℕ, List, [], ◌∷◌, ◌++◌, slice_set, Option, None, Some}
+use Rattle.std.specs.Prelude.{◌≡◌, ℕ, List, [], ◌∷◌, ◌++◌, slice_set, None, Some}
 use Rattle.disk_trait.specs.Told.{Told}
 use Rattle.block_model.specs.declared.reply.Point.{Point}
 use Rattle.block_model.specs.declared.reply.Refusal.{Refusal}
@@ -16,7 +16,6 @@ use Rattle.script_run.specs.declared.engine.AnswerFault.TheVariants as faults
 use Rattle.store_layout.specs.declared.statement.Statement.{Statement}
 use Rattle.script_semantics.specs.LineTexts.{Submits, dropped_at}
 use Rattle.script_semantics.specs.Place.{Place}
-use Rattle.transcripts.specs.Transcript.{Said}
 use Rattle.transcript_laws.specs.Schedule.{entry_of}
 use Rattle.plain_script.specs.HeldScripts.{HeldScript}
 use Rattle.session_parts.specs.ShowsPlace.{ShowsPlace}

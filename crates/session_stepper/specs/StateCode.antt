@@ -1,10 +1,9 @@
 -- how a locked value is told apart from another
-use Rattle.std.specs.Prelude.{◌≡◌, ℕ, zero, suc, List, Option, refl}
+use Rattle.std.specs.Prelude.{◌≡◌, ℕ, zero, suc, refl}
 use Rattle.std.specs.Coded.{Coded, code_by, coded×, coded_bool, coded_list, coded_option, coded_ℕ}
 use Rattle.store_layout.specs.contracts.statement.Statement as statement_contract
 use Rattle.transcripts.specs.Transcript.{Line}
 use Rattle.plain_script.specs.HeldScripts.{HeldScript}
-use Rattle.plain_script.specs.PlainScripts.{PlainScript}
 use Rattle.session_core.specs.StoreCode.{coded_store}
 use Rattle.session_stepper.specs.declared.ending.Ending.{Ending}
 use Rattle.session_stepper.specs.declared.ending.Ending.TheVariants.{Disk, Memory, OutOfPlace, Spent, Damaged}

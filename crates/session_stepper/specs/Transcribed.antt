@@ -1,13 +1,13 @@
 -- what holds of each store with its script and its transcript, whatever its disk tells
-use Rattle.std.specs.Prelude.{◌≡◌, ℕ, ◌+◌, ◌≤◌, ◌<◌, true, All, List, length, slice_get, slice_index_or, Option, None, Some}
+use Rattle.std.specs.Prelude.{◌≡◌, ℕ, ◌+◌, ◌≤◌, ◌<◌, true, List, length, slice_get, slice_index_or, Option, None, Some}
 use Rattle.std.specs.Option.{is_some}
 use Rattle.store_layout.specs.declared.statement.Statement.{Statement}
-use Rattle.transcripts.specs.Transcript.{IsNext, Line, entries_of}
+use Rattle.transcripts.specs.Transcript.{IsNext, entries_of}
 use Rattle.transcript_laws.specs.ScheduleLaws.{FitsSchema}
 use Rattle.plain_script.specs.HeldScripts.{IsLineOf}
 use Rattle.plain_script.specs.PlainScripts.{HasItsSessions}
 use Rattle.session_parts.specs.StoreStates.{hand_at}
-use Rattle.session_stepper.specs.TranscribedState.{IsOpenNext, TranscribedState, line_at, lines_in}
+use Rattle.session_stepper.specs.TranscribedState.{TranscribedState, line_at, lines_in}
 
 -- how many lines of a session were submitted beside those that were told
 abbrev pub one_in_hand : Option ℕ → ℕ

@@ -1,5 +1,5 @@
 -- a store of sessions beside the script of their lines and the transcript of their answers
-use Rattle.std.specs.Prelude.{◌≡◌, ℕ, List, [], length, slice_index_or, Option, None, Some}
+use Rattle.std.specs.Prelude.{◌≡◌, ℕ, List, [], slice_index_or, Option, None, Some}
 use Rattle.store_layout.specs.declared.statement.Statement.{Statement}
 use Rattle.transcripts.specs.Transcript.{IsNext, Line, Said}
 use Rattle.plain_script.specs.HeldScripts.{HeldScript}

@@ -1,4 +1,4 @@
-use Rattle.std.proofs.Common.{◌≤◌, length, List, ℕ, ◌∙◌, arith}
+use Rattle.std.proofs.Common.{◌≤◌, length, ◌∙◌, arith}
 use Rattle.session_stepper.proofs.Naming.{all_made, none_made, one_made, pages_stay}
 use Rattle.session_stepper.proofs.transcribed_store.make_sessions.Goals as goal
 
