@@ -117,7 +117,7 @@ pub fn brin_main<
 
 /// Does nothing; tells its caller the laws of the disk.
 fn disk_laws<D: Disk>(disk: &D)
-    ensures obeys { ObeysLaws (D.told disk.now) }
+    ensures obeys { (d : D) → ObeysLaws (D.told d) }
     ensures only { (image : List ℕ) → IsTrue ((D.told disk.now).since (D.told disk.now).moment image) → IsTrue ((D.told disk.now).now image) }
 {
     let _ = disk;

@@ -1,7 +1,7 @@
 use Rattle.std.proofs.Common.{Err, refl, ap, subst, inl, inr}
 use Rattle.brin_app.specs.Tasks.{Asks}
 use Rattle.brin_app.proofs.Doing.{idle_complete_of, idle_output, idle_refused_of, idle_spent_of}
-use Rattle.brin_app.proofs.Holding.{holds_words, idle_on, laws_of, run_only}
+use Rattle.brin_app.proofs.Holding.{holds_words, idle_on, run_only}
 use Rattle.brin_app.proofs.Known.{is_2, is_7}
 use Rattle.brin_app.proofs.Performed.{performed}
 use Rattle.brin_app.proofs.Threading.{complete_for, holds_for, idle_completed, idle_worked, spent_for, worked_task}
@@ -31,9 +31,8 @@ returns-in-Ok-clause-threads_spent g c = λ honest asks eight.
 
 pub returns-in-Ok-clause-threads_holds_on : goal.returns-in-Ok-clause-threads_holds_on
 returns-in-Ok-clause-threads_holds_on g c = λ honest asks ran images.
-    let obeys = laws_of g.D.Disk.told g.met.D.Disk.images_need_contents g.met.D.Disk.contents_are_an_image g.met.D.Disk.now_is_since in
     holds_for g.N.Names.opening g.N.Names.layout g.N.Names.script (g.D.Disk.told c.perform.result.1) (g.K.Sink.taken c.args.sink.now) (g.K.Sink.taken c.perform.new.sink) c.one_layout.ensures c.each_image_opens_to_one_map.ensures
-    (obeys c.perform.result.1) images c.perform.result.0 (g.D.Disk.told c.args.disk) (g.S.Source.left c.args.source.now) (g.S.Source.left c.perform.new.source) asks.0 asks.2
+    (c.disk_laws.ensures.obeys c.perform.result.1) images c.perform.result.0 (g.D.Disk.told c.args.disk) (g.S.Source.left c.args.source.now) (g.S.Source.left c.perform.new.source) asks.0 asks.2
     (worked_task c.perform.result.0 (g.D.Disk.told c.args.disk) (g.D.Disk.told c.perform.result.1) (g.S.Source.left c.args.source.now) (g.S.Source.left c.perform.new.source) (g.K.Sink.taken c.args.sink.now) (g.K.Sink.taken c.perform.new.sink)
     g.N.Names.opening g.N.Names.layout g.N.Names.script c.in-Ok.task asks.0 (c.in-Ok.ensures.alone asks.0 asks.1) (c.perform.ensures.threads honest)) ran
 
@@ -144,8 +143,8 @@ returns-in-Ok-clause-holds_on g c = elim c.perform.ensures.holds_on [
 
 pub returns-in-Err-Usage-clause-holds_on : goal.returns-in-Err-Usage-clause-holds_on
 returns-in-Err-Usage-clause-holds_on g c =
-    inr (idle_on c.one_layout.ensures c.each_image_opens_to_one_map.ensures c.args.words.now 2 (g.D.Disk.told c.args.disk) c.disk_laws.ensures.obeys (λ run. (run_only 2 run).4 refl))
+    inr (idle_on c.one_layout.ensures c.each_image_opens_to_one_map.ensures c.args.words.now 2 (g.D.Disk.told c.args.disk) (c.disk_laws.ensures.obeys c.args.disk) (λ run. (run_only 2 run).4 refl))
 
 pub returns-in-Err-Memory-clause-holds_on : goal.returns-in-Err-Memory-clause-holds_on
 returns-in-Err-Memory-clause-holds_on g c =
-    inr (idle_on c.one_layout.ensures c.each_image_opens_to_one_map.ensures c.args.words.now 7 (g.D.Disk.told c.args.disk) c.disk_laws.ensures.obeys (λ run. (run_only 7 run).1 refl))
+    inr (idle_on c.one_layout.ensures c.each_image_opens_to_one_map.ensures c.args.words.now 7 (g.D.Disk.told c.args.disk) (c.disk_laws.ensures.obeys c.args.disk) (λ run. (run_only 7 run).1 refl))
