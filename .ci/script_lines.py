@@ -13,7 +13,6 @@ LEAST, GREATEST = -(1 << 63), (1 << 63) - 1
 
 Table = namedtuple("Table", "name columns rows_per_page")
 Index = namedtuple("Index", "name table")
-Store = namedtuple("Store", "tables indexes heap_blocks index_blocks status_blocks")
 Column = namedtuple("Column", "place kind")
 
 Word = namedtuple("Word", "text at")
@@ -30,6 +29,14 @@ OPERATORS = {
     "int8range": ["=", "&&", "@>", "<@", "<<", ">>", "&<", "&>", "-|-"],
     "inet": ["=", "&&", "<<", ">>", "<<=", ">>="],
 }
+
+
+class Store(namedtuple("Store", "tables indexes heap_blocks index_blocks status_blocks")):
+    """What is declared, and the sizes."""
+
+    def indexes_of(self, table):
+        """The names of the table's indexes."""
+        return [index.name for index in self.indexes.values() if index.table == table]
 
 
 class Fault(Exception):

@@ -160,20 +160,20 @@ class Telling:
     def transaction(self):
         return self.database.transactions.get(self.session)
 
-    def fail_or(self, *lines):
-        """Whether memory was short, so that the transaction fails; else these lines are expected."""
-        if self.said == [MEMORY]:
+    def fails(self, *refusals):
+        """Whether it is refused so; its transaction fails then."""
+        if any(self.said == [refusal] for refusal in refusals):
             self.transaction.failed = True
             return True
-        self.expect(*lines)
         return False
 
     def tell(self):
+        """The statement is refused, or told by what it does to the database."""
         refusal = self.refusal()
         if refusal:
             self.expect(refusal)
         else:
-            TELLINGS[self.statement.verb](self)
+            getattr(self, self.statement.verb)()
 
     def refusal(self):
         """Why the statement isn't taken."""
@@ -215,93 +215,67 @@ class Telling:
         """Requests that a full queue dropped may stand before the answer. Where an index has no room the row was put before."""
         self.pass_dropped()
         transaction, table = self.transaction, self.store.tables[self.statement.table]
+        if self.fails(MEMORY, f"error 8 {table.name} {self.store.heap_blocks * table.rows_per_page}"):
+            return
         id = RowId(transaction.t, transaction.puts)
-        if self.said == [f"error 8 {table.name} {self.store.heap_blocks * table.rows_per_page}"]:
-            transaction.failed = True
-            return
-        if self.is_full_index(table.name):
-            self.put(id)
-            transaction.failed = True
-            return
-        if not self.fail_or(f"inserted {id_text(id)}"):
-            self.put(id)
-
-    def put(self, id):
-        self.transaction.view[id] = Row(id, self.statement.table, self.statement.values)
-        self.transaction.puts += 1
+        transaction.view[id] = Row(id, table.name, self.statement.values)
+        transaction.puts += 1
+        if not self.fails(*self.full_indexes(table.name)):
+            self.expect(f"inserted {id_text(id)}")
 
     def pass_dropped(self):
-        names = {index.name for index in self.store.indexes.values() if index.table == self.statement.table}
+        names = self.store.indexes_of(self.statement.table)
         while self.said and re.fullmatch(r"dropped \w+ \d+", self.said[0]) and self.said[0].split()[1] in names:
             del self.said[0]
 
-    def is_full_index(self, table):
-        full = [f"error 8 {index.name} {self.store.index_blocks}" for index in self.store.indexes.values() if index.table == table]
-        return any(self.said == [text] for text in full)
+    def full_indexes(self, table):
+        """What is told where an index of the table has no room."""
+        return [f"error 8 {name} {self.store.index_blocks}" for name in self.store.indexes_of(table)]
 
     def select(self):
-        self.fail_or(*rows_texts(self.transaction.finds(self.statement)))
+        if not self.fails(MEMORY):
+            self.expect(*rows_texts(self.transaction.finds(self.statement)))
 
     def delete(self):
-        """It marks all that it finds, if none of that must conflict; or it fails at the first row that must, or at an earlier one that may."""
+        """It marks all that it finds, if none of that must conflict. Or it fails at the first row that must, or at an earlier one that may."""
+        if self.fails(MEMORY):
+            return
         database, transaction = self.database, self.transaction
         found = transaction.finds(self.statement)
-        if self.said == [MEMORY]:
-            transaction.failed = True
-            return
         for row in found:
             conflict = f"error 7 {id_text(row.id)}"
-            if database.must_conflict(self.session, transaction, row):
+            must = database.must_conflict(self.session, transaction, row)
+            if must:
                 self.expect(conflict)
-                transaction.failed = True
-                return
-            if self.said == [conflict] and database.may_conflict(self.session, transaction, row, self.asked):
-                transaction.failed = True
+            if (must or database.may_conflict(self.session, transaction, row, self.asked)) and self.fails(conflict):
                 return
             transaction.mark(row)
         self.expect(f"deleted {len(found)}")
 
     def explain(self):
         """It is told blocks of a table, in order."""
-        self.expect_form(r"blocks none|blocks( \d+(-\d+)?)+")
         if self.said != [MEMORY]:
+            self.expect_form(r"blocks none|blocks( \d+(-\d+)?)+")
             blocks = blocks_in(self.said[0])
             self.expect(blocks_text(sorted(block for block in blocks if block < self.store.heap_blocks)))
 
     def summarize(self):
-        if not self.is_full_index(self.store.indexes[self.statement.index].table):
-            self.expect_form(r"summarized \d+")
+        self.expect_form(r"summarized \d+", MEMORY, f"error 8 {self.statement.index} {self.store.index_blocks}")
 
     def desummarize(self):
-        self.expect_form("desummarized [01]")
+        self.expect_form("desummarized [01]", MEMORY)
 
     def vacuum(self):
-        if not self.is_full_index(self.statement.table):
-            self.expect_form(r"vacuumed rows \d+ orphans \d+ ranges \d+")
+        self.expect_form(r"vacuumed rows \d+ orphans \d+ ranges \d+", MEMORY, *self.full_indexes(self.statement.table))
 
     def work(self):
-        if not any(self.is_full_index(table) for table in self.store.tables):
-            names = "|".join(self.store.indexes)
-            self.expect_form(rf"worked none|worked ({names}) \d+ [01]")
+        full = [refusal for table in self.store.tables for refusal in self.full_indexes(table)]
+        done = [rf"worked {name} \d+ [01]" for name in self.store.indexes]
+        self.expect_form("worked none", MEMORY, *done, *full)
 
-    def expect_form(self, form):
-        if len(self.said) != 1 or not re.fullmatch(f"{form}|{MEMORY}", self.said[0]):
+    def expect_form(self, *forms):
+        if len(self.said) != 1 or not any(re.fullmatch(form, self.said[0]) for form in forms):
             raise Wrong(f"{self.session} {self.statement} isn't answered {self.said}")
-
-
-TELLINGS = {
-    "begin": Telling.begin,
-    "commit": Telling.commit,
-    "rollback": Telling.rollback,
-    "insert": Telling.insert,
-    "select": Telling.select,
-    "delete": Telling.delete,
-    "explain": Telling.explain,
-    "summarize": Telling.summarize,
-    "desummarize": Telling.desummarize,
-    "vacuum": Telling.vacuum,
-    "work": Telling.work,
-}
 
 
 # ---- transcripts
@@ -346,8 +320,8 @@ class Transcript:
     entries: list
 
 
-def transcript_of(store, opening, script, output):
-    """The transcript that the output is, from that database on, or Wrong is raised."""
+def transcript_of(store, database, script, output):
+    """The transcript that the output is, or Wrong is raised. The database, from which it begins, becomes the one to which it leads."""
     sessions, unread = read_script(script, store)
     lines = lines_in(output)
     if lines[: len(unread)] != unread:
@@ -358,9 +332,9 @@ def transcript_of(store, opening, script, output):
         asked = next_statements(sessions, answered)
         if entry.session not in asked:
             raise Wrong(f"no line is left for {entry}")
-        Telling(store, opening, asked, entry.session, list(entry.lines)).tell()
+        Telling(store, database, asked, entry.session, list(entry.lines)).tell()
         answered[entry.session] += 1
-    return Transcript(opening, next_statements(sessions, answered), entries)
+    return Transcript(database, next_statements(sessions, answered), entries)
 
 
 def next_statements(sessions, answered):
@@ -368,9 +342,9 @@ def next_statements(sessions, answered):
     return {session: statements[answered[session]] for session, statements in sessions.items() if answered[session] < len(statements)}
 
 
-def whole_transcript_of(store, opening, script, output):
+def whole_transcript_of(store, database, script, output):
     """The same of an output in which every line of every session has its entry."""
-    transcript = transcript_of(store, opening, script, output)
+    transcript = transcript_of(store, database, script, output)
     if transcript.asked:
         raise Wrong(f"lines without an entry: {transcript.asked}")
     return transcript
