@@ -1,5 +1,6 @@
 -- what is left of a run, by what is known of the locked store
-use Rattle.std.proofs.Common.{◌≡◌, inl, inr, ◌∙◌, refl, sym, ap, ap₂, subst, ℕ, List, [], length, Option, None, Some}
+use Rattle.std.proofs.Common.{◌≡◌, ◌⊎◌, inl, inr, ◌∙◌, refl, sym, ap, ap₂, subst, ℕ, Bool, false, true, List, [], length, Option, None, Some, Err}
+use Rattle.std.proofs.lemmas.Bool.{false≢true}
 use Rattle.std.specs.FinMap as maps
 use Rattle.block_model.specs.declared.request.Request.TheVariants as requests
 use Rattle.block_model.specs.DatabaseState.{DatabaseState, OpenTransaction}
@@ -11,6 +12,7 @@ use Rattle.disk_trait.specs.Told.{Told}
 use Rattle.store_layout.specs.declared.statement.Statement.{Statement}
 use Rattle.store_layout.specs.DiskLayout.{DiskLayout}
 use Rattle.store_layout.specs.StatementRequests.{request_entry}
+use Rattle.script_run.specs.declared.fault.RunFault.TheVariants as faults
 use Rattle.script_run.specs.Runs.{RunEnd}
 use Rattle.transactions.specs.FoundLaws.{table_committed}
 use Rattle.script_semantics.specs.LineTexts.{NotTaken, Submits, Taken, WantsMemory}
@@ -26,7 +28,7 @@ use Rattle.session_parts.specs.StoreStates.{StoreState}
 use Rattle.session_core.specs.StopRule.{AllHaveTable, IsImageWith}
 use Rattle.session_orders.specs.CrashRule.{HasTableOf}
 use Rattle.session_stepper.specs.Beginning.{Begins}
-use Rattle.session_stepper.specs.Locked.{IsKnown}
+use Rattle.session_stepper.specs.Locked.{IsKnown, StandsAt, StandsBy}
 use Rattle.session_stepper.specs.TranscribedState.{TranscribedState}
 use Rattle.session_stepper.specs.declared.ending.Ending.{Ending}
 use Rattle.session_stepper.specs.declared.ending.Ending.TheVariants.{Disk, Memory, OutOfPlace, Spent, Damaged}
@@ -36,18 +38,18 @@ use Rattle.threads_run.proofs.SaidOnce.{all_said}
 
 -- ---- the layout
 
-submit_layout : (p q : Place) (n : ℕ) (statement : Statement) (told : Option Refusal) → Submits p n statement told q → q.layout ≡ p.layout
-submit_layout p _ n statement _ (Taken none) = refl
-submit_layout p _ n statement _ (NotTaken refusal is) = refl
-submit_layout p _ n statement _ (WantsMemory none may) = refl
+submit_layout : (p : Place) (n : ℕ) (statement : Statement) (told : Option Refusal) (q : Place) → Submits p n statement told q → q.layout ≡ p.layout
+submit_layout p n statement _ _ (Taken none) = refl
+submit_layout p n statement _ _ (NotTaken refusal is) = refl
+submit_layout p n statement _ _ (WantsMemory none may) = refl
 
 -- each place of a schedule has the layout
 schedule_layout : (layout : DiskLayout) (names : List (List ℕ)) (lines : List Line) (opening : DatabaseState) (said : List Said) (p : Place) → Schedule layout names lines opening said p → p.layout ≡ layout
 schedule_layout layout names lines opening _ _ (AtOpening p opens) = opens.layout_is
 schedule_layout layout names lines opening _ _ (AtStart p start new) = start.layout_is
-schedule_layout layout names lines opening _ _ (Takes said p q n number statement before next takes) = submit_layout p q n statement None takes ∙ schedule_layout layout names lines opening said p before
+schedule_layout layout names lines opening _ _ (Takes said p q n number statement before next takes) = submit_layout p n statement None q takes ∙ schedule_layout layout names lines opening said p before
 schedule_layout layout names lines opening _ _ (Refuses said p q n number statement refusal before idle next refused) =
-    submit_layout p q n statement (Some refusal) refused ∙ schedule_layout layout names lines opening said p before
+    submit_layout p n statement (Some refusal) q refused ∙ schedule_layout layout names lines opening said p before
 schedule_layout layout names lines opening _ _ (MakesStep said told p q n number statement outcome before next step tell) =
     (both_stay p q n step.hand outcome step.steps).0 ∙ schedule_layout layout names lines opening said p before
 
@@ -102,17 +104,19 @@ module _ {D : Type 0} (told : D → Told) (opening : DatabaseState) (layout : Di
   laid : known.place.layout ≡ layout
   laid = schedule_layout layout script.names script.lines opening k.said known.place known.watched.schedule
 
-  -- each image has the transcript's table, where the store shows the place
-  sure : k.ended ≡ None → AllImagesHave layout known.right.s.table (told k.store.pages.disk)
-  sure none image now =
-      subst (λ (l : DiskLayout). IsImageWith l known.right.s.table image) laid
-      (subst (λ (t : TableState). IsImageWith known.place.layout t image) known.right.table ((known.watched.live none).1 image now))
+  -- each image has the transcript's table, where the store stands at the place
+  sure : StandsAt told k.store known.place → AllImagesHave layout known.right.s.table (told k.store.pages.disk)
+  sure at image now =
+      subst (λ (l : DiskLayout). IsImageWith l known.right.s.table image) laid (subst (λ (t : TableState). IsImageWith known.place.layout t image) known.right.table (at.1 image now))
+
+  stands : (o : Option Ending) → k.ended ≡ o → StandsBy told k.store known.place o
+  stands o is = subst (λ (x : Option Ending). StandsBy told k.store known.place x) is known.watched.stands
 
   by_end : (o : Option Ending) → k.ended ≡ o → IsWrittenBehind (output_of script k.said) taken taken' (end_of o) end → Ends end
   by_end None is (inl written) =
       let each = all_said (limits_of layout) script.names script.lines opening known.right.s k.said known.right.right (length script.names)
       (λ n. twice (limits_of layout) script.names script.lines opening known.right.s k.said n known.right.right) sessions.within (all is) in
-      subst Ends (sym written.0) (written.1, each, sure is)
+      subst Ends (sym written.0) (written.1, each, sure (stands None is))
   by_end None is (inr part) = subst Ends (sym part.0) part.1
   by_end (Some Disk) is (inl written) = subst Ends (sym written.0) written.1
   by_end (Some Disk) is (inr part) = subst Ends (sym part.0) part.1
@@ -121,9 +125,10 @@ module _ {D : Type 0} (told : D → Told) (opening : DatabaseState) (layout : Di
   by_end (Some OutOfPlace) is (inl written) = subst Ends (sym written.0) written.1
   by_end (Some OutOfPlace) is (inr part) = subst Ends (sym part.0) part.1
   by_end (Some Spent) is (inl written) =
-      let full = known.watched.spent is in subst Ends (sym written.0) (written.1, record { place = known.place; schedule = known.watched.schedule; session = full.0; lacks = full.1 })
+      let full = stands (Some Spent) is in
+      subst Ends (sym written.0) (written.1, record { place = known.place; schedule = known.watched.schedule; session = full.1.0; lacks = full.1.1 }, sure full.0)
   by_end (Some Spent) is (inr part) = subst Ends (sym part.0) part.1
-  by_end (Some Damaged) is written = absurd (known.watched.whole is)
+  by_end (Some Damaged) is written = absurd (stands (Some Damaged) is)
 
   pub has_worked : IsWrittenBehind (output_of k.script.script k.said) taken taken' (end_of k.ended) end → HasWorked end opening layout script (told k.store.pages.disk) taken taken'
   has_worked written = record {
@@ -136,6 +141,32 @@ module _ {D : Type 0} (told : D → Told) (opening : DatabaseState) (layout : Di
     );
     ended = by_end k.ended refl (subst (λ (t : PlainScript). IsWrittenBehind (output_of t k.said) taken taken' (end_of k.ended) end) known.watched.script_is written);
   }
+
+-- ---- a run that has worked isn't told as one that wasn't begun
+
+tells_unread : RunEnd → Bool
+tells_unread (Err faults.Read) = true
+tells_unread (Err faults.Spent) = true
+tells_unread end = false
+
+end_is_read : (o : Option Ending) → tells_unread (end_of o) ≡ false
+unfolding tells_unread
+end_is_read None = refl
+end_is_read (Some Disk) = refl
+end_is_read (Some Memory) = refl
+end_is_read (Some OutOfPlace) = refl
+end_is_read (Some Spent) = refl
+end_is_read (Some Damaged) = refl
+
+written_is_read : (o : Option Ending) (bytes : List ℕ) (taken taken' : Option (List ℕ)) (end : RunEnd) → IsWrittenBehind bytes taken taken' (end_of o) end → tells_unread end ≡ false
+unfolding tells_unread
+written_is_read o bytes taken taken' end (inl written) = ap tells_unread written.0 ∙ end_is_read o
+written_is_read o bytes taken taken' end (inr part) = ap tells_unread part.0
+
+pub has_begun : (o : Option Ending) (bytes : List ℕ) (taken taken' : Option (List ℕ)) (end : RunEnd) → IsWrittenBehind bytes taken taken' (end_of o) end → (end ≡ Err faults.Read) ⊎ (end ≡ Err faults.Spent) → ⊥
+unfolding tells_unread
+has_begun o bytes taken taken' end behind (inl is) = false≢true (sym (written_is_read o bytes taken taken' end behind) ∙ ap tells_unread is)
+has_begun o bytes taken taken' end behind (inr is) = false≢true (sym (written_is_read o bytes taken taken' end behind) ∙ ap tells_unread is)
 
 -- ---- before the first line
 

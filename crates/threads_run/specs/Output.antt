@@ -67,13 +67,13 @@ pub record FillsJournal (layout : DiskLayout) (opening : DatabaseState) (script 
   pub lacks : LacksRoom place session
 
 -- The workers end where all lines are answered, the disk fails, the journal is full, or memory is short. Then all texts are written, or a front of them where a write
--- fails.
+-- fails. Where all is answered, and where the journal is full, each image has exactly the transcript's table.
 abbrev pub HasEndedSo : DiskLayout → DatabaseState → PlainScript → List Said → DatabaseState → Told → (taken taken' : Option (List ℕ)) → RunEnd → Type 0
 HasEndedSo layout opening script said s disk taken taken' (Ok done) = Appends taken taken' (output_of script said) × AreAllSaid script.lines said × AllImagesHave layout s.table disk
 HasEndedSo layout opening script said s disk taken taken' (Err faults.Write) = AppendsPart taken taken' (output_of script said)
 HasEndedSo layout opening script said s disk taken taken' (Err (faults.Unanswered unanswered.Memory)) = Appends taken taken' (output_of script said)
 HasEndedSo layout opening script said s disk taken taken' (Err (faults.Unanswered unanswered.Disk)) = Appends taken taken' (output_of script said)
-HasEndedSo layout opening script said s disk taken taken' (Err (faults.Unanswered unanswered.Full)) = Appends taken taken' (output_of script said) × FillsJournal layout opening script said
+HasEndedSo layout opening script said s disk taken taken' (Err (faults.Unanswered unanswered.Full)) = Appends taken taken' (output_of script said) × FillsJournal layout opening script said × AllImagesHave layout s.table disk
 HasEndedSo layout opening script said s disk taken taken' end = ⊥
 
 -- Each session had a worker. What was answered is a right transcript of the script; each image has the table to which it leads, or that with a commit that was in hand.

@@ -1,11 +1,26 @@
 use Rattle.std.proofs.Common.{◌≡◌, ◌∙◌, refl, sym, ap, subst, inl}
 use Rattle.std.specs.Prelude.{IfSome, Err}
 use Rattle.script_run.specs.Script.{script_lines}
+use Rattle.store_layout.specs.DiskLayout.{DiskLayout}
+use Rattle.plain_script.specs.Gathering.{AreFor}
+use Rattle.plain_script.specs.HeldScripts.{HeldScript, held_whole}
 use Rattle.plain_script.specs.PlainScripts.{plain_script}
 use Rattle.threads_run.specs.Output.{AllImagesHave, IsUnread}
 use Rattle.threads_run.proofs.Outcomes.{images_at_first}
 use Rattle.threads_run.proofs.Taking.{either_way, legal_by, unread_by}
 use Rattle.threads_run.proofs.threads.run_threads.Goals as goal
+
+pub with_books-requires-clause-fresh : goal.with_books-requires-clause-fresh
+with_books-requires-clause-fresh g c κs within =
+    let whole = c.in-Ok.ensures.reads.2.2 in
+    record {
+      names = c.requires.fresh.0;
+      hands = c.requires.fresh.1;
+      ready = c.requires.fresh.2;
+      whole = whole ∙ ap held_whole (sym (ap (λ (h : HeldScript). h.script) whole));
+      sessions = c.in-Ok.ensures.sessions;
+      fits = subst (λ (l : DiskLayout). AreFor l.schema c.in-Ok.script.script.lines) c.layout.ensures c.in-Ok.ensures.fit;
+    }
 
 pub with_books-requires-clause-given : goal.with_books-requires-clause-given
 with_books-requires-clause-given g c κs within honest =

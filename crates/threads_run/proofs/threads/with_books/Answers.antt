@@ -3,8 +3,8 @@ use Rattle.std.specs.Prelude.{IsNone}
 use Rattle.script_run.specs.Script.{script_lines}
 use Rattle.plain_script.specs.PlainScripts.{HasItsSessions, PlainScript, plain_script}
 use Rattle.plain_script.specs.SessionLines.{numbers_of, sum_below, sum_below-numbers}
-use Rattle.threads_run.specs.Output.{AllImagesHave, HasWorked}
-use Rattle.threads_run.proofs.Outcomes.{has_worked, images_at_first}
+use Rattle.threads_run.specs.Output.{AllImagesHave, HasWorked, output_of}
+use Rattle.threads_run.proofs.Outcomes.{has_begun, has_worked, images_at_first}
 use Rattle.threads_run.proofs.PlaceSums.{places}
 use Rattle.threads_run.proofs.threads.with_books.Goals as goal
 
@@ -43,3 +43,8 @@ returns-in-Ok-new-clause-output g c honest limit bytes =
     inr (subst (λ disk. HasWorked c.written.result.0 g.N.Names.opening g.N.Names.layout script (g.D.Disk.told disk) taken taken') (sym c.written.ensures.disk)
     (has_worked g.D.Disk.told g.N.Names.opening g.N.Names.layout script c.worked.result.kept (c.written.ensures.watched honest) c.entries_are_of_lines.ensures.once
     (subst HasItsSessions same c.requires.fresh.sessions) (λ none. c.worked.ensures (subst IsNone (sym none) refl) ∙ accounted) taken taken' c.written.result.0 c.written.ensures.bytes))
+
+pub returns-in-Ok-new-clause-begun : goal.returns-in-Ok-new-clause-begun
+returns-in-Ok-new-clause-begun g c =
+    let kept = c.worked.result.kept in
+    has_begun kept.ended (output_of kept.script.script kept.said) (g.K.Sink.taken c.args.sink.now) (g.K.Sink.taken c.written.new.sink) c.written.result.0 c.written.ensures.bytes

@@ -1,8 +1,37 @@
+use denote.Exit.{no}
+use denote.Param.{param}
+use denote.Param.Send.{arg_send, param_send}
 use Rattle.std.proofs.Common.{◌≡◌, ◌∙◌, ap, length, arith}
 use Rattle.std.specs.Prelude.{slice_index_or}
 use Rattle.std.specs.List.{sum_by}
+use Rattle.session_stepper.specs.contracts.locked_store.LockedStore as locked
+use Rattle.session_stepper.proofs.Sending.{locked_send}
 use Rattle.threads_run.proofs.PlaceSums.{all_answered, ones, written_back}
 use Rattle.threads_run.proofs.threads.worked.Goals as goal
+
+pub run_all-requires-send-S : goal.run_all-requires-send-S
+run_all-requires-send-S g c κs outlives =
+    param_send 3 _
+    (arg_send _ no (locked.the_row (param 0 g.row.N) (param 4 g.row.D) (param 1 g.row.L) (param 2 g.row.E) g.N.Names g.D.Disk g.L.Ledger g.E.Ledger)
+    (locked_send (param 0 g.row.N) (param 4 g.row.D) (param 1 g.row.L) (param 2 g.row.E) g.N.Names g.D.Disk g.L.Ledger g.E.Ledger c.type_bounds.send-N c.type_bounds.send-D))
+
+pub run_all-requires-clause-parts : goal.run_all-requires-clause-parts
+run_all-requires-clause-parts g c κs outlives k d within =
+    let value = c.as_mut_slice.ensures.value in
+    let one = c.requires.parts k d (omega (arith, within, ap length value)) in
+    let share = ap (λ ws. (slice_index_or ws k d).share.parts) value in
+    let end = ap (λ ws. (slice_index_or ws k d).end.parts) value in
+    (omega (arith, share, one.0), omega (arith, end, one.1))
+
+pub run_all-requires-clause-fresh : goal.run_all-requires-clause-fresh
+run_all-requires-clause-fresh g c κs outlives k d within =
+    let value = c.as_mut_slice.ensures.value in
+    let fresh = c.requires.fresh k d (omega (arith, within, ap length value)) in (
+      ap (λ ws. (slice_index_or ws k d).done) value ∙ fresh.0,
+      ap (λ ws. (slice_index_or ws k d).ended) value ∙ fresh.1,
+      ap (λ ws. (slice_index_or ws k d).share.amount) value ∙ fresh.2,
+      ap (λ ws. (slice_index_or ws k d).end.amount) value ∙ fresh.3,
+    )
 
 pub audit-requires : goal.audit-requires
 audit-requires g c =
