@@ -69,7 +69,7 @@ struct Opened {
 
 /// Opens the file of the first word as a disk, on which no call has failed so far, or answers the status where it can't be had. Before that each standard stream is an
 /// open one.
-fn opened(rt: &HostRuntime) -> Result<Opened, u8>
+fn open_all(rt: &HostRuntime) -> Result<Opened, u8>
     ensures { IfOk result (λ opened. (⟦<FileDisk as Disk>⟧.told opened.disk).faults ≡ 0) }
 {
     let stand_ins = stand_ins(rt)?;
@@ -120,7 +120,7 @@ fn text(status: u8) -> Option<&'static str>
 }
 
 fn main(rt: HostRuntime) -> ExitCode {
-    let status = match opened(&rt) {
+    let status = match open_all(&rt) {
         Ok(opened) => run_over(&rt, rt.alloc(), opened),
         Err(status) => status,
     };
