@@ -1,9 +1,6 @@
 //! Sessions that each put a row, and look for it in a further transaction, beside a session that summarises.
 
-ghost use Rattle.std.specs.Prelude.{◌≡◌, true, IfSome, ℕ, List};
-ghost use Rattle.block_model.specs.DatabaseState.{initial_state};
-ghost use Rattle.block_model.specs.declared.schema.Schema.{Schema};
-ghost use Rattle.block_model.specs.declared.schema.Sizes.{Sizes};
+ghost use Rattle.std.specs.Prelude.{◌≡◌, true, IfSome};
 ghost use Rattle.brin_app.specs.declared.top.Task.{Task};
 ghost use Rattle.brin_app.specs.declared.top.Task.TheVariants as tasks;
 ghost use Rattle.brin_app.specs.Tasks.{Asks};

@@ -1,9 +1,5 @@
 //! A run of the program over a disk in memory.
 
-ghost use Rattle.std.specs.Prelude.{◌≡◌};
-ghost use Rattle.disk_trait.specs.Steady.{told_by_steady};
-ghost use Rattle.brin_app.specs.Tasks.{AsksForThreads};
-
 use block_model::Words;
 use brin_app::{Stranger, brin_main};
 use disk_trait::{SteadyDisk, VeiledDisk};
