@@ -5,11 +5,17 @@
 #![tactic(auto)]
 
 mod beside;
+#[cfg(test)]
+mod held;
 mod making;
+#[cfg(test)]
+mod orders;
 mod streams;
 #[cfg(test)]
 mod tests;
 mod turns;
+#[cfg(test)]
+mod veiled;
 
 pub use beside::run_beside;
 pub use streams::{Ends, Room, Streams};

@@ -1,7 +1,7 @@
 //! Two short scripts.
 
+use crate::veiled::words_of;
 use crate::{Room, Streams, run_twice};
-use block_model::Words;
 use io_traits::{MemorySink, MemorySource};
 use std::alloc::Global;
 use std::sync::Wait;
@@ -31,14 +31,6 @@ const ROOM: Room = Room {
     bytes: 1 << 23,
 };
 
-fn words(alloc: Global, texts: &[&[u8]]) -> Option<Words> {
-    let mut words = Words::new(alloc);
-    for text in texts {
-        words.push(text).ok()?;
-    }
-    Some(words)
-}
-
 fn streams(alloc: Global, script: &[u8]) -> Option<Streams> {
     let bytes = Vec::from_slice(alloc, script).ok()?;
     let script = MemorySource::new(bytes, 1000, Vec::new(alloc));
@@ -48,8 +40,8 @@ fn streams(alloc: Global, script: &[u8]) -> Option<Streams> {
 
 /// The statuses of the two runs, and whether the second script finds the row that the first one put. `None` where no store is made.
 fn found<R: Threads + Wait + Sync>(rt: &R, alloc: Global) -> Option<(u8, u8, bool)> {
-    let making = words(alloc, &MAKING)?;
-    let running = words(alloc, &RUNNING)?;
+    let making = words_of(alloc, &MAKING)?;
+    let running = words_of(alloc, &RUNNING)?;
     let mut puts = streams(alloc, PUTS)?;
     let mut looks = streams(alloc, LOOKS)?;
     let ends = run_twice(rt, alloc, &making, &running, ROOM, &mut puts, &mut looks).ok()?;
