@@ -154,8 +154,7 @@ module _ (old : Told) (l k : Option (List ℕ)) (only : (image : List ℕ) → I
   idle_refused_of (Run layout) = λ wrong. record { why = inl refl; disk = refl; idle = idle l k }
   idle_refused_of (Demo layout seed rows) = λ wrong. record { why = inl refl; disk = refl; idle = idle l k }
   idle_refused_of (Threads layout) = λ wrong. record { why = inl refl; disk = refl; idle = idle l k }
-  idle_refused_of ThreadsStored = λ still.
-      record { none = λ tells none. record { why = inr (inl refl); idle = idle l k }; untouched = λ e. absurd (omega (arith, e)); front = λ e. absurd (omega (arith, e)) }
+  idle_refused_of ThreadsStored = λ e. absurd (omega (arith, e))
   idle_refused_of RunStored = record { none = λ tells none. record { why = inr (inl refl); idle = idle l k }; untouched = λ e. absurd (omega (arith, e)); front = λ e. absurd (omega (arith, e)) }
 
   pub idle_spent_of : (task : Task) → IsSpentOf task 7 old l l

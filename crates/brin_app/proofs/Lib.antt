@@ -8,6 +8,7 @@ pub mod Holding
 pub mod Known
 pub mod Making
 pub mod Moments
+pub mod Named
 pub mod Outputs
 pub mod Performed
 pub mod Running

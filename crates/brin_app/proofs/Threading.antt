@@ -173,9 +173,9 @@ as_stored {status} {old} {new} {l} {k} done = record {
   read_fault = done.read_fault;
   write_fault = done.write_fault;
   disk_fault = done.disk_fault;
-  no_store = done.no_store;
-  refused_disk = λ still. done.refused_disk;
-  damaged = λ eleven still tells. done.damaged eleven tells;
+  no_store = λ _. tt;
+  refused_disk = λ nine. record { contents = (done.refused_disk.untouched nine).contents; idle = idle l k };
+  damaged = λ _. tt;
   no_usage = done.no_usage;
   spent = idle_past status l;
   complete = λ _ _ _. tt;
@@ -231,16 +231,16 @@ module _ (made : DiskLayout) (old mid : Told) (moments : Throughout old mid (IsO
 
 module _ (status : ℕ) (old new : Told) (l l' k k' : Option (List ℕ)) (r w : Type 0) (known : IsStatus status) (read : HasRead status l l') (read_fault : status ≡ 4 → r) (write_fault : status ≡ 5 → w)
     (disk_fault : status ≡ 6 → Rose old.faults new.faults) (damage : status ≡ 11 → IsTrue new.tells_contents → ⊥) (others : (status ≢ 2) × (status ≢ 9)) where
-  pub stored_worked : (IsTrue old.tells_contents → ((layout : DiskLayout) (table : TableState) → HoldsTable old layout table → ⊥) → ⊥) → IsDoneSo ThreadsStored status old new l l' k k' r w
-  stored_worked held = record {
+  pub stored_worked : IsDoneSo ThreadsStored status old new l l' k k' r w
+  stored_worked = record {
     known = known;
     output = read;
     read_fault = read_fault;
     write_fault = write_fault;
     disk_fault = disk_fault;
-    no_store = λ nine. absurd (others.1 nine);
-    refused_disk = λ still. record { none = λ tells none. absurd (held tells none); untouched = λ nine. absurd (others.1 nine); front = λ eleven tells. absurd (damage eleven (still tells)) };
-    damaged = λ eleven still tells. absurd (damage eleven (still tells));
+    no_store = λ _. tt;
+    refused_disk = λ nine. absurd (others.1 nine);
+    damaged = λ _. tt;
     no_usage = others.0;
     spent = past_read status l l' read;
     complete = λ _ _ _. tt;
@@ -337,6 +337,34 @@ module _ (opening : DatabaseState) (layout : DiskLayout) (script : List ℕ) (ne
   complete_for status old left left' (Run made) given worked read write disk_ lacks = tt
   complete_for status old left left' RunStored given worked read write disk_ lacks = tt
   complete_for status old left left' (Demo made seed rows) given worked read write disk_ lacks = tt
+
+  -- 9 doesn't come where a store was to be opened
+  pub opened_for : (status : ℕ) (old : Told) (left left' : Option (List ℕ)) → IsWorkedFor ThreadsStored status old new left left' taken taken' opening layout script → status ≢ 9
+  opened_for status old left left' (inl un) nine = elim un.why [
+    | inl six ↦ omega (arith, six, nine)
+    | inr seven ↦ omega (arith, seven, nine)
+  ]
+  opened_for status old left left' (inr run) nine = (no_other_end run.end status run.status_is).1 nine
+
+  undamaged_by : (status : ℕ) → HasWorkers status opening layout script new taken taken' → status ≢ 11
+  undamaged_by status run eleven =
+      undamaged_run opening layout script new taken taken' (subst (λ (x : RunEnd). IsThreadsOutput SCRIPT_LIMIT x opening layout script new taken taken') (damaged_end run.end (sym run.status_is ∙ eleven)) run.output)
+
+  not_eleven : (status : ℕ) → (status ≡ 6) ⊎ ((status ≡ 7) ⊎ (status ≡ 9)) → status ≢ 11
+  not_eleven status (inl six) e = omega (arith, six, e)
+  not_eleven status (inr (inl seven)) e = omega (arith, seven, e)
+  not_eleven status (inr (inr nine)) e = omega (arith, nine, e)
+
+  -- and 11 never
+  pub undamaged_for : (status : ℕ) (old : Told) (left left' : Option (List ℕ)) (task : Task) → IsThreaded task → IsWorkedFor task status old new left left' taken taken' opening layout script → status ≢ 11
+  undamaged_for status old left left' (Threads made) is (inl un) = not_eleven status un.why
+  undamaged_for status old left left' (Threads made) is (inr run) = undamaged_by status run.1
+  undamaged_for status old left left' ThreadsStored is (inl un) = not_eleven status (why_unmade un.why)
+  undamaged_for status old left left' ThreadsStored is (inr run) = undamaged_by status run
+  undamaged_for status old left left' (Init made) is worked = absurd is
+  undamaged_for status old left left' (Run made) is worked = absurd is
+  undamaged_for status old left left' RunStored is worked = absurd is
+  undamaged_for status old left left' (Demo made seed rows) is worked = absurd is
 
 -- ---- words
 

@@ -22,27 +22,28 @@ use Rattle.brin_app.specs.TaskOutputs.{IsOutputOf}
 
 -- ---- no store, and a damaged one
 
--- the disk that is to be made a store hasn't the layout's size; or none stands there, where it tells its contents
+-- The disk that is to be made a store hasn't the layout's size; or none stands there, where it tells its contents. Of a store that `threads` is to open its name tells
+-- alone: over an honest one it stands there (specs/Threads.antt).
 abbrev pub LacksStore : Task → Told → Type 0
 LacksStore (Init layout) disk = disk.size ≢ disk_size layout
 LacksStore (Run layout) disk = IsTrue disk.tells_contents → disk.size ≢ disk_size layout
 LacksStore (Demo layout seed rows) disk = IsTrue disk.tells_contents → disk.size ≢ disk_size layout
 LacksStore RunStored disk = IsTrue disk.tells_contents → HasNoStore disk.size disk.contents
 LacksStore (Threads layout) disk = IsTrue disk.tells_contents → disk.size ≢ disk_size layout
-LacksStore ThreadsStored disk = IsTrue disk.tells_contents → HasNoStore disk.size disk.contents
+LacksStore ThreadsStored disk = Unit {0}
 
 -- the disk tells its contents still, where it did
 abbrev pub TellsStill : (old new : Told) → Type 0
 TellsStill old new = IsTrue old.tells_contents → IsTrue new.tells_contents
 
--- The store that stands there is damaged, where the disk tells its contents; one that was made isn't. Of `threads` it is so over a disk that tells them still when it
--- comes back.
+-- The store that stands there is damaged, where the disk tells its contents; one that was made isn't. Of one that `threads` made it is so over a disk that tells them
+-- still when it comes back; of one that `threads` is to open its name tells alone.
 abbrev pub HasDamage : Task → (old new : Told) → Type 0
 HasDamage RunStored old new = IsTrue old.tells_contents → (at : ℕ) × IsDamagedStore old.size old.contents at
 HasDamage (Run layout) old new = IsTrue old.tells_contents → ⊥
 HasDamage (Demo layout seed rows) old new = IsTrue old.tells_contents → ⊥
 HasDamage (Init layout) old new = ⊥
-HasDamage ThreadsStored old new = TellsStill old new → IsTrue old.tells_contents → (at : ℕ) × IsDamagedStore old.size old.contents at
+HasDamage ThreadsStored old new = Unit {0}
 HasDamage (Threads layout) old new = TellsStill old new → IsTrue old.tells_contents → ⊥
 
 -- ---- a disk over which nothing can be done
@@ -64,13 +65,18 @@ pub record IsRefusedStored (status : ℕ) (old new : Told) (left left' taken tak
   pub untouched : status ≡ 9 → IsUntouched old new
   pub front : status ≡ 11 → IsTrue old.tells_contents → KeepsFront old new
 
+-- It was left as it is: nothing is read, nothing written, and each byte is the one that it was.
+pub record IsLeftAlone (old new : Told) (left left' taken taken' : Option (List ℕ)) : Type 0 where
+  pub contents : new.contents ≡ old.contents
+  pub idle : IsIdle left left' taken taken'
+
 abbrev pub IsRefusedSo : Task → ℕ → (old new : Told) → (left left' taken taken' : Option (List ℕ)) → Type 0
 IsRefusedSo (Init layout) status old new left left' taken taken' = old.size ≢ disk_size layout → IsRefusedBySize status old new left left' taken taken'
 IsRefusedSo (Run layout) status old new left left' taken taken' = old.size ≢ disk_size layout → IsRefusedBySize status old new left left' taken taken'
 IsRefusedSo (Demo layout seed rows) status old new left left' taken taken' = old.size ≢ disk_size layout → IsRefusedBySize status old new left left' taken taken'
 IsRefusedSo RunStored status old new left left' taken taken' = IsRefusedStored status old new left left' taken taken'
 IsRefusedSo (Threads layout) status old new left left' taken taken' = old.size ≢ disk_size layout → IsRefusedBySize status old new left left' taken taken'
-IsRefusedSo ThreadsStored status old new left left' taken taken' = TellsStill old new → IsRefusedStored status old new left left' taken taken'
+IsRefusedSo ThreadsStored status old new left left' taken taken' = status ≡ 9 → IsLeftAlone old new left left' taken taken'
 
 -- ---- a full journal, and too long a script
 

@@ -16,7 +16,7 @@ use disk_trait::Disk;
 use io_traits::{Gate, Sink, Source};
 use session_core::{Store, a_new_store_opens_to_fresh_pages};
 use session_parts::a_start_stands;
-use session_stepper::Names;
+use session_stepper::{NamedDisk, Names};
 use std::alloc::Global;
 use std::sync::Wait;
 use std::thread::Threads;
@@ -59,8 +59,31 @@ pub(crate) fn run_new_threads<
     }
 }
 
-/// Opens the store on the disk, and runs the script of the source over it.
+/// Opens the store on the disk behind the name, and runs the script of the source over it. So over a name that isn't honest any bytes may stand there.
 pub(crate) fn run_stored_threads<
+    N: Names + Send,
+    R: Threads + Wait + Sync,
+    D: Disk + Send + Drop,
+    S: Source,
+    K: Sink,
+    G: Gate + Sync,
+>(rt: &R, alloc: Global, disk: D, source: &mut S, sink: &mut K, gate: &G) -> (u8, D)
+    requires faults { N.faults ≡ (D.told disk).faults }
+    requires given { IsTrue N.honest → IsGivenFor tasks.ThreadsStored (D.told disk) (S.left source.old) N.opening N.layout N.script }
+    ensures done { IsDoneSo tasks.ThreadsStored result.0 (D.told disk) (D.told result.1) (S.left source.old) (S.left source.new) (K.taken sink.old) (K.taken sink.new) (Rose (S.faults source.old) (S.faults source.new)) (Rose (K.faults sink.old) (K.faults sink.new)) }
+    ensures threads { IsTrue N.honest → IsWorkedFor tasks.ThreadsStored result.0 (D.told disk) (D.told result.1) (S.left source.old) (S.left source.new) (K.taken sink.old) (K.taken sink.new) N.opening N.layout N.script }
+{
+    one_layout();
+    each_image_opens_to_one_map();
+    let disk = NamedDisk::<N, D>::new(disk);
+    let (status, disk) = open_and_work::<N, R, NamedDisk<N, D>, S, K, G>(
+        rt, alloc, disk, source, sink, gate,
+    );
+    (status, disk.into_inner())
+}
+
+/// Opens the store on the disk, and runs the script of the source over it.
+fn open_and_work<
     N: Names + Send,
     R: Threads + Wait + Sync,
     D: Disk + Send + Drop,

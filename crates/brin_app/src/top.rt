@@ -70,9 +70,8 @@ pub fn brin_main<
     G: Gate + Sync,
 >(rt: &R, alloc: Global, words: &Words, disk: D, source: &mut S, sink: &mut K, gate: &G) -> (u8, D)
     // A run over the store that stands there needs one that a stop of a store left, or bytes that are none; other tasks need nothing of the disk. From call to
-    // call `holds_on` gives it.
+    // call `holds_on` gives it. `threads` may open any bytes: over a name that isn't honest the disk tells nothing of them.
     requires image { Asks words.now tasks.RunStored → HoldsImage (D.told disk) }
-    requires threads_image { Asks words.now tasks.ThreadsStored → HoldsImage (D.told disk) }
     // For the words of `threads` alone: the name knows the disk's count of faults; and where it is honest, what it says is so.
     requires faults { AsksForThreads words.now → N.faults ≡ (D.told disk).faults }
     requires given { IsTrue N.honest → (task : Task) → Asks words.now task → IsGivenFor task (D.told disk) (S.left source.old) N.opening N.layout N.script }
@@ -101,6 +100,9 @@ pub fn brin_main<
     ensures complete { (task : Task) → Asks words.now task → ¬ (Rose (S.faults source.old) (S.faults source.new)) → ¬ (Rose (K.faults sink.old) (K.faults sink.new)) → ¬ (Rose (D.told disk).faults (D.told result.1).faults)
         → IsCompleteOf task result.0 (D.told disk) (S.left source.old) }
     // The same of `threads`, over an honest name.
+    // A store stands there if none is to be made, and it isn't damaged.
+    ensures threads_no_store { IsTrue N.honest → Asks words.now tasks.ThreadsStored → result.0 ≢ 9 }
+    ensures threads_damaged { IsTrue N.honest → AsksForThreads words.now → result.0 ≢ 11 }
     ensures threads_spent { IsTrue N.honest → AsksForThreads words.now → result.0 ≡ 8 → IsTooMuch N.opening N.layout N.script }
     ensures threads_complete { IsTrue N.honest → (task : Task) → Asks words.now task → ¬ (Rose (S.faults source.old) (S.faults source.new)) → ¬ (Rose (K.faults sink.old) (K.faults sink.new)) → ¬ (Rose (D.told disk).faults (D.told result.1).faults)
         → IsCompleteFor task result.0 (D.told disk) N.opening N.layout N.script }
@@ -296,7 +298,7 @@ fn perform<
     K: Sink,
     G: Gate + Sync,
 >(rt: &R, alloc: Global, task: Task, disk: D, source: &mut S, sink: &mut K, gate: &G) -> (u8, D)
-    requires image { (task ≡ tasks.RunStored) ⊎ (task ≡ tasks.ThreadsStored) → HoldsImage (D.told disk) }
+    requires image { task ≡ tasks.RunStored → HoldsImage (D.told disk) }
     requires numbers { HasNumbers task }
     requires faults { IsThreaded task → N.faults ≡ (D.told disk).faults }
     requires given { IsTrue N.honest → IsGivenFor task (D.told disk) (S.left source.old) N.opening N.layout N.script }

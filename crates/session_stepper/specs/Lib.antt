@@ -7,3 +7,5 @@ pub mod Transcribed
 pub mod Locked
 pub mod Beginning
 pub mod StateCode
+pub mod NamedTold
+pub mod NamedLaws

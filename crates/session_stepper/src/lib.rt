@@ -7,11 +7,13 @@
 mod ending;
 mod keeping;
 mod locked_store;
+mod named_disk;
 mod names;
 mod said;
 mod transcribed_store;
 
 pub use ending::Ending;
 pub use locked_store::{LockedStore, a_locked_store_goes_to_threads};
+pub use named_disk::NamedDisk;
 pub use names::{Names, Stranger};
 pub use said::Said;

@@ -1,47 +1,40 @@
-use Rattle.std.proofs.Common.{◌≡◌, ℕ, arith, subst, sym, ◌∙◌, inr}
-use Rattle.block_model.specs.Causes.{Rose}
-use Rattle.brin_app.specs.declared.top.Task.TheVariants.{ThreadsStored}
-use Rattle.brin_app.proofs.Doing.{held_in, its_layout, its_opening, refused_done}
-use Rattle.brin_app.proofs.Performed.{answered_done}
-use Rattle.brin_app.proofs.Threading.{as_stored, opened_stored, stored_refused, stored_worked, worked_as_answered}
+use Rattle.std.proofs.Common.{ap, sym, subst}
+use Rattle.disk_trait.specs.Told.{Told}
+use Rattle.session_stepper.specs.NamedTold.{told_to}
+use Rattle.brin_app.specs.Threads.{IsGivenStored}
+use Rattle.brin_app.proofs.Named.{as_named, done_unnamed, faults_named, given_image, image_named, worked_unnamed}
 use Rattle.brin_app.proofs.threads.run_stored_threads.Goals as goal
 
-pub work_on-requires-clause-fresh : goal.work_on-requires-clause-fresh
-work_on-requires-clause-fresh g c κs within = (c.in-Ok.ensures.fresh.0, c.in-Ok.ensures.fresh.1, c.in-Ok.ensures.ready)
-
-pub work_on-requires-clause-faults : goal.work_on-requires-clause-faults
-work_on-requires-clause-faults g c κs within = omega (arith, c.requires.faults, c.in-Ok.ensures.later)
-
-pub work_on-requires-clause-given : goal.work_on-requires-clause-given
-work_on-requires-clause-given g c κs within honest =
-    let given = c.requires.given honest in
+pub open_and_work-status-requires-clause-image : goal.open_and_work-status-requires-clause-image
+open_and_work-status-requires-clause-image g c κs within =
     let told = g.D.Disk.told in
-    let store = c.in-Ok.store in
-    let map = c.each_image_opens_to_one_map.ensures store.pages.layout in
-    let opened = its_opening told c.one_layout.ensures (told c.args.disk) store map c.in-Ok.ensures.there c.in-Ok.ensures.pages c.in-Ok.ensures.tells c.in-Ok.ensures.ready c.in-Ok.ensures.opens c.in-Ok.ensures.any_moment
-    g.N.Names.layout given.table given.tells given.holds given.holds.image in
-    let same = its_layout told c.one_layout.ensures (told c.args.disk) store map c.in-Ok.ensures.there c.in-Ok.ensures.pages c.in-Ok.ensures.tells c.in-Ok.ensures.ready c.in-Ok.ensures.opens c.in-Ok.ensures.any_moment
-    g.N.Names.layout given.table given.tells given.holds in
-    (opened_stored told store (c.in-Ok.ensures.tells ∙ given.tells) c.a_start_stands.ensures (told c.args.disk) (g.S.Source.left c.args.source.now) g.N.Names.opening g.N.Names.layout g.N.Names.script given same opened, given.source)
+    let speaks = g.N.Names.honest in
+    image_named speaks (told c.args.disk) _ (ap (λ d. told_to speaks (told d)) c.new.ensures)
+    (λ honest. given_image c.one_layout.ensures c.each_image_opens_to_one_map.ensures (told c.args.disk) _ _ _ _ (c.requires.given honest))
 
-pub returns-in-Ok-clause-done : goal.returns-in-Ok-clause-done
-returns-in-Ok-clause-done g c =
+pub open_and_work-status-requires-clause-faults : goal.open_and_work-status-requires-clause-faults
+open_and_work-status-requires-clause-faults g c κs within =
     let told = g.D.Disk.told in
-    stored_worked c.work_on.result.0 (told c.args.disk) (told c.work_on.result.1) _ _ _ _ _ _ c.work_on.ensures.known c.work_on.ensures.read c.work_on.ensures.read_fault c.work_on.ensures.write_fault
-    (λ six. subst (λ (n : ℕ). Rose n (told c.work_on.result.1).faults) c.requires.faults (c.work_on.ensures.disk_fault six)) c.work_on.ensures.damaged c.work_on.ensures.others
-    (held_in told (told c.args.disk) c.in-Ok.store c.in-Ok.ensures.there c.in-Ok.ensures.pages c.requires.image)
+    let speaks = g.N.Names.honest in
+    faults_named speaks (told c.args.disk) _ (ap (λ d. told_to speaks (told d)) c.new.ensures) _ c.requires.faults
 
-pub returns-in-Ok-clause-threads : goal.returns-in-Ok-clause-threads
-returns-in-Ok-clause-threads g c = λ honest. inr (c.work_on.ensures.works honest)
+pub open_and_work-status-requires-clause-given : goal.open_and_work-status-requires-clause-given
+open_and_work-status-requires-clause-given g c κs within honest =
+    let told = g.D.Disk.told in
+    let speaks = g.N.Names.honest in
+    subst (λ (d : Told). IsGivenStored d (g.S.Source.left c.args.source.now) g.N.Names.opening g.N.Names.layout g.N.Names.script)
+    (sym (as_named speaks (told c.args.disk) _ (ap (λ d. told_to speaks (told d)) c.new.ensures) honest)) (c.requires.given honest)
 
-pub returns-in-Err-clause-done : goal.returns-in-Err-clause-done
-returns-in-Err-clause-done g c =
-    as_stored (answered_done g.D.Disk.told (g.D.Disk.told c.args.disk) _ _ _ _ c.refused.ensures.status c.refused.ensures.disk
-    (refused_done c.one_layout.ensures c.a_stored_table_is_not_damaged.ensures (g.D.Disk.told c.args.disk) (g.D.Disk.told c.in-Err.refusal.1) _ _ c.in-Err.ensures.any_moment c.in-Err.refusal.0 _ _
-    c.in-Err.ensures.untouched c.in-Err.ensures.front c.in-Err.ensures.refused))
+pub returns-clause-done : goal.returns-clause-done
+returns-clause-done g c =
+    let told = g.D.Disk.told in
+    let speaks = g.N.Names.honest in
+    done_unnamed _ _ _ _ _ speaks (told c.args.disk) (told c.into_inner.result) _ _ (ap (λ d. told_to speaks (told d)) c.new.ensures) (ap (λ d. told_to speaks (told d)) (sym c.into_inner.ensures))
+    c.open_and_work-status.ensures.done
 
-pub returns-in-Err-clause-threads : goal.returns-in-Err-clause-threads
-returns-in-Err-clause-threads g c = λ honest.
-    worked_as_answered g.D.Disk.told ThreadsStored (g.D.Disk.told c.args.disk) _ _ _ _ c.refused.ensures.status c.refused.ensures.disk _ _ _ _ _ _ _
-    (stored_refused c.one_layout.ensures c.a_stored_table_is_not_damaged.ensures (g.D.Disk.told c.args.disk) (g.D.Disk.told c.in-Err.refusal.1) (g.S.Source.left c.args.source.now) (g.K.Sink.taken c.args.sink.now)
-    c.in-Err.ensures.any_moment g.N.Names.opening g.N.Names.layout g.N.Names.script (c.requires.given honest) c.in-Err.refusal.0 c.in-Err.ensures.refused)
+pub returns-clause-threads : goal.returns-clause-threads
+returns-clause-threads g c = λ honest.
+    let told = g.D.Disk.told in
+    let speaks = g.N.Names.honest in
+    worked_unnamed _ _ _ _ _ (told c.args.disk) (told c.into_inner.result) _ _ (as_named speaks (told c.args.disk) _ (ap (λ d. told_to speaks (told d)) c.new.ensures) honest)
+    (as_named speaks (told c.into_inner.result) _ (ap (λ d. told_to speaks (told d)) (sym c.into_inner.ensures)) honest) _ _ _ (c.open_and_work-status.ensures.threads honest)

@@ -1,17 +1,15 @@
-use Rattle.std.proofs.Common.{Err, refl, ap, subst, inl, inr}
+use Rattle.std.proofs.Common.{Err, refl, ap, subst, inl, inr, arith}
+use Rattle.brin_app.specs.declared.top.Task.TheVariants.{ThreadsStored}
 use Rattle.brin_app.specs.Tasks.{Asks}
 use Rattle.brin_app.proofs.Doing.{idle_complete_of, idle_output, idle_refused_of, idle_spent_of}
 use Rattle.brin_app.proofs.Holding.{holds_words, idle_on, run_only}
 use Rattle.brin_app.proofs.Known.{is_2, is_7}
 use Rattle.brin_app.proofs.Performed.{performed}
-use Rattle.brin_app.proofs.Threading.{complete_for, holds_for, idle_completed, idle_worked, spent_for, worked_task}
+use Rattle.brin_app.proofs.Threading.{complete_for, holds_for, idle_completed, idle_worked, opened_for, spent_for, undamaged_for, worked_task}
 use Rattle.brin_app.proofs.top.brin_main.Goals as goal
 
 pub perform-requires-clause-image : goal.perform-requires-clause-image
-perform-requires-clause-image g c κs within is = elim is [
-  | inl run ↦ c.requires.image (subst (Asks c.args.words.now) run c.in-Ok.ensures.asked)
-  | inr threads ↦ c.requires.threads_image (subst (Asks c.args.words.now) threads c.in-Ok.ensures.asked)
-]
+perform-requires-clause-image g c κs within run = c.requires.image (subst (Asks c.args.words.now) run c.in-Ok.ensures.asked)
 
 pub perform-requires-clause-faults : goal.perform-requires-clause-faults
 perform-requires-clause-faults g c κs within threaded = c.requires.faults (c.in-Ok.task, c.in-Ok.ensures.asked, threaded)
@@ -28,6 +26,18 @@ returns-in-Ok-clause-threads_spent g c = λ honest asks eight.
     spent_for g.N.Names.opening g.N.Names.layout g.N.Names.script (g.D.Disk.told c.perform.result.1) (g.K.Sink.taken c.args.sink.now) (g.K.Sink.taken c.perform.new.sink) c.perform.result.0 (g.D.Disk.told c.args.disk)
     (g.S.Source.left c.args.source.now) (g.S.Source.left c.perform.new.source) asks.0 asks.2 (worked_task c.perform.result.0 (g.D.Disk.told c.args.disk) (g.D.Disk.told c.perform.result.1) (g.S.Source.left c.args.source.now) (g.S.Source.left c.perform.new.source) (g.K.Sink.taken c.args.sink.now) (g.K.Sink.taken c.perform.new.sink)
     g.N.Names.opening g.N.Names.layout g.N.Names.script c.in-Ok.task asks.0 (c.in-Ok.ensures.alone asks.0 asks.1) (c.perform.ensures.threads honest)) eight
+
+pub returns-in-Ok-clause-threads_no_store : goal.returns-in-Ok-clause-threads_no_store
+returns-in-Ok-clause-threads_no_store g c = λ honest asked.
+    opened_for g.N.Names.opening g.N.Names.layout g.N.Names.script (g.D.Disk.told c.perform.result.1) (g.K.Sink.taken c.args.sink.now) (g.K.Sink.taken c.perform.new.sink) c.perform.result.0 (g.D.Disk.told c.args.disk)
+    (g.S.Source.left c.args.source.now) (g.S.Source.left c.perform.new.source) (worked_task c.perform.result.0 (g.D.Disk.told c.args.disk) (g.D.Disk.told c.perform.result.1) (g.S.Source.left c.args.source.now) (g.S.Source.left c.perform.new.source) (g.K.Sink.taken c.args.sink.now) (g.K.Sink.taken c.perform.new.sink)
+    g.N.Names.opening g.N.Names.layout g.N.Names.script c.in-Ok.task ThreadsStored (c.in-Ok.ensures.alone ThreadsStored asked) (c.perform.ensures.threads honest))
+
+pub returns-in-Ok-clause-threads_damaged : goal.returns-in-Ok-clause-threads_damaged
+returns-in-Ok-clause-threads_damaged g c = λ honest asks.
+    undamaged_for g.N.Names.opening g.N.Names.layout g.N.Names.script (g.D.Disk.told c.perform.result.1) (g.K.Sink.taken c.args.sink.now) (g.K.Sink.taken c.perform.new.sink) c.perform.result.0 (g.D.Disk.told c.args.disk)
+    (g.S.Source.left c.args.source.now) (g.S.Source.left c.perform.new.source) asks.0 asks.2 (worked_task c.perform.result.0 (g.D.Disk.told c.args.disk) (g.D.Disk.told c.perform.result.1) (g.S.Source.left c.args.source.now) (g.S.Source.left c.perform.new.source) (g.K.Sink.taken c.args.sink.now) (g.K.Sink.taken c.perform.new.sink)
+    g.N.Names.opening g.N.Names.layout g.N.Names.script c.in-Ok.task asks.0 (c.in-Ok.ensures.alone asks.0 asks.1) (c.perform.ensures.threads honest))
 
 pub returns-in-Ok-clause-threads_holds_on : goal.returns-in-Ok-clause-threads_holds_on
 returns-in-Ok-clause-threads_holds_on g c = λ honest asks ran images.
@@ -55,6 +65,18 @@ returns-in-Err-Memory-clause-threads_holds_on g c = λ _ _ run _. absurd ((run_o
 
 pub returns-in-Err-Usage-clause-threads_complete : goal.returns-in-Err-Usage-clause-threads_complete
 returns-in-Err-Usage-clause-threads_complete g c = λ _ task asked. absurd (c.in-Err-Usage.ensures.nothing (ap Err c.in-Err-Usage.field-0-is) task asked)
+
+pub returns-in-Err-Usage-clause-threads_no_store : goal.returns-in-Err-Usage-clause-threads_no_store
+returns-in-Err-Usage-clause-threads_no_store g c = λ _ _ e. omega (arith, e)
+
+pub returns-in-Err-Memory-clause-threads_no_store : goal.returns-in-Err-Memory-clause-threads_no_store
+returns-in-Err-Memory-clause-threads_no_store g c = λ _ _ e. omega (arith, e)
+
+pub returns-in-Err-Usage-clause-threads_damaged : goal.returns-in-Err-Usage-clause-threads_damaged
+returns-in-Err-Usage-clause-threads_damaged g c = λ _ _ e. omega (arith, e)
+
+pub returns-in-Err-Memory-clause-threads_damaged : goal.returns-in-Err-Memory-clause-threads_damaged
+returns-in-Err-Memory-clause-threads_damaged g c = λ _ _ e. omega (arith, e)
 
 pub returns-in-Err-Memory-clause-threads_output : goal.returns-in-Err-Memory-clause-threads_output
 returns-in-Err-Memory-clause-threads_output g c = λ _ task _. idle_worked (g.D.Disk.told c.args.disk) _ _ c.disk_laws.ensures.only _ _ _ task

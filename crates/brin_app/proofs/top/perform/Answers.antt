@@ -23,7 +23,7 @@ returns-in-Run g c = record {
 }
 
 pub run_stored-requires : goal.run_stored-requires
-run_stored-requires g c = c.requires.image (inl c.in-RunStored.is)
+run_stored-requires g c = c.requires.image c.in-RunStored.is
 
 pub returns-in-RunStored : goal.returns-in-RunStored
 returns-in-RunStored g c = record {
@@ -55,9 +55,6 @@ returns-in-Threads g c = record {
   holds_on = inl (subst IsThreaded (sym c.in-Threads.is) tt);
   threads = λ honest. worked_task _ _ _ _ _ _ _ _ _ _ _ c.args.task c.in-Threads.is (c.run_new_threads.ensures.threads honest);
 }
-
-pub run_stored_threads-requires-clause-image : goal.run_stored_threads-requires-clause-image
-run_stored_threads-requires-clause-image g c κs within = c.requires.image (inr c.in-ThreadsStored.is)
 
 pub run_stored_threads-requires-clause-faults : goal.run_stored_threads-requires-clause-faults
 run_stored_threads-requires-clause-faults g c κs within = c.requires.faults (subst IsThreaded (sym c.in-ThreadsStored.is) tt)

@@ -1,16 +1,13 @@
 use Rattle.std.proofs.Common.{◌≡◌, Some, refl, sym, ap, subst}
 use Rattle.disk_trait.specs.Memory.{told_by_memory}
 use Rattle.brin_app.specs.declared.top.Task.{Task}
-use Rattle.brin_app.specs.declared.top.Task.TheVariants.{RunStored, Threads, ThreadsStored}
+use Rattle.brin_app.specs.declared.top.Task.TheVariants.{RunStored, Threads}
 use Rattle.brin_app.specs.Threads.{IsGivenFor}
 use Rattle.rerun.proofs.Named.{worked_named}
 use Rattle.rerun.proofs.beside.run_named.Goals as goal
 
 pub brin_main-requires-clause-image : goal.brin_main-requires-clause-image
 brin_main-requires-clause-image g c κs within asked = absurd (let bad : RunStored ≡ Threads c.args.layout.now = c.requires.alone RunStored asked in cc)
-
-pub brin_main-requires-clause-threads_image : goal.brin_main-requires-clause-threads_image
-brin_main-requires-clause-threads_image g c κs within asked = absurd (let bad : ThreadsStored ≡ Threads c.args.layout.now = c.requires.alone ThreadsStored asked in cc)
 
 pub brin_main-requires-clause-faults : goal.brin_main-requires-clause-faults
 brin_main-requires-clause-faults g c κs within threads = c.requires.named.0

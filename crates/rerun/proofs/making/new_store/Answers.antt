@@ -1,16 +1,13 @@
 use Rattle.std.proofs.Common.{◌≡◌, ℕ, inl, refl, subst}
 use Rattle.std.proofs.lemmas.Bool.{false≢true}
 use Rattle.disk_trait.specs.Memory.{told_by_memory}
-use Rattle.brin_app.specs.declared.top.Task.TheVariants.{Init, ThreadsStored}
+use Rattle.brin_app.specs.declared.top.Task.TheVariants.{Init}
 use Rattle.brin_app.specs.Holding.{StaysStore}
 use Rattle.rerun.proofs.Turning.{asks_new, empty_sure, holds_alone}
 use Rattle.rerun.proofs.making.new_store.Goals as goal
 
 pub brin_main-status-requires-clause-image : goal.brin_main-status-requires-clause-image
 brin_main-status-requires-clause-image g c κs within stored = absurd (c.in_ok-disk.ensures.new stored)
-
-pub brin_main-status-requires-clause-threads_image : goal.brin_main-status-requires-clause-threads_image
-brin_main-status-requires-clause-threads_image g c κs within stored = absurd (c.in_ok-disk.ensures.alone (ThreadsStored, stored, tt))
 
 pub brin_main-status-requires-clause-faults : goal.brin_main-status-requires-clause-faults
 brin_main-status-requires-clause-faults g c κs within threads = absurd (c.in_ok-disk.ensures.alone threads)

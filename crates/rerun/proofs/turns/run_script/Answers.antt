@@ -1,13 +1,10 @@
 use Rattle.std.proofs.lemmas.Bool.{false≢true}
-use Rattle.brin_app.specs.declared.top.Task.TheVariants.{RunStored, ThreadsStored}
+use Rattle.brin_app.specs.declared.top.Task.TheVariants.{RunStored}
 use Rattle.rerun.proofs.Turning.{holds_alone, runs_over}
 use Rattle.rerun.proofs.turns.run_script.Goals as goal
 
 pub brin_main-requires-clause-image : goal.brin_main-requires-clause-image
 brin_main-requires-clause-image g c κs within _ = c.requires.image
-
-pub brin_main-requires-clause-threads_image : goal.brin_main-requires-clause-threads_image
-brin_main-requires-clause-threads_image g c κs within _ = c.requires.image
 
 pub brin_main-requires-clause-faults : goal.brin_main-requires-clause-faults
 brin_main-requires-clause-faults g c κs within threads = absurd (c.requires.alone threads)
