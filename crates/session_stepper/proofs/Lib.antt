@@ -2,6 +2,7 @@ pub mod Entries
 pub mod Kept
 pub mod Books
 pub mod Naming
+pub mod Replying
 pub mod Watching
 pub mod Calling
 pub mod Ways

@@ -21,10 +21,11 @@ use Rattle.store_layout.specs.FirstBrokenRule.{IsFirstBroken, IsLeastBroken, Kee
 use Rattle.transactions.specs.StopLaws.{EachImage}
 use Rattle.script_semantics.specs.LineTexts.{Submits, dropped_at}
 use Rattle.script_semantics.specs.Place.{Place}
+use Rattle.script_semantics.specs.RequestSteps.{StepsEnter}
 use Rattle.script_semantics.specs.StatementSteps.{LacksRoom, Moved, Ended, Waits}
 use Rattle.transcripts.specs.Transcript.{Said}
 use Rattle.transcript_laws.specs.Schedule.{AtOpening, AtStart, ByReply, MakesStep, NotByMove, NotByWait, Refuses, Schedule, Takes, entry_of}
-use Rattle.transcript_laws.specs.ScheduleLaws.{FitsSchema, SchedulesAreTranscripts}
+use Rattle.transcript_laws.specs.ScheduleLaws.{AnswersAreInPlace, FitsSchema, OnlyInsertsDrop, SchedulesAreReached, SchedulesAreTranscripts}
 use Rattle.plain_script.specs.HeldScripts.{HeldScript}
 use Rattle.plain_script.specs.PlainScripts.{PlainScript}
 use Rattle.session_parts.specs.ShowsPlace.{ShowsPlace}
@@ -42,6 +43,7 @@ use Rattle.session_stepper.specs.Calls as calls
 use Rattle.session_stepper.specs.Calls.{IsAdvanced, IsSubmitted, ending_of}
 use Rattle.session_stepper.specs.Locked.{ByRefusal, ByStep, IsKnown, IsWatched, IsWatchedSomewhere, LeadsByAnswer, StandsAt, StandsBy}
 use Rattle.session_stepper.specs.TranscribedState.{TranscribedState, lines_in, name_in}
+use Rattle.session_stepper.proofs.Replying.{replies_told}
 
 module _ {D : Type 0} (told : D → Told) (opening : DatabaseState) (layout : DiskLayout) where
   -- by the script that it has
@@ -203,15 +205,19 @@ module _ {D : Type 0} (told : D → Told) (opening : DatabaseState) (layout : Di
       by None is least = is
       by (Some rule) is least = absurd (false≢true (sym least.broken ∙ keeps rule))
 
-  pub knows : (script : PlainScript) (s : TranscribedState D) → SchedulesAreTranscripts → KeepsLimits s.store.pages.layout.schema s.store.pages.layout.sizes
+  pub knows : (script : PlainScript) (s : TranscribedState D) → SchedulesAreTranscripts → SchedulesAreReached → AnswersAreInPlace → OnlyInsertsDrop → StepsEnter → KeepsLimits s.store.pages.layout.schema s.store.pages.layout.sizes
       → IsLeastBroken s.store.pages.layout.schema s.store.pages.layout.sizes → FitsSchema s.store.pages.layout.schema (lines_in s) → WatchedAt script s → IsKnown told opening layout script s
-  knows script s law keeps least fits w = record {
-    place = w.0;
-    watched = w.1;
-    right = law layout script.names script.lines opening s.said w.0
-        (subst (λ (l : DiskLayout). first_broken_rule l.schema l.sizes ≡ None) w.1.layout_is (unbroken s.store.pages.layout keeps least))
-        (subst (λ (x : PlainScript). FitsSchema layout.schema x.lines) w.1.script_is (subst (λ (l : DiskLayout). FitsSchema l.schema (lines_in s)) w.1.layout_is fits)) w.1.opens w.1.schedule;
-  }
+  knows script s law reached in_place drop enter keeps least fits w =
+      let within = subst (λ (l : DiskLayout). first_broken_rule l.schema l.sizes ≡ None) w.1.layout_is (unbroken s.store.pages.layout keeps least) in
+      let fit = subst (λ (x : PlainScript). FitsSchema layout.schema x.lines) w.1.script_is (subst (λ (l : DiskLayout). FitsSchema l.schema (lines_in s)) w.1.layout_is fits) in
+      record {
+        place = w.0;
+        watched = w.1;
+        opening_is = w.1.opening_is;
+        legal = w.1.legal;
+        right = law layout script.names script.lines opening s.said w.0 within fit w.1.opens w.1.schedule;
+        replies = replies_told layout script.names script.lines opening s.said w.0 fit within w.1.opens law reached in_place drop enter w.1.schedule w.1.opening_is w.1.legal;
+      }
 
   -- ---- before the first line
 

@@ -4,6 +4,7 @@ pub mod Statuses
 pub mod TranscribedState
 pub mod Calls
 pub mod Transcribed
+pub mod Replies
 pub mod Locked
 pub mod Beginning
 pub mod StateCode

@@ -24,6 +24,7 @@ use Rattle.session_orders.specs.CrashRule.{HasTableOf}
 use Rattle.session_orders.specs.OneStep.{LacksRoomFor}
 use Rattle.session_stepper.specs.declared.ending.Ending.{Ending}
 use Rattle.session_stepper.specs.declared.ending.Ending.TheVariants.{Disk, Memory, OutOfPlace, Spent, Damaged}
+use Rattle.session_stepper.specs.Replies.{TellsReplies}
 use Rattle.session_stepper.specs.TranscribedState.{TranscribedState}
 
 -- what is behind the lock, and how many calls were answered Ended
@@ -86,8 +87,12 @@ pub record IsWatched {D : Type 0} (told : D → Told) (opening : DatabaseState) 
 abbrev pub IsWatchedSomewhere : {D : Type 0} → (D → Told) → DatabaseState → DiskLayout → PlainScript → TranscribedState D → Type 0
 IsWatchedSomewhere told opening layout script s = (p : Place) × IsWatched told opening layout script s p
 
--- What is known of it: what was told is a right transcript, whose database has the place's table; and the journal's database is ahead of it by the statements in hand alone. The rest is as it is watched.
+-- What is known of it: the journal of the place is legal from the name's opening on. What was told is a right transcript, whose database has the place's table; the journal's database is ahead of it by the statements in hand
+-- alone. And what was told of each session is the text of the journal's replies, one by one. The rest is as it is watched.
 pub record IsKnown {D : Type 0} (told : D → Told) (opening : DatabaseState) (layout : DiskLayout) (script : PlainScript) (s : TranscribedState D) : Type 0 where
   pub place : Place
   pub watched : IsWatched told opening layout script s place
+  pub opening_is : place.opening ≡ opening
+  pub legal : IsLegal opening place.journal
   pub right : IsRightlyTold layout script.names script.lines opening s.said place
+  pub replies : TellsReplies layout script.names script.lines s.said place

@@ -15,12 +15,13 @@ use crate::transcribed_store::TranscribedStore;
 use disk_trait::Disk;
 use io_traits::{EmptyJob, Stepper, Turn};
 use plain_script::ScriptLines;
+use script_semantics::a_step_enters;
 use session_core::Store;
 use std::alloc::Global;
 use std::marker::{Model, PhantomData};
 use std::sync::ledger::{Book, Ledger, Share};
 use store_layout::the_first_broken_rule_is_the_least;
-use transcript_laws::schedules_are_transcripts;
+use transcript_laws::{answers_are_in_place, schedules_are_transcripts};
 
 /// The store of sessions with the script, the transcript and both books, behind the name of the call that made it. Its first book counts the entries of the transcript,
 /// its second the calls that were answered Ended.
@@ -82,12 +83,15 @@ impl<N: Names, D: Disk + Drop, L: Ledger, E: Ledger> LockedStore<N, D, L, E> {
     pub fn known(&self)
         ensures none { IsNone self.now.kept.ended ↔ (self.now.ends ≡ 0) }
         ensures cause { IfSome self.now.kept.ended (HasEnded D.told N.faults self.now.kept.store) }
-        // Where the name is honest the transcript is right, and each image has the table to which it leads, or that with a commit in hand where all ended.
+        // Where the name is honest the transcript is right and tells the journal's replies, and each image has the table to which it leads, or that with a commit in hand where
+        // all ended.
         ensures watched { IsTrue N.honest → IsKnown D.told N.opening N.layout (plain_script N.layout.schema (script_lines N.script)) self.now.kept }
     {
         let layout = self.kept.layout();
         layout.known();
         the_first_broken_rule_is_the_least(layout.schema(), layout.sizes());
+        a_step_enters();
+        answers_are_in_place();
         schedules_are_transcripts();
         self.kept.known();
     }
