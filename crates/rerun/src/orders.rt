@@ -153,21 +153,20 @@ fn runs_well<R: Threads + Wait + Sync, G: Gate + Sync>(
     Some(status == 0 && are_in_order(alloc, text)?)
 }
 
-/// How many runs went well, half of them with a gate that lets the other threads go on.
-fn count_good<R: Threads + Wait + Sync>(rt: &R, alloc: Global) -> u64 {
-    let mut good = 0;
+/// Whether all runs go well, half of them with a gate that lets the other threads go on.
+fn all_run_well<R: Threads + Wait + Sync>(rt: &R, alloc: Global) -> bool {
     for _ in 0..TURNS {
-        if runs_well(rt, alloc, &OpenGate) == Some(true) {
-            good += 1;
+        if runs_well(rt, alloc, &OpenGate) != Some(true) {
+            return false;
         }
-        if runs_well(rt, alloc, &Yields) == Some(true) {
-            good += 1;
+        if runs_well(rt, alloc, &Yields) != Some(true) {
+            return false;
         }
     }
-    good
+    true
 }
 
 #[test]
 fn threads_keep_each_session_in_order(rt: HostRuntime) {
-    assert_eq!(rt; count_good(&rt, rt.alloc()), 2 * TURNS);
+    assert_eq!(rt; all_run_well(&rt, rt.alloc()), true);
 }
