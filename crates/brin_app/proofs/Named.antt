@@ -1,6 +1,6 @@
 -- a disk behind a name, as the disk in it is
-use Rattle.std.proofs.Common.{◌≡◌, ℕ, Bool, true, List, Option, refl, sym, subst}
-use Rattle.std.proofs.lemmas.Bool.{and_parts}
+use Rattle.std.proofs.Common.{◌≡◌, ℕ, Bool, true, false, List, Option, refl, sym, subst}
+use Rattle.std.proofs.lemmas.Bool.{and_parts, false≢true}
 use Rattle.std.specs.Prelude.{IsTrue}
 use Rattle.block_model.specs.DatabaseState.{DatabaseState}
 use Rattle.disk_trait.specs.Told.{Told}
@@ -16,13 +16,14 @@ use Rattle.brin_app.proofs.Holding.{image_held}
 -- an honest name hides nothing
 as_told : (honest : Bool) (disk : Told) → IsTrue honest → told_to honest disk ≡ disk
 as_told true disk _ = refl
+as_told false disk never = absurd (false≢true never)
 
 -- a name that isn't hides all bytes
 image_behind : (honest : Bool) (disk : Told) → (IsTrue honest → HoldsImage disk) → HoldsImage (told_to honest disk)
 image_behind honest disk holds tells layout pages opens = let parts = and_parts honest disk.tells_contents tells in holds parts.0 parts.1 layout pages opens
 
 -- the store of which an honest name speaks is one that a stop left
-given_image : HaveOneLayout → ((layout : DiskLayout) → OpenToOneMap layout) → (disk : Told) (left : Option (List ℕ)) (opening : DatabaseState) (layout : DiskLayout) (script : List ℕ)
+pub given_image : HaveOneLayout → ((layout : DiskLayout) → OpenToOneMap layout) → (disk : Told) (left : Option (List ℕ)) (opening : DatabaseState) (layout : DiskLayout) (script : List ℕ)
     → IsGivenStored disk left opening layout script → HoldsImage disk
 given_image one map disk left opening layout script given = image_held one map disk layout given.table (given.holds.pages, given.holds.opens, given.holds.image)
 
