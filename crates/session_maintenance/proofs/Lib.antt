@@ -2,6 +2,7 @@ pub mod Oldest
 mod Dead
 mod Wanted
 mod Watching
+mod InHand
 pub mod ExplainTurns
 pub mod ExplainShown
 pub mod Explained
