@@ -20,7 +20,7 @@ ghost use Rattle.brin_insert.specs.Inserts.{IsInsertFor};
 ghost use Rattle.session_parts.specs.declared.limits.TheConstants.{LOCKS_A_SESSION, MAX_LOCKS};
 ghost use Rattle.session_parts.specs.Stepping.{IsFit, IsShown};
 
-use crate::entering::{enter_row, refuse};
+use crate::entering::{done, enter_row, refuse};
 use crate::laws::steps_of_an_insert;
 use crate::machines::machine_for;
 use block_model::{Point, Refusal, Reply, Row, Tag, Values};
@@ -158,13 +158,6 @@ fn goes_on(
     };
     *left = Some(Hand::Inserts(insert));
     Ok(Step::Moved(point))
-}
-
-/// The insert is done: it is answered its row.
-fn done(row: &Row) -> Result<Step, StoreFault>
-    ensures { result ≡ Ok (Step.Done (Reply.Inserted row.now.id)) }
-{
-    Ok(Step::Done(Reply::Inserted { id: row.id }))
 }
 
 /// Memory is short for the machine: the insert is refused.
