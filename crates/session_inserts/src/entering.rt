@@ -34,14 +34,14 @@ pub(crate) fn refuse<D: Disk + Drop>(
     parts: &mut Parts<D>,
     session: u32,
     table: u8,
-    values: Values,
+    values: &Values,
     tag: Tag,
     refusal: Refusal,
 ) -> Reply
     requires promised { 0 < parts.old.journal.promised }
     requires open { IsSome (transaction_of parts.old.transactions.opens session) }
     ensures failed { OfOpen parts.old.transactions session (λ o. parts.new.transactions ≡ with_failed parts.old.transactions session o) }
-    ensures entries { parts.new.journal.entries ≡ parts.old.journal.entries ++ tagged_entry session table (requests.Put values) tag ∷ [] }
+    ensures entries { parts.new.journal.entries ≡ parts.old.journal.entries ++ tagged_entry session table (requests.Put values.now) tag ∷ [] }
     ensures promised { parts.new.journal.promised + 1 ≡ parts.old.journal.promised }
     ensures given { GivesAll (holder parts.old.locks) (holder parts.new.locks) session }
     ensures none { locks_of parts.new.locks session ≡ 0 }
@@ -52,7 +52,7 @@ pub(crate) fn refuse<D: Disk + Drop>(
 {
     parts
         .journal
-        .enter(session, table, Request::Put(values), tag);
+        .enter(session, table, Request::Put(*values), tag);
     parts.transactions.fail(session);
     parts.locks.drop_all(session);
     Reply::Refused(refusal)

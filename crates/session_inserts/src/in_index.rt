@@ -34,6 +34,7 @@ use session_parts::{
 /// those that the session asked for in vain. With the last step the insert is done, and its machine may begin another row. It waits where
 /// another session locks a page that the step changes. Where no page of the index is left for the tuple with the row, the put is entered
 /// anew so, and the session's transaction fails; `Spent` comes where the journal has no room for that.
+#[tactic(none)]
 pub fn insert_on<D: Disk + Drop>(
     parts: &mut Parts<D>,
     session: u32,
@@ -113,6 +114,6 @@ fn full_index<D: Disk + Drop>(
 {
     let relation = index_named(parts.pages.layout(), index);
     let refusal = Refusal::Full { relation, number };
-    let reply = refuse(parts, session, row.table, row.values, Tag::Full, refusal);
+    let reply = refuse(parts, session, row.table, &row.values, Tag::Full, refusal);
     Ok(Step::Done(reply))
 }

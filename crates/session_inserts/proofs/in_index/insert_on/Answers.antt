@@ -49,9 +49,9 @@ use Rattle.session_inserts.proofs.Refusing.{LeftRefused, LeftUndone, leaves_same
 use Rattle.session_inserts.proofs.in_index.insert_on.Goals as goal
 
 -- the answer of a step that is done
-done_as : {D : Type 0} {told : D → Told} {parts new : Parts D} {n : ℕ} {was hand : Hand} {answer : Result Step StoreFault} {reply : Reply} → answer ≡ Ok (steps.Done reply) → StepsSo told parts new n was (stepped.Done reply)
+done_as : {D : Type 0} {told : D → Told} {parts new : Parts D} {n : ℕ} {was : Hand} (hand : Hand) {answer : Result Step StoreFault} {reply : Reply} → answer ≡ Ok (steps.Done reply) → StepsSo told parts new n was (stepped.Done reply)
     → StepsSo told parts new n was (stepped_in hand answer)
-done_as {D} {told} {parts} {new} {n} {was} {hand} {answer} {reply} is so = subst (λ (r : Result Step StoreFault). StepsSo told parts new n was (stepped_in hand r)) (sym is) so
+done_as {D} {told} {parts} {new} {n} {was} hand {answer} {reply} is so = subst (λ (r : Result Step StoreFault). StepsSo told parts new n was (stepped_in hand r)) (sym is) so
 
 -- the pages refuse it before it
 
@@ -143,7 +143,7 @@ returns-in-Ok-Finished g c =
     let new : Parts _ = record then { queue = c.step.new.queue } in
     let so : StepsSo g.D.Disk.told parts new c.args.session hand (stepped_in (hands.Inserts after) c.done.result) =
     subst (λ (l : List (ℕ × ℕ)). StepsSo g.D.Disk.told parts (record then { queue = l }) c.args.session hand (stepped_in (hands.Inserts after) c.done.result)) (sym quiet.0)
-    (done_as is
+    (done_as (hands.Inserts after) is
     (done_so g.D.Disk.told c.one_hand_changes.ensures laws.parts laws.stores parts c.step.new.pages c.step.new.locks c.args.session parts.queue parts.dropped c.args.insert.now after c.requires.fit
     (record { others = c.step.ensures.others; order = c.step.ensures.order; leaves = c.step.ensures.locks; counts = c.step.ensures.counts; made = c.step.ensures.made; row = c.step.ensures.same_row; ready = (outcome.0, outcome.1) })
     (λ m apart. refl)
@@ -245,7 +245,7 @@ returns-else-not-fits g c =
     let there : slice_get (indexes_of parts.pages.layout c.args.insert.now.row.table) c.args.insert.now.at ≡ Some c.index-index.result =
     number_there parts.pages.layout c.args.insert.now c.args.insert.now.at work.hand fits.in_hand.1 work.got ∙ ap Some (sym number) in
     let same_locks : c.step.new.locks ≡ parts.locks = rw c.in-Err-Full.field-0-is at c.in-Err-Full.ensures.at_full in
-    let row_is : c.row.result.now ≡ c.args.insert.now.row = c.row.ensures ∙ c.step.ensures.same_row in
+    let row_is : c.row-in-Err-Full.result.now ≡ c.args.insert.now.row = c.row-in-Err-Full.ensures ∙ c.step.ensures.same_row in
     let layout_is = c.step.ensures.others.leaves.layout in
     let reply = replies.Refused (refusals.Full (index_name parts.pages.layout c.args.insert.now.row.table c.args.insert.now.at) c.in-Err-Full.number) in
     let answer_is : c.full_index.result ≡ Ok (steps.Done reply) =
@@ -267,7 +267,7 @@ returns-else-not-fits g c =
       promised = c.full_index.ensures.promised;
       room = c.fits.ensures.0 c.if-not-fits.false;
     } in
-    let so : StepsSo g.D.Disk.told parts later c.args.session hand (stepped_in (hands.Inserts after) c.full_index.result) = done_as answer_is
+    let so : StepsSo g.D.Disk.told parts later c.args.session hand (stepped_in (hands.Inserts after) c.full_index.result) = done_as (hands.Inserts after) answer_is
     (subst (λ (q : Parts _). StepsSo g.D.Disk.told parts q c.args.session hand (stepped.Done reply)) (sym c.full_index.ensures.rest)
     (subst (λ (l : List (ℕ × ℕ)). StepsSo g.D.Disk.told parts (record parts { pages = c.step.new.pages; transactions = later.transactions; locks = later.locks; journal = later.journal; queue = l }) c.args.session hand (stepped.Done reply)) (sym c.in-Err-Full.ensures.queue)
     (full_so g.D.Disk.told c.one_hand_changes.ensures laws.parts laws.stores parts c.step.new.pages c.step.new.locks c.args.session parts.queue parts.dropped c.args.insert.now after c.requires.fit
