@@ -10,12 +10,10 @@ use Rattle.snapshot_core.specs.declared.sessions.Open.{Open}
 use Rattle.snapshot_core.specs.StoredVersions.{transaction_of}
 use Rattle.store_layout.specs.StatementRequests.{tagged_entry}
 use Rattle.store_layout.specs.DiskLayout.{DiskLayout}
-use Rattle.brin_insert.specs.declared.insert.Insert.{Insert}
 use Rattle.block_model.specs.declared.reply.Point.TheVariants as points
 use Rattle.brin_insert.specs.AskedFor.{InsertAsks}
 use Rattle.brin_insert.specs.InsertAnswers.{relation_at}
 use Rattle.brin_insert.specs.InsertHands.{InsertHand}
-use Rattle.brin_insert.specs.Inserts.{IsInsertFor}
 use Rattle.session_parts.specs.declared.hand.Hand.{Hand}
 use Rattle.session_parts.specs.declared.hand.Hand.TheVariants as hands
 use Rattle.session_parts.specs.declared.hand.Stepped.TheVariants as stepped
