@@ -22,6 +22,8 @@ mod lines;
 #[cfg(test)]
 mod logs;
 #[cfg(test)]
+mod packed;
+#[cfg(test)]
 mod pages;
 #[cfg(test)]
 mod pools;
