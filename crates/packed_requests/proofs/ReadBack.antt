@@ -1,6 +1,6 @@
 -- What was taken apart is read as it was.
-use Rattle.std.proofs.Common.{◌≡◌, ℕ, ℤ, ◌+◌, ◌*◌, ◌/◌, ◌%◌, ◌^◌, ◌<◌, ◌≤◌, ◌-◌, suc, Bool, true, false, cond, min, List, [], ◌∷◌, ◌++◌, length, map, take, drop, get_or, refl, sym, ap, ◌∙◌, FitsSigned, append_assoc, arith}
-use Rattle.std.specs.Prelude.{Option, None, Some, int_lt, nat_le}
+use Rattle.std.proofs.Common.{◌≡◌, ℕ, ℤ, ◌+◌, ◌*◌, ◌/◌, ◌%◌, ◌^◌, ◌<◌, ◌≤◌, ◌-◌, suc, Bool, true, cond, min, List, [], ◌∷◌, ◌++◌, length, map, take, drop, get_or, refl, sym, ap, ◌∙◌, FitsSigned, append_assoc, arith}
+use Rattle.std.specs.Prelude.{None, Some, int_lt, nat_le}
 use Rattle.std.specs.Int.{w64, cast_signed, cast_unsigned}
 use Rattle.std.specs.List.{flat_map}
 use Rattle.std.proofs.lemmas.Int.{to_z-of_z}
@@ -13,7 +13,7 @@ use Rattle.block_model.specs.declared.row.Query.{Query}
 use Rattle.block_model.specs.declared.request.Request.{Request}
 use Rattle.block_model.specs.declared.request.Request.TheVariants as requests
 use Rattle.block_model.specs.declared.request.Entry.{Entry}
-use Rattle.block_model.specs.Ranges.{Range, Empty, Between}
+use Rattle.block_model.specs.Ranges.{Empty, Between}
 use Rattle.block_model.specs.Networks.{Network, IsNetwork, network_v4}
 use Rattle.packed_requests.specs.declared.head.Asked.{Asked}
 use Rattle.packed_requests.specs.declared.head.Head.{Head}

@@ -8,7 +8,7 @@ use Rattle.packed_requests.specs.declared.limits.TheConstants.{NUMBERS_AN_ENTRY}
 use Rattle.packed_requests.specs.declared.head.Head.{Head}
 use Rattle.packed_requests.specs.declared.shape.Shape.{Shape}
 use Rattle.packed_requests.specs.declared.packed.PackedEntries.TheInside.{Inside}
-use Rattle.packed_requests.specs.Packing.{AreRequests, head_of, numbers_of, request_numbers, request_queries, request_shapes}
+use Rattle.packed_requests.specs.Packing.{AreRequests, head_of, request_numbers, request_queries, request_shapes}
 use Rattle.packed_requests.specs.Reading.{entries_in}
 
 abbrev pub all_shapes : List Entry → List Shape

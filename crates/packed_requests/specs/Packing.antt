@@ -5,12 +5,11 @@ use Rattle.std.specs.List.{flat_map}
 use Rattle.block_model.specs.declared.limits.TheConstants.{MAX_COLUMNS}
 use Rattle.block_model.specs.declared.value.Value.{Value}
 use Rattle.block_model.specs.declared.value.Value.TheVariants.{Null, Int, Span, Net}
-use Rattle.block_model.specs.declared.row.RowId.{RowId}
 use Rattle.block_model.specs.declared.row.Query.{Query}
 use Rattle.block_model.specs.declared.request.Request.{Request}
 use Rattle.block_model.specs.declared.request.Request.TheVariants as requests
 use Rattle.block_model.specs.declared.request.Entry.{Entry}
-use Rattle.block_model.specs.Ranges.{Range, IsRange, lower_of, upper_of}
+use Rattle.block_model.specs.Ranges.{IsRange, lower_of, upper_of}
 use Rattle.block_model.specs.Networks.{IsNetwork}
 use Rattle.packed_requests.specs.declared.head.Asked.{Asked}
 use Rattle.packed_requests.specs.declared.head.Asked.TheVariants as asks

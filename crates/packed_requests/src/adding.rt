@@ -1,6 +1,6 @@
 //! What a request brings, added to the lists.
 
-ghost use Rattle.std.specs.Prelude.{◌≡◌, ◌+◌, ◌*◌, ◌<◌, ◌≤◌, ◌++◌, ◌∷◌, length, map, vec_len, vec_capacity};
+ghost use Rattle.std.specs.Prelude.{◌≡◌, ◌+◌, ◌*◌, ◌<◌, ◌≤◌, ◌++◌, length, map, vec_len, vec_capacity};
 ghost use Rattle.std.specs.List.{flat_map};
 ghost use Rattle.packed_requests.specs.Shapes.{shape_of};
 ghost use Rattle.packed_requests.specs.Packing.{AreValues, IsBound, IsRequest, IsValue, asked_of, bound_numbers, numbers_of, request_numbers, request_queries, request_shapes};

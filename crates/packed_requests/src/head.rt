@@ -1,7 +1,5 @@
 //! What an entry is, without what it brings.
 
-ghost use Rattle.std.specs.Prelude.{◌≡◌};
-
 use block_model::Tag;
 
 /// Which request an entry is, and how many values are put.

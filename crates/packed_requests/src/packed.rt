@@ -3,7 +3,7 @@
 ghost use Rattle.std.specs.Prelude.{◌≡◌, ◌+◌, ◌<◌, ◌≤◌, [], ◌∷◌, ◌++◌, length, OnOk};
 
 use crate::adding::{add_put, add_request};
-use crate::head::{Asked, Head};
+use crate::head::Head;
 use crate::limits::NUMBERS_AN_ENTRY;
 use crate::reader::EntryReader;
 use crate::shape::Shape;

@@ -1,8 +1,7 @@
 //! What a value is, without its numbers.
 
-ghost use Rattle.std.specs.Prelude.{◌≡◌, ◌≤◌};
+ghost use Rattle.std.specs.Prelude.{◌≡◌};
 ghost use Rattle.packed_requests.specs.Shapes.{shape_of, range_shape, width};
-ghost use Rattle.packed_requests.specs.declared.limits.TheConstants.{NUMBERS_A_VALUE};
 
 use block_model::{Span8, Value};
 

@@ -1,4 +1,4 @@
-use Rattle.std.proofs.Common.{◌≡◌, ◌∷◌, [], ◌++◌, ◌+◌, ◌<◌, ◌≤◌, refl, ap, ◌∙◌, arith, sym, subst, List, append-nil}
+use Rattle.std.proofs.Common.{◌∷◌, [], ◌++◌, ◌<◌, ap, ◌∙◌, arith, sym, subst, List, append-nil}
 use Rattle.block_model.specs.declared.request.Entry.{Entry}
 use Rattle.packed_requests.specs.Packed.{Packed}
 use Rattle.packed_requests.proofs.ReadBack.{entered}

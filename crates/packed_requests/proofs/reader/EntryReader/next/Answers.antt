@@ -1,4 +1,4 @@
-use Rattle.std.proofs.Common.{◌≡◌, ◌∙◌, sym, refl, arith}
+use Rattle.std.proofs.Common.{◌∙◌, sym}
 use Rattle.packed_requests.proofs.ReadBack.{next_in, none_in}
 use Rattle.packed_requests.proofs.reader.EntryReader.next.Goals as goal
 
