@@ -28,13 +28,13 @@ use crate::laws::laws_of_sessions;
 use crate::sessions::{Session, add_session, has_hand, known_hand, number_of, put_hand, taken};
 use crate::steps::step_of;
 use crate::submitting::{block_refusal, hand_for, standing_refusal};
-use block_model::{Entry, Name, Refusal};
+use block_model::{Name, Refusal};
 use disk_trait::Disk;
 use heap_rows::blocks;
 use recovery::StartFault;
 use reply_texts::Dropped;
 use script_semantics::shown_tables_are_bounded;
-use session_parts::{Parts, Step, StoreFault, fault_of, few_locks_are_held};
+use session_parts::{EntryReader, Parts, Step, StoreFault, fault_of, few_locks_are_held};
 use session_starts::{a_step_stops_whole, start_parts};
 use std::alloc::Global;
 use std::marker::Model;
@@ -256,11 +256,11 @@ impl<D: Disk + Drop> Store<D> {
         blocks(&self.parts.pages, table)
     }
 
-    /// The requests of all statements so far, in their order. Only tests ask for them.
-    pub fn journal(&self) -> &[Entry]
-        ensures { result.now ≡ self.now.journal.entries }
+    /// Reads the requests of all statements so far, in their order. Only tests ask for them.
+    pub fn journal(&self) -> EntryReader<'_>
+        ensures { result ≡ self.now.journal.entries }
     {
-        self.parts.journal.as_slice()
+        self.parts.journal.reader()
     }
 
     /// The disk, as it is: open transactions are dropped as by a stop. Makes no device call.
