@@ -9,7 +9,7 @@ ghost use Rattle.snapshot_core.specs.StoredVersions.{transaction_of};
 ghost use Rattle.store_layout.specs.StatementRequests.{request_entry, tagged_entry};
 ghost use Rattle.transactions.specs.TransactionsState.{OfOpen, with_failed, with_row_counted};
 
-use block_model::{Refusal, Reply, Request, Row, Tag, Values};
+use block_model::{Refusal, Reply, Row, Tag, Values};
 use disk_trait::Disk;
 use session_parts::{Parts, Step, StoreFault};
 
@@ -24,7 +24,7 @@ pub(crate) fn enter_row<D: Disk + Drop>(parts: &mut Parts<D>, session: u32, row:
 {
     parts
         .journal
-        .enter(session, row.table, Request::Put(row.values), Tag::Ok);
+        .enter_put(session, row.table, &row.values, Tag::Ok);
     parts.transactions.count_row(session);
 }
 
@@ -50,9 +50,7 @@ pub(crate) fn refuse<D: Disk + Drop>(
     ensures rest { parts.new ≡ record parts.old { transactions = parts.new.transactions; locks = parts.new.locks; journal = parts.new.journal } }
     ensures reply { result ≡ Reply.Refused refusal }
 {
-    parts
-        .journal
-        .enter(session, table, Request::Put(*values), tag);
+    parts.journal.enter_put(session, table, values, tag);
     parts.transactions.fail(session);
     parts.locks.drop_all(session);
     Reply::Refused(refusal)
