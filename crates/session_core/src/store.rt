@@ -25,7 +25,7 @@ ghost use Rattle.session_core.specs.Submitting.{IsJudged, IsTakenUp, refusal_her
 
 use crate::faults::SessionFault;
 use crate::laws::laws_of_sessions;
-use crate::sessions::{Session, add_session, has_hand, known_hand, number_of, put_hand, taken};
+use crate::sessions::{Session, add_session, has_hand, known_hand, number_of, put_hand};
 use crate::steps::step_of;
 use crate::submitting::{block_refusal, hand_for, standing_refusal};
 use block_model::{Name, Refusal};
@@ -219,9 +219,8 @@ impl<D: Disk + Drop> Store<D> {
         laws_of_sessions(&self.parts);
         few_locks_are_held(&self.parts.locks);
         let own = &mut self.sessions[session as usize];
-        let hand = taken(&mut own.hand);
         let parts = &mut self.parts;
-        step_of(parts, session, hand, &mut own.hand, &mut own.spare)
+        step_of(parts, session, &mut own.hand, &mut own.spare)
     }
 
     /// Whether the session has a statement in hand.
