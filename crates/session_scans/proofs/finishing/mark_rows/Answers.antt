@@ -1,5 +1,6 @@
-use Rattle.std.proofs.Common.{◌≡◌, ◌<◌, [], length, refl, sym, ◌∙◌}
+use Rattle.std.proofs.Common.{◌≡◌, ◌<◌, [], length, refl, sym, ap, ◌∙◌}
 use Rattle.block_model.specs.declared.reply.Reply.TheVariants as replies
+use Rattle.session_parts.specs.declared.hand.Stepped.TheVariants as stepped
 use Rattle.session_scans.specs.Finishes.{GoesToMarks, LacksMemory, Tells}
 use Rattle.session_scans.proofs.Listed.{has_some, is_none, none_listed, some_listed}
 use Rattle.session_scans.proofs.Behind.{refuses_behind}
@@ -17,7 +18,7 @@ returns-in-Ok g c =
     (record { entries = c.hits_for.ensures.entries; promised = c.in-Ok.ensures.promised; rest = c.hits_for.ensures.rest })
 
 pub returns-in-Err : goal.returns-in-Err
-returns-in-Err g c = LacksMemory c.refuse_look.ensures.answer
+returns-in-Err g c = LacksMemory (ap stepped.Done c.refuse_look.ensures.answer)
     (refuses_behind c.args.parts.now c.hits_for.new.parts c.refuse_look.new.parts c.release.new.self c.args.session c.args.query c.hits_for.ensures.rest c.hits_for.ensures.entries c.in-Err.ensures.same
     c.release.ensures.entries c.release.ensures.promised c.refuse_look.ensures.failed c.refuse_look.ensures.entries c.refuse_look.ensures.promised c.refuse_look.ensures.rest)
     c.requires.room
