@@ -24,11 +24,7 @@ pub mod WorkAsked
 pub mod WorkAtOnce
 pub mod WorkBegins
 pub mod WorkParts
-pub mod CompleteAt
 pub mod CompletePoints
-pub mod CompleteSteps
-pub mod CompleteStays
-pub mod CompleteParts
 pub mod Summaries
 pub mod CompleteTurns
 pub mod SummarySteps
