@@ -1,15 +1,13 @@
 -- a scan in the hand that it stays in
-use Rattle.std.proofs.Common.{◌≡◌, ◌≢◌, ℕ, List, Option, None, Some, Ok, Err, refl, sym, ap, ◌∙◌, subst}
+use Rattle.std.proofs.Common.{◌≡◌, ◌≢◌, ℕ, List, Option, None, Some, refl, sym, ap, ◌∙◌, subst}
 use Rattle.std.specs.Prelude.{IfSome, IsSome}
-use Rattle.std.proofs.lemmas.Option.{none-some, same_Some}
+use Rattle.std.proofs.lemmas.Option.{same_Some}
 use Rattle.disk_trait.specs.Told.{Told}
 use Rattle.block_model.specs.declared.place.Spot.{Spot}
 use Rattle.block_model.specs.declared.reply.Point.{Point}
 use Rattle.block_model.specs.declared.row.Query.{Query}
 use Rattle.block_model.specs.declared.row.Row.{Row}
-use Rattle.page_map.specs.PageMap.{View}
 use Rattle.bitmap_scan.specs.declared.stage.Stage.{Stage}
-use Rattle.bitmap_scan.specs.declared.stage.Stage.TheVariants as stages
 use Rattle.bitmap_scan.specs.Finds.{FindHand}
 use Rattle.session_parts.specs.declared.faults.StoreFault.{StoreFault}
 use Rattle.session_parts.specs.declared.hand.Hand.{Hand}
@@ -38,6 +36,9 @@ module _ (looking : Looking) (hand : Hand) where
 
   pub has_scan : IsInScan looking hand → IsSome (scan_of hand)
   has_scan in_scan = subst (λ (s : Option FindHand). IsSome s) (sym (scan_there in_scan.0 in_scan.1)) refl
+
+  pub stage_there : (scan : FindHand) → hand ≡ scan_hand_of looking scan → (stage : Stage) → IfSome (scan_of hand) (λ scan. stage ≡ scan.judging.stage) → stage ≡ scan.judging.stage
+  stage_there scan is stage there = subst (λ (s : Option FindHand). IfSome s (λ scan. stage ≡ scan.judging.stage)) (scan_there scan is) there
 
   pub one_scan : (a b : FindHand) → hand ≡ scan_hand_of looking a → hand ≡ scan_hand_of looking b → a ≡ b
   one_scan a b is_a is_b = same_Some a b (sym (scan_there a is_a) ∙ scan_there b is_b)

@@ -28,7 +28,6 @@ use Rattle.bitmap_scan.specs.ScanHands.{IsHand}
 use Rattle.session_parts.specs.declared.faults.StoreFault.{StoreFault}
 use Rattle.session_parts.specs.declared.faults.StoreFault.TheVariants as stops
 use Rattle.session_parts.specs.declared.hand.Hand.{Hand}
-use Rattle.session_parts.specs.declared.hand.Stepped.{Stepped}
 use Rattle.session_parts.specs.declared.hand.Stepped.TheVariants as stepped
 use Rattle.session_parts.specs.declared.parts.Parts.{Parts}
 use Rattle.session_parts.specs.DamagedPages.{NamesAPage, next_names}

@@ -11,7 +11,7 @@ ghost use Rattle.session_scans.specs.Finishes.{EntersLook, Finishes, Releases};
 ghost use Rattle.session_scans.specs.Looks.{IsInScan, OfScan, first_hand_of};
 
 use crate::lists::{copy_of, hits_of, rows_of, sort_by_id};
-use crate::looking::{Looking, first_hand, taken};
+use crate::looking::{Looking, first_hand, put, taken};
 use crate::refusing::refuse_look;
 use block_model::{NoMemory, Point, Query, Reply, Request, Row, Rows, Spot, Tag};
 use disk_trait::Disk;
@@ -49,13 +49,14 @@ fn begin_anew<D: Disk + Drop>(
     query: Query,
     looking: Looking,
 ) -> StoreFault
+    requires taken { hand.old ≡ Hand.Working }
     requires promised { 0 < parts.old.journal.promised }
     ensures answer { result ≡ StoreFault.Spent (length parts.old.journal.entries) }
     ensures hand { hand.new ≡ first_hand_of looking query }
     ensures released { Releases parts.old parts.new }
 {
     parts.journal.release(1);
-    *hand = first_hand(looking, query);
+    put(hand, first_hand(looking, query));
     spent(&parts.journal)
 }
 
@@ -92,6 +93,7 @@ fn mark_rows<D: Disk + Drop>(
     found: Vec<(Row, Spot)>,
     point: Point,
 ) -> Step
+    requires taken { hand.old ≡ Hand.Working }
     requires promised { 2 ≤ parts.old.journal.promised }
     requires open { IsSome (transaction_of parts.old.transactions.opens session) }
     requires room { length parts.old.journal.entries + 1 ≤ MAX_ENTRIES }
@@ -103,12 +105,13 @@ fn mark_rows<D: Disk + Drop>(
     }
     match hits_for(parts, &query, found) {
         Ok((look, hits)) => {
-            *hand = Hand::Marks(Marking {
+            let marking = Marking {
                 query,
                 look: Some(look),
                 hits,
                 next: 0,
-            });
+            };
+            put(hand, Hand::Marks(marking));
             Step::Moved(point)
         }
         Err(_) => {

@@ -5,7 +5,7 @@ ghost use Rattle.session_parts.specs.StepIs.{stepped_in};
 ghost use Rattle.session_scans.specs.Looks.{IsInScan, OfScan, hand_before};
 ghost use Rattle.session_scans.specs.ScanSteps.{parts_before};
 
-use crate::looking::{Looking, first_hand, stage_of, taken};
+use crate::looking::{Looking, first_hand, put, stage_of, taken};
 use bitmap_scan::Stage;
 use disk_trait::Disk;
 use session_parts::{Hand, Parts, Step, Stepped, StoreFault};
@@ -21,7 +21,7 @@ pub(crate) fn put_back<D: Disk + Drop>(parts: &mut Parts<D>, hand: &mut Hand, lo
         Stage::Extent => {
             parts.journal.release(1);
             let query = taken(hand).into_query();
-            *hand = first_hand(looking, query);
+            put(hand, first_hand(looking, query));
         }
         Stage::Map { .. } => {}
         Stage::Tuple { .. } => {}

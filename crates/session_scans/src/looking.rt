@@ -35,14 +35,26 @@ pub(crate) fn scan_hand(looking: Looking, scan: Scan) -> Hand
     }
 }
 
-/// The scan, which is taken out of the hand.
+/// The scan, which is taken out of the hand. `put` puts what the statement becomes in its place.
 pub(crate) fn taken(hand: &mut Hand) -> Scan
     requires { IsSome (scan_of hand.old) }
-    ensures { scan_of hand.old ≡ Some result }
+    ensures scan { scan_of hand.old ≡ Some result }
+    ensures place { hand.new ≡ Hand.Working }
 {
     match mem::replace(hand, Hand::Working) {
         Hand::Selects(scan) => scan,
         Hand::Deletes(scan) => scan,
+        _ => unreachable!(),
+    }
+}
+
+/// The statement takes the place of a scan that was taken out.
+pub(crate) fn put(hand: &mut Hand, statement: Hand)
+    requires { hand.old ≡ Hand.Working }
+    ensures { hand.new ≡ statement }
+{
+    match mem::replace(hand, statement) {
+        Hand::Working => {}
         _ => unreachable!(),
     }
 }

@@ -11,8 +11,8 @@ pub returns-in-Err-clause-so : goal.returns-in-Err-clause-so
 returns-in-Err-clause-so g c =
     refused_at_once g.D.Disk.told c.args.parts.now c.args.session (first_hand_of c.args.looking c.args.query) c.requires.fit c.in-Err.error c.in-Err.ensures.reopen c.in-Err.ensures.outcome c.fault_of.result c.fault_of.ensures c.first_hand.result c.first_hand.ensures
 
-pub scan_on-requires-clause-may : goal.scan_on-requires-clause-may
-scan_on-requires-clause-may g c = λ scan is.
+pub scan_on-answer-requires-clause-may : goal.scan_on-answer-requires-clause-may
+scan_on-answer-requires-clause-may g c = λ scan is.
     subst (λ (s : FindHand). MayScan g.D.Disk.told c.scan_for.new.parts c.args.session c.args.looking s) (one_scan c.args.looking c.scan_hand-hand.result c.in-Ok-scan_for.scan scan c.scan_hand-hand.ensures is)
     (may_scan g.D.Disk.told c.args.parts.now c.args.session c.args.looking c.args.query c.requires.fit c.scan_for.new.parts c.scan_for.ensures.entries c.scan_for.ensures.rest c.in-Ok-scan_for.ensures.promised
     c.in-Ok-scan_for.scan c.in-Ok-scan_for.ensures.begins c.requires.shown)

@@ -14,7 +14,7 @@ returns-then-is_empty g c =
 pub returns-in-Ok : goal.returns-in-Ok
 returns-in-Ok g c =
     let some : 0 < length c.args.found.items = has_some c.args.found (sym c.is_empty.ensures ∙ c.if-is_empty.false) in
-    GoesToMarks c.in-Ok.hits c.in-Ok.look refl c.in-Ok.ensures.look c.in-Ok.ensures.hits (some_listed c.args.found.items c.in-Ok.hits.items c.in-Ok.ensures.hits some) refl
+    GoesToMarks c.in-Ok.hits c.in-Ok.look refl c.in-Ok.ensures.look c.in-Ok.ensures.hits (some_listed c.args.found.items c.in-Ok.hits.items c.in-Ok.ensures.hits some) (ap (stepped.Moved c.args.point) c.put.ensures)
     (record { entries = c.hits_for.ensures.entries; promised = c.in-Ok.ensures.promised; rest = c.hits_for.ensures.rest })
 
 pub returns-in-Err : goal.returns-in-Err

@@ -1,10 +1,11 @@
-use Rattle.std.proofs.Common.{◌+◌, ◌<◌, ◌≤◌, length, sym, ◌∙◌, arith}
+use Rattle.std.proofs.Common.{◌+◌, ◌<◌, ◌≤◌, length, sym, ap, ◌∙◌, arith}
 use Rattle.std.proofs.lemmas.Bool.{false≢true}
 use Rattle.page_map.specs.Keeps.{Tells}
 use Rattle.store_layout.specs.declared.limits.TheConstants.{MAX_ENTRIES}
 use Rattle.page_locks.specs.declared.did.Did.TheVariants as did
 use Rattle.tx_table.proofs.Parts.{before_then}
 use Rattle.bitmap_scan.specs.ScanAnswers.{IsDamagedAt}
+use Rattle.session_parts.specs.StoreFaults.{fault_of}
 use Rattle.session_scans.proofs.Machine.{made_behind, may_then, names_there, next_then, refused_by_pages, refused_read, spent_there}
 use Rattle.session_scans.proofs.scanning.next_step.Goals as goal
 
@@ -45,6 +46,6 @@ returns-in-Err-Store-clause-so g c =
       c.peek.ensures.same,
       refused_by_pages told c.laws_of_looks.ensures parts c.args.session c.args.looking scan c.requires.may c.requires.ready c.peek.new.pages c.peek.ensures.kept
           c.fault_of.result c.a_kept_table_is_scanned.ensures c.known.ensures.hand
-          c.in-Err-Store.error c.fault_of.ensures (refused_read told damaged parts.pages c.peek.new.pages c.in-Err-Store.error c.in-Err-Store.field-0 c.in-Err-Store.field-0-is c.in-Err-Store.ensures.outcome)
+          c.in-Err-Store.error (c.fault_of.ensures ∙ ap fault_of c.in-Err-Store.error-is) (refused_read told damaged parts.pages c.peek.new.pages c.in-Err-Store.error c.in-Err-Store.field-0 c.in-Err-Store.field-0-is c.in-Err-Store.ensures.outcome)
           (names_there parts.pages.layout scan scan.next c.in-Err-Store.error c.in-Err-Store.field-0 c.in-Err-Store.field-0-is c.in-Err-Store.ensures.names),
     )
