@@ -109,3 +109,15 @@ returns-in-Works-clause-survives g c =
     let old = c.args.parts.now in
     let new = c.work_on.new.parts in
     subst (λ (hand : Hand). StopsSo g.D.Disk.told old.transactions c.args.session old.pages new.pages hand c.work_on.result) (sym c.in-Works.is) c.work_on.ensures.survives
+
+pub select_on-requires-clause-scans : goal.select_on-requires-clause-scans
+select_on-requires-clause-scans g c = (c.in-Selects.field-0, c.in-Selects.is)
+
+pub delete_on-requires-clause-scans : goal.delete_on-requires-clause-scans
+delete_on-requires-clause-scans g c = (c.in-Deletes.field-0, c.in-Deletes.is)
+
+pub explain_on-requires-clause-which : goal.explain_on-requires-clause-which
+explain_on-requires-clause-which g c = (c.in-Explains.field-0, c.in-Explains.is)
+
+pub clean_on-requires-clause-which : goal.clean_on-requires-clause-which
+clean_on-requires-clause-which g c = (c.in-Cleans.field-0, c.in-Cleans.is)
