@@ -7,7 +7,7 @@ table with a column for each:
 
 - an insert, in one transaction: without an index; with one that has no summary; with one summary that has its value, and with one that it
   widens; and of 64 sessions in turn; beside it what an insert takes beyond the same line that is refused, so without its reading and its answer;
-- bytes a row, beside those of its entry in the journal: the peak of memory of N inserts, beyond that of N selects of an empty table;
+- bytes a row, with its entry in the journal, and bytes a select of an empty table: the peaks of memory of N of them, beyond that of none;
 - a summarise of all rows, with ranges of 128 pages and of one, for each page;
 - a select of one row among all by an index that is summarised, with ranges of 128 pages and of one, and an explain of it with ranges of one;
 - a row that a select without an index goes through, where none matches;
@@ -156,8 +156,8 @@ def costs(runs, rows):
         "an insert with an index that has no summary": f"{put_wide[0] / rows * 1e9:.0f} ns",
         "whose value the summary has": f"{had[0] / rows * 1e9:.0f} ns",
         "that widens the summary": f"{widened[0] / rows * 1e9:.0f} ns",
-        "bytes a row": f"{(put[1] - look[1]) / rows:.0f}",
-        "bytes of its journal entry": f"{(look[1] - empty[1]) / rows:.0f}",
+        "bytes a row": f"{(put[1] - empty[1]) / rows:.0f}",
+        "bytes a select": f"{(look[1] - empty[1]) / rows:.0f}",
         "a page that is summarised, ranges of 128 pages": f"{(made_wide[0] - put_wide[0]) / pages * 1e6:.1f} µs",
         "a page, ranges of one": f"{(made_narrow[0] - put_narrow[0]) / pages * 1e6:.1f} µs",
         "a select of one row by an index, ranges of 128 pages": f"{(by_wide[0] - made_wide[0]) / SELECTS * 1e6:.0f} µs",

@@ -9,7 +9,7 @@ use Rattle.session_core.specs.Started.{HoldsImage}
 use Rattle.session_stepper.specs.NamedTold.{told_to}
 use Rattle.brin_app.specs.declared.top.Task.TheVariants.{ThreadsStored}
 use Rattle.brin_app.specs.StatusCauses.{IsDoneSo}
-use Rattle.brin_app.specs.Threads.{IsGivenFor, IsGivenStored, IsWorkedFor}
+use Rattle.brin_app.specs.Threads.{IsGivenStored, IsWorkedFor}
 use Rattle.brin_app.proofs.Doing.{HaveOneLayout, OpenToOneMap}
 use Rattle.brin_app.proofs.Holding.{image_held}
 

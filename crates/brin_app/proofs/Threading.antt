@@ -1,8 +1,6 @@
 -- a script that is run by one worker a session
-use Rattle.std.proofs.Common.{◌≡◌, ◌≢◌, ℕ, ◌+◌, ◌≤◌, ◌<◌, List, [], length, Option, None, Some, Ok, Err, true, refl, sym, ap, ◌∙◌, subst, arith, ◌⊎◌, inl, inr}
+use Rattle.std.proofs.Common.{◌≡◌, ◌≢◌, ℕ, ◌+◌, ◌≤◌, List, length, Option, None, Some, Ok, Err, refl, sym, ap, ◌∙◌, subst, arith, ◌⊎◌, inl, inr}
 use Rattle.std.specs.Prelude.{IsTrue}
-use Rattle.std.specs.FinMap as map
-use Rattle.std.specs.Io.KnownBytes.{Consumes}
 use Rattle.block_model.specs.Causes.{Rose}
 use Rattle.block_model.specs.DatabaseState.{DatabaseState, initial_state}
 use Rattle.block_model.specs.TableState.{TableState}
@@ -20,11 +18,9 @@ use Rattle.page_store.specs.Refused.{IsRefused}
 use Rattle.script_run.specs.declared.engine.AnswerFault.TheVariants.{Memory, Full, Disk, Damaged}
 use Rattle.script_run.specs.declared.fault.RunFault.TheVariants as faults
 use Rattle.script_run.specs.Runs.{RunEnd}
-use Rattle.script_run.specs.Script.{script_lines}
 use Rattle.transactions.specs.ShowsDatabase.{ShowsDatabase}
 use Rattle.script_semantics.specs.Place.{Place}
 use Rattle.script_semantics.specs.Starts.{IsOpening, IsStart}
-use Rattle.plain_script.specs.PlainScripts.{plain_script}
 use Rattle.session_parts.specs.FrontLaws.{StartStands}
 use Rattle.session_parts.specs.ShowsPlace.{ShowsPlace}
 use Rattle.session_parts.specs.StoreStates.{StoreState}
@@ -33,16 +29,16 @@ use Rattle.session_core.specs.StopRule.{AllHaveTable, IsImageWith}
 use Rattle.transactions.specs.FoundLaws.{table_committed}
 use Rattle.session_core.specs.StoreImage.{IsStoreImage, database_with, opened_at}
 use Rattle.threads_run.specs.Given.{IsOpenedFor, IsTakenSo, TakesBytes}
-use Rattle.threads_run.specs.Output.{IsThreadsOutput, IsUnbegun, HasWorked}
+use Rattle.threads_run.specs.Output.{IsThreadsOutput}
 use Rattle.brin_app.specs.declared.status.TheConstants.{SCRIPT_LIMIT}
 use Rattle.brin_app.specs.declared.top.Task.{Task}
 use Rattle.brin_app.specs.declared.top.Task.TheVariants.{Demo, Init, Run, RunStored, Threads, ThreadsStored}
 use Rattle.brin_app.specs.Holding.{HasRun, ObeysLaws}
 use Rattle.brin_app.specs.ScriptOutput.{EachImageHas, HoldsTable, IsOldOrEmpty, IsUnmade, IsUnopened, StartsOver, exit_status}
 use Rattle.brin_app.specs.StatusCauses.{IsDoneSo, IsSpentPast, LacksStore}
-use Rattle.brin_app.specs.Statuses.{IsFit, IsStatus, IsUnfit, start_status}
-use Rattle.brin_app.specs.Tasks.{Asks, IsThreaded}
-use Rattle.brin_app.specs.Threads.{FillsJournalSo, HasRead, HasWorkers, IsCompleteFor, IsGivenFor, IsGivenNew, IsGivenStored, IsTooMuch, IsWorkedFor}
+use Rattle.brin_app.specs.Statuses.{IsStatus, IsUnfit, start_status}
+use Rattle.brin_app.specs.Tasks.{IsThreaded}
+use Rattle.brin_app.specs.Threads.{HasRead, HasWorkers, IsCompleteFor, IsGivenFor, IsGivenNew, IsGivenStored, IsTooMuch, IsWorkedFor}
 use Rattle.brin_app.proofs.Doing.{AreNotDamaged, HaveOneLayout, OpenToOneMap, has_store, idle, undamaged}
 use Rattle.brin_app.proofs.Holding.{image_held, run_only}
 use Rattle.brin_app.proofs.Outputs.{came_length, idle_past, spent_end}

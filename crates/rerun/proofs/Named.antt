@@ -1,5 +1,5 @@
 -- a script of workers over a new store, by a name that says what the call is given
-use Rattle.std.proofs.Common.{◌≡◌, ℕ, List, Option, subst, ◌⊎◌, inl, inr}
+use Rattle.std.proofs.Common.{◌≡◌, ℕ, List, Option, subst, inl, inr}
 use Rattle.block_model.specs.DatabaseState.{DatabaseState, initial_state}
 use Rattle.disk_trait.specs.Told.{Told}
 use Rattle.brin_app.specs.declared.top.Task.TheVariants.{Threads}

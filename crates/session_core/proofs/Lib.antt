@@ -1,6 +1,8 @@
 pub mod Declared
+pub mod InHand
 pub mod Lists
 pub mod Kept
+pub mod Settling
 pub mod Stepping
 pub mod Taking
 pub mod Naming

@@ -4,6 +4,7 @@ pub mod StoreKept
 pub mod SessionLaws
 pub mod Submitting
 pub mod Sessions
+pub mod SteppedWhere
 pub mod Ending
 pub use Rattle.session_starts.specs.FreshPages
 pub use Rattle.session_starts.specs.ImageLaws

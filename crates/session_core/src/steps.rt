@@ -1,16 +1,17 @@
 //! Which crate makes a statement's step, and what comes of it.
 
-ghost use Rattle.std.specs.Prelude.{◌≡◌, ◌+◌, ◌≤◌, None, Some, IfSome};
+ghost use Rattle.std.specs.Prelude.{◌≡◌, ◌+◌, ◌≤◌, None, Some, IfSome, IsSome};
 ghost use Rattle.page_locks.specs.LockHolders.{count_of};
 ghost use Rattle.brin_insert.specs.Inserts.{IsInsertFor};
 ghost use Rattle.session_parts.specs.declared.limits.TheConstants.{LOCKS_A_SESSION, MAX_LOCKS};
-ghost use Rattle.session_parts.specs.StepIs.{answer_of, hand_after};
+ghost use Rattle.session_parts.specs.StepIs.{answer_of, hand_after, stepped_in};
 ghost use Rattle.session_parts.specs.Stepping.{IsFit, IsShown};
 ghost use Rattle.session_parts.specs.UndoneLaws.{StepsSo};
 ghost use Rattle.session_inserts.specs.Settling.{SettlesSo};
-ghost use Rattle.session_core.specs.Sessions.{IsNoPut};
+ghost use Rattle.session_core.specs.SteppedWhere.{HasMachineFor, IsInsert, IsPut, IsSteppedThere, IsTakenOut, machine_in, spare_after};
 ghost use Rattle.session_starts.specs.Stops.{StopsSo};
 
+use crate::sessions::taken;
 use brin_insert::Insert;
 use disk_trait::Disk;
 use session_inserts::{insert_on, put_row};
@@ -21,92 +22,259 @@ use session_parts::{Hand, Parts, Step, Stepped, StoreFault};
 use session_scans::{begin_delete, begin_select, delete_on, select_on};
 use session_transactions::{begin, commit, mark, roll_back};
 
-/// Makes the next step of the statement; what is left of it comes into `left`. The session's spare machine serves the next row of its table.
+/// Makes the next step of the statement in hand; what is left of it stays there. The session's spare machine serves the next row of its table.
 pub(crate) fn step_of<D: Disk + Drop>(
     parts: &mut Parts<D>,
     session: u32,
-    hand: Hand,
-    left: &mut Option<Hand>,
+    hand: &mut Option<Hand>,
     spare: &mut Option<Insert>,
 ) -> Result<Step, StoreFault>
-    requires fit { IsFit D.told parts.old session hand }
+    requires hand { IsSome hand.old }
+    requires fit { IfSome hand.old (λ was. IsFit D.told parts.old session was) }
     requires few { count_of parts.old.locks + LOCKS_A_SESSION ≤ MAX_LOCKS }
-    requires shown { IsShown D.told parts.old session hand }
-    requires left { left.old ≡ None }
+    requires shown { IfSome hand.old (λ was. IsShown D.told parts.old session was) }
     requires spare { IfSome spare.old (IsInsertFor parts.old.pages.layout) }
-    ensures so { SettlesSo D.told parts.old parts.new session hand left.new result }
-    ensures survives { StopsSo D.told parts.old.transactions session parts.old.pages parts.new.pages hand result }
+    ensures so { IfSome hand.old (λ was. SettlesSo D.told parts.old parts.new session was hand.new result) }
+    ensures survives { IfSome hand.old (λ was. StopsSo D.told parts.old.transactions session parts.old.pages parts.new.pages was result) }
     ensures spare { IfSome spare.new (IsInsertFor parts.old.pages.layout) }
 {
-    match hand {
-        Hand::Puts { table, values } => put_row(parts, session, table, values, left, spare),
-        hand => settled(step_on(parts, session, hand, spare), left),
+    let Some(own) = hand else { unreachable!() };
+    match own {
+        Hand::Puts { .. } => put(parts, session, hand, spare),
+        Hand::Inserts(_) => insert_in(parts, session, hand, spare),
+        Hand::Begins(_)
+        | Hand::Commits
+        | Hand::RollsBack
+        | Hand::Selecting(_)
+        | Hand::Deleting(_)
+        | Hand::Working => once(parts, session, hand),
+        _ => step_in(parts, session, hand),
     }
 }
 
-/// Makes the next step of a statement that is no insert before its row.
-fn step_on<D: Disk + Drop>(
+/// The first step of an insert, which takes its table and values out of the hand.
+fn put<D: Disk + Drop>(
     parts: &mut Parts<D>,
     session: u32,
-    hand: Hand,
+    hand: &mut Option<Hand>,
     spare: &mut Option<Insert>,
-) -> Stepped
-    requires fit { IsFit D.told parts.old session hand }
+) -> Result<Step, StoreFault>
+    requires hand { IsSome hand.old }
+    requires put { IfSome hand.old IsPut }
+    requires fit { IfSome hand.old (λ was. IsFit D.told parts.old session was) }
     requires few { count_of parts.old.locks + LOCKS_A_SESSION ≤ MAX_LOCKS }
-    requires shown { IsShown D.told parts.old session hand }
-    requires other { IsNoPut hand }
+    requires shown { IfSome hand.old (λ was. IsShown D.told parts.old session was) }
     requires spare { IfSome spare.old (IsInsertFor parts.old.pages.layout) }
+    ensures so { IfSome hand.old (λ was. SettlesSo D.told parts.old parts.new session was hand.new result) }
+    ensures survives { IfSome hand.old (λ was. StopsSo D.told parts.old.transactions session parts.old.pages parts.new.pages was result) }
+    ensures spare { IfSome spare.new (IsInsertFor parts.old.pages.layout) }
+{
+    let Hand::Puts { table, values } = taken(hand) else {
+        unreachable!()
+    };
+    put_row(parts, session, table, values, hand, spare)
+}
+
+/// A later step of an insert, whose machine becomes the spare one with the last.
+fn insert_in<D: Disk + Drop>(
+    parts: &mut Parts<D>,
+    session: u32,
+    hand: &mut Option<Hand>,
+    spare: &mut Option<Insert>,
+) -> Result<Step, StoreFault>
+    requires hand { IsSome hand.old }
+    requires insert { IfSome hand.old IsInsert }
+    requires fit { IfSome hand.old (λ was. IsFit D.told parts.old session was) }
+    requires few { count_of parts.old.locks + LOCKS_A_SESSION ≤ MAX_LOCKS }
+    requires shown { IfSome hand.old (λ was. IsShown D.told parts.old session was) }
+    requires spare { IfSome spare.old (IsInsertFor parts.old.pages.layout) }
+    ensures so { IfSome hand.old (λ was. SettlesSo D.told parts.old parts.new session was hand.new result) }
+    ensures survives { IfSome hand.old (λ was. StopsSo D.told parts.old.transactions session parts.old.pages parts.new.pages was result) }
+    ensures spare { IfSome spare.new (IsInsertFor parts.old.pages.layout) }
+{
+    let Some(own) = hand else { unreachable!() };
+    let answer = insert_there(parts, session, own);
+    spare_when_done(&answer, hand, spare);
+    answer
+}
+
+/// A later step of an insert, where it stands.
+fn insert_there<D: Disk + Drop>(
+    parts: &mut Parts<D>,
+    session: u32,
+    hand: &mut Hand,
+) -> Result<Step, StoreFault>
+    requires insert { IsInsert hand.old }
+    requires fit { IsFit D.told parts.old session hand.old }
+    requires few { count_of parts.old.locks + LOCKS_A_SESSION ≤ MAX_LOCKS }
+    requires shown { IsShown D.told parts.old session hand.old }
+    ensures so { StepsSo D.told parts.old parts.new session hand.old (stepped_in hand.new result) }
+    ensures survives { StopsSo D.told parts.old.transactions session parts.old.pages parts.new.pages hand.old result }
+    ensures machine { HasMachineFor parts.old.pages.layout hand.new }
+{
+    match hand {
+        Hand::Inserts(insert) => insert_on(parts, session, insert),
+        _ => unreachable!(),
+    }
+}
+
+/// The machine of an insert that is done becomes the spare one.
+fn spare_when_done(
+    answer: &Result<Step, StoreFault>,
+    hand: &mut Option<Hand>,
+    spare: &mut Option<Insert>,
+)
+    requires hand { IsSome hand.old }
+    requires insert { IfSome hand.old IsInsert }
+    ensures left { IfSome hand.old (λ now. hand.new ≡ hand_after (stepped_in now answer.now)) }
+    ensures spare { IfSome hand.old (λ now. spare.new ≡ spare_after now answer.now spare.old) }
+{
+    match answer {
+        Ok(Step::Done(_)) => put_by(hand, spare),
+        Ok(Step::Moved(_)) => {}
+        Ok(Step::Blocked { .. }) => {}
+        Err(_) => {}
+    }
+}
+
+/// The insert's machine is spare, and nothing is in hand.
+fn put_by(hand: &mut Option<Hand>, spare: &mut Option<Insert>)
+    requires hand { IsSome hand.old }
+    requires insert { IfSome hand.old IsInsert }
+    ensures left { hand.new ≡ None }
+    ensures spare { IfSome hand.old (λ now. spare.new ≡ machine_in now) }
+{
+    let Hand::Inserts(insert) = taken(hand) else {
+        unreachable!()
+    };
+    drop(spare.replace(insert));
+}
+
+/// The step of a statement that is taken out of the hand for it; what comes back is in hand again.
+fn once<D: Disk + Drop>(
+    parts: &mut Parts<D>,
+    session: u32,
+    hand: &mut Option<Hand>,
+) -> Result<Step, StoreFault>
+    requires hand { IsSome hand.old }
+    requires once { IfSome hand.old IsTakenOut }
+    requires fit { IfSome hand.old (λ was. IsFit D.told parts.old session was) }
+    requires shown { IfSome hand.old (λ was. IsShown D.told parts.old session was) }
+    ensures so { IfSome hand.old (λ was. SettlesSo D.told parts.old parts.new session was hand.new result) }
+    ensures survives { IfSome hand.old (λ was. StopsSo D.told parts.old.transactions session parts.old.pages parts.new.pages was result) }
+{
+    let statement = taken(hand);
+    settle(step_out(parts, session, statement), hand)
+}
+
+/// Makes the step of a statement that was taken out of the hand.
+fn step_out<D: Disk + Drop>(parts: &mut Parts<D>, session: u32, hand: Hand) -> Stepped
+    requires once { IsTakenOut hand }
+    requires fit { IsFit D.told parts.old session hand }
+    requires shown { IsShown D.told parts.old session hand }
     ensures so { StepsSo D.told parts.old parts.new session hand result }
     ensures survives { StopsSo D.told parts.old.transactions session parts.old.pages parts.new.pages hand (answer_of result) }
-    ensures spare { IfSome spare.new (IsInsertFor parts.old.pages.layout) }
 {
     match hand {
         Hand::Begins(numbers) => begin(parts, session, numbers),
         Hand::Commits => commit(parts, session),
         Hand::RollsBack => roll_back(parts, session),
-        Hand::Puts { .. } => unreachable!(),
-        Hand::Inserts(insert) => insert_on(parts, session, insert, spare),
         Hand::Selecting(query) => begin_select(parts, session, query),
-        Hand::Selects(scan) => select_on(parts, session, scan),
         Hand::Deleting(query) => begin_delete(parts, session, query),
-        Hand::Deletes(scan) => delete_on(parts, session, scan),
-        Hand::Marks(marking) => mark(parts, session, marking),
-        Hand::Explains(explain) => explain_on(parts, session, explain),
-        Hand::Summarises(summarise) => summarise_on(parts, session, summarise),
-        Hand::Desummarises(desummarise) => desummarise_on(parts, session, desummarise),
-        Hand::Cleans(cleaning) => clean_on(parts, session, cleaning),
-        Hand::Completes(completing) => complete_on(parts, session, completing),
         Hand::Working => begin_work(parts, session),
-        Hand::Works(requested) => work_on(parts, session, requested),
+        _ => unreachable!(),
     }
 }
 
-/// The answer of a step. The statement that it gives back, if there is one, is left.
-fn settled(stepped: Stepped, left: &mut Option<Hand>) -> Result<Step, StoreFault>
-    requires { left.old ≡ None }
+/// The step of a statement that is stepped where it stands.
+fn step_in<D: Disk + Drop>(
+    parts: &mut Parts<D>,
+    session: u32,
+    hand: &mut Option<Hand>,
+) -> Result<Step, StoreFault>
+    requires hand { IsSome hand.old }
+    requires there { IfSome hand.old IsSteppedThere }
+    requires fit { IfSome hand.old (λ was. IsFit D.told parts.old session was) }
+    requires few { count_of parts.old.locks + LOCKS_A_SESSION ≤ MAX_LOCKS }
+    requires shown { IfSome hand.old (λ was. IsShown D.told parts.old session was) }
+    ensures so { IfSome hand.old (λ was. SettlesSo D.told parts.old parts.new session was hand.new result) }
+    ensures survives { IfSome hand.old (λ was. StopsSo D.told parts.old.transactions session parts.old.pages parts.new.pages was result) }
+{
+    let Some(own) = hand else { unreachable!() };
+    let answer = step_on(parts, session, own);
+    clear_when_done(&answer, hand);
+    answer
+}
+
+/// Makes the step of a statement where it stands.
+fn step_on<D: Disk + Drop>(
+    parts: &mut Parts<D>,
+    session: u32,
+    hand: &mut Hand,
+) -> Result<Step, StoreFault>
+    requires there { IsSteppedThere hand.old }
+    requires fit { IsFit D.told parts.old session hand.old }
+    requires few { count_of parts.old.locks + LOCKS_A_SESSION ≤ MAX_LOCKS }
+    requires shown { IsShown D.told parts.old session hand.old }
+    ensures so { StepsSo D.told parts.old parts.new session hand.old (stepped_in hand.new result) }
+    ensures survives { StopsSo D.told parts.old.transactions session parts.old.pages parts.new.pages hand.old result }
+{
+    match hand {
+        Hand::Selects(_) => select_on(parts, session, hand),
+        Hand::Deletes(_) => delete_on(parts, session, hand),
+        Hand::Marks(marking) => mark(parts, session, marking),
+        Hand::Explains(_) => explain_on(parts, session, hand),
+        Hand::Summarises(summarise) => summarise_on(parts, session, summarise),
+        Hand::Desummarises(desummarise) => desummarise_on(parts, session, desummarise),
+        Hand::Cleans(_) => clean_on(parts, session, hand),
+        Hand::Completes(completing) => complete_on(parts, session, completing),
+        Hand::Works(requested) => work_on(parts, session, requested),
+        _ => unreachable!(),
+    }
+}
+
+/// Behind its reply nothing is in hand.
+fn clear_when_done(answer: &Result<Step, StoreFault>, hand: &mut Option<Hand>)
+    ensures { IfSome hand.old (λ now. hand.new ≡ hand_after (stepped_in now answer.now)) }
+{
+    match answer {
+        Ok(Step::Done(_)) => drop(hand.take()),
+        Ok(Step::Moved(_)) => {}
+        Ok(Step::Blocked { .. }) => {}
+        Err(_) => {}
+    }
+}
+
+/// The answer of a step. The statement that it gives back, if there is one, is in hand again.
+fn settle(stepped: Stepped, hand: &mut Option<Hand>) -> Result<Step, StoreFault>
+    requires { hand.old ≡ None }
     ensures answer { result ≡ answer_of stepped }
-    ensures left { left.new ≡ hand_after stepped }
+    ensures hand { hand.new ≡ hand_after stepped }
 {
     match stepped {
-        Stepped::Moved { point, hand } => {
-            leave(left, hand);
+        Stepped::Moved { point, hand: left } => {
+            leave(hand, left);
             Ok(Step::Moved(point))
         }
         Stepped::Done(reply) => Ok(Step::Done(reply)),
-        Stepped::Blocked { what, holder, hand } => {
-            leave(left, hand);
+        Stepped::Blocked {
+            what,
+            holder,
+            hand: left,
+        } => {
+            leave(hand, left);
             Ok(Step::Blocked { what, holder })
         }
-        Stepped::Undone { fault, hand } => {
-            leave(left, hand);
+        Stepped::Undone { fault, hand: left } => {
+            leave(hand, left);
             Err(fault)
         }
     }
 }
 
-/// The statement is left. It stands apart from the match above, whose check wouldn't end otherwise.
-fn leave(left: &mut Option<Hand>, hand: Hand)
-    ensures { left.new ≡ Some hand }
+/// The statement is in hand. It stands apart from the match above, whose check wouldn't end otherwise.
+fn leave(hand: &mut Option<Hand>, left: Hand)
+    ensures { hand.new ≡ Some left }
 {
-    *left = Some(hand);
+    drop(hand.replace(left));
 }

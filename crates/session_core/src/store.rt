@@ -25,16 +25,16 @@ ghost use Rattle.session_core.specs.Submitting.{IsJudged, IsTakenUp, refusal_her
 
 use crate::faults::SessionFault;
 use crate::laws::laws_of_sessions;
-use crate::sessions::{Session, add_session, has_hand, known_hand, number_of, put_hand, taken};
+use crate::sessions::{Session, add_session, has_hand, known_hand, number_of, put_hand};
 use crate::steps::step_of;
 use crate::submitting::{block_refusal, hand_for, standing_refusal};
-use block_model::{Entry, Name, Refusal};
+use block_model::{Name, Refusal};
 use disk_trait::Disk;
 use heap_rows::blocks;
 use recovery::StartFault;
 use reply_texts::Dropped;
 use script_semantics::shown_tables_are_bounded;
-use session_parts::{Parts, Step, StoreFault, fault_of, few_locks_are_held};
+use session_parts::{EntryReader, Parts, Step, StoreFault, fault_of, few_locks_are_held};
 use session_starts::{a_step_stops_whole, start_parts};
 use std::alloc::Global;
 use std::marker::Model;
@@ -219,9 +219,8 @@ impl<D: Disk + Drop> Store<D> {
         laws_of_sessions(&self.parts);
         few_locks_are_held(&self.parts.locks);
         let own = &mut self.sessions[session as usize];
-        let hand = taken(&mut own.hand);
         let parts = &mut self.parts;
-        step_of(parts, session, hand, &mut own.hand, &mut own.spare)
+        step_of(parts, session, &mut own.hand, &mut own.spare)
     }
 
     /// Whether the session has a statement in hand.
@@ -256,11 +255,11 @@ impl<D: Disk + Drop> Store<D> {
         blocks(&self.parts.pages, table)
     }
 
-    /// The requests of all statements so far, in their order. Only tests ask for them.
-    pub fn journal(&self) -> &[Entry]
-        ensures { result.now ≡ self.now.journal.entries }
+    /// Reads the requests of all statements so far, in their order. Only tests ask for them.
+    pub fn journal(&self) -> EntryReader<'_>
+        ensures { result ≡ self.now.journal.entries }
     {
-        self.parts.journal.as_slice()
+        self.parts.journal.reader()
     }
 
     /// The disk, as it is: open transactions are dropped as by a stop. Makes no device call.

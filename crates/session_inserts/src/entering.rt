@@ -1,6 +1,6 @@
-//! What an insert enters into the journal.
+//! What an insert enters into the journal, and what it is answered.
 
-ghost use Rattle.std.specs.Prelude.{◌≡◌, ◌+◌, ◌^◌, ◌<◌, ◌∷◌, ◌++◌, [], Some, IsSome, IsSomeAnd};
+ghost use Rattle.std.specs.Prelude.{◌≡◌, ◌+◌, ◌^◌, ◌<◌, ◌∷◌, ◌++◌, [], Ok, IsSome, IsSomeAnd};
 ghost use Rattle.block_model.specs.declared.request.Request.TheVariants as requests;
 ghost use Rattle.page_locks.specs.LockChanges.{GivesAll};
 ghost use Rattle.page_locks.specs.LockCounts.{AddsAtMost, locks_of};
@@ -9,10 +9,9 @@ ghost use Rattle.snapshot_core.specs.StoredVersions.{transaction_of};
 ghost use Rattle.store_layout.specs.StatementRequests.{request_entry, tagged_entry};
 ghost use Rattle.transactions.specs.TransactionsState.{OfOpen, with_failed, with_row_counted};
 
-use block_model::{Refusal, Reply, Request, Row, Tag, Values};
-use brin_insert::Insert;
+use block_model::{Refusal, Reply, Row, Tag, Values};
 use disk_trait::Disk;
-use session_parts::Parts;
+use session_parts::{Parts, Step, StoreFault};
 
 /// The put of the row is entered, and counted for its transaction. Takes no memory.
 pub(crate) fn enter_row<D: Disk + Drop>(parts: &mut Parts<D>, session: u32, row: &Row)
@@ -25,7 +24,7 @@ pub(crate) fn enter_row<D: Disk + Drop>(parts: &mut Parts<D>, session: u32, row:
 {
     parts
         .journal
-        .enter(session, row.table, Request::Put(row.values), Tag::Ok);
+        .enter_put(session, row.table, &row.values, Tag::Ok);
     parts.transactions.count_row(session);
 }
 
@@ -35,14 +34,14 @@ pub(crate) fn refuse<D: Disk + Drop>(
     parts: &mut Parts<D>,
     session: u32,
     table: u8,
-    values: Values,
+    values: &Values,
     tag: Tag,
     refusal: Refusal,
 ) -> Reply
     requires promised { 0 < parts.old.journal.promised }
     requires open { IsSome (transaction_of parts.old.transactions.opens session) }
     ensures failed { OfOpen parts.old.transactions session (λ o. parts.new.transactions ≡ with_failed parts.old.transactions session o) }
-    ensures entries { parts.new.journal.entries ≡ parts.old.journal.entries ++ tagged_entry session table (requests.Put values) tag ∷ [] }
+    ensures entries { parts.new.journal.entries ≡ parts.old.journal.entries ++ tagged_entry session table (requests.Put values.now) tag ∷ [] }
     ensures promised { parts.new.journal.promised + 1 ≡ parts.old.journal.promised }
     ensures given { GivesAll (holder parts.old.locks) (holder parts.new.locks) session }
     ensures none { locks_of parts.new.locks session ≡ 0 }
@@ -51,20 +50,15 @@ pub(crate) fn refuse<D: Disk + Drop>(
     ensures rest { parts.new ≡ record parts.old { transactions = parts.new.transactions; locks = parts.new.locks; journal = parts.new.journal } }
     ensures reply { result ≡ Reply.Refused refusal }
 {
-    parts
-        .journal
-        .enter(session, table, Request::Put(values), tag);
+    parts.journal.enter_put(session, table, values, tag);
     parts.transactions.fail(session);
     parts.locks.drop_all(session);
     Reply::Refused(refusal)
 }
 
-/// The insert is done: it is answered its row, and its machine is spare.
-pub(crate) fn answered(insert: Insert, spare: &mut Option<Insert>) -> Reply
-    ensures reply { result ≡ Reply.Inserted insert.row.id }
-    ensures spare { spare.new ≡ Some insert }
+/// The insert is done: it is answered its row.
+pub(crate) fn done(row: &Row) -> Result<Step, StoreFault>
+    ensures { result ≡ Ok (Step.Done (Reply.Inserted row.now.id)) }
 {
-    let id = insert.row().id;
-    *spare = Some(insert);
-    Reply::Inserted { id }
+    Ok(Step::Done(Reply::Inserted { id: row.id }))
 }

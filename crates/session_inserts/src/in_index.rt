@@ -1,6 +1,6 @@
 //! The later steps of an insert.
 
-ghost use Rattle.std.specs.Prelude.{◌≡◌, ℕ, ◌+◌, ◌<◌, ◌≤◌, ◌∷◌, ◌++◌, [], Some, length, slice_get, IfSome, IsSome};
+ghost use Rattle.std.specs.Prelude.{◌≡◌, ℕ, ◌+◌, ◌<◌, ◌≤◌, ◌∷◌, ◌++◌, [], Some, Ok, length, slice_get, IsSome};
 ghost use Rattle.block_model.specs.declared.request.Request.TheVariants as requests;
 ghost use Rattle.index_steps.specs.ShownTable.{indexes_of};
 ghost use Rattle.page_store.specs.Survives.{Survives};
@@ -15,49 +15,49 @@ ghost use Rattle.transactions.specs.TransactionsState.{OfOpen, with_failed};
 ghost use Rattle.brin_insert.specs.Inserts.{IsInsertFor};
 ghost use Rattle.session_parts.specs.declared.limits.TheConstants.{LOCKS_A_SESSION, MAX_LOCKS};
 ghost use Rattle.session_parts.specs.StepAnswers.{HasCause};
+ghost use Rattle.session_parts.specs.StepIs.{stepped_in};
 ghost use Rattle.session_parts.specs.Stepping.{IsFit, IsShown, LeavesTheOthers, MakesItsStep, StaysFit, StaysUndone};
 
-use crate::entering::{answered, refuse};
+use crate::entering::{done, refuse};
 use crate::laws::steps_of_an_insert;
-use block_model::{Point, Refusal, Reply, Row, Tag};
+use block_model::{Refusal, Reply, Row, Tag};
 use brin_insert::Insert;
 use disk_trait::Disk;
 use page_locks::Did;
 use page_map::MachineFault;
 use session_parts::{
-    Hand, Parts, Stepped, StoreFault, an_undone_step_changes_nothing, fault_of, index_named,
+    Hand, Parts, Step, StoreFault, an_undone_step_changes_nothing, fault_of, index_named,
     one_hand_changes, page_waited_for, spent,
 };
 
 /// A later step of an insert: in an index of its table. Where it has to ask for a summary first, the request joins the queue, or is kept among
-/// those that the session asked for in vain. With the last step the insert is done, and its machine is spare. It waits where
+/// those that the session asked for in vain. With the last step the insert is done, and its machine may begin another row. It waits where
 /// another session locks a page that the step changes. Where no page of the index is left for the tuple with the row, the put is entered
 /// anew so, and the session's transaction fails; `Spent` comes where the journal has no room for that.
+#[tactic(none)]
 pub fn insert_on<D: Disk + Drop>(
     parts: &mut Parts<D>,
     session: u32,
-    mut insert: Insert,
-    spare: &mut Option<Insert>,
-) -> Stepped
-    requires fit { IsFit D.told parts.old session (Hand.Inserts insert) }
+    insert: &mut Insert,
+) -> Result<Step, StoreFault>
+    requires fit { IsFit D.told parts.old session (Hand.Inserts insert.old) }
     requires few { count_of parts.old.locks + LOCKS_A_SESSION ≤ MAX_LOCKS }
-    requires shown { IsShown D.told parts.old session (Hand.Inserts insert) }
-    requires spare { IfSome spare.old (IsInsertFor parts.old.pages.layout) }
-    ensures steps { MakesItsStep D.told parts.old parts.new session (Hand.Inserts insert) result }
-    ensures fit { StaysFit D.told parts.old parts.new session (Hand.Inserts insert) result }
-    ensures others { LeavesTheOthers D.told parts.old parts.new session (Hand.Inserts insert) result }
-    ensures stays { StaysUndone D.told parts.old parts.new session (Hand.Inserts insert) result }
-    ensures cause { HasCause D.told parts.old.pages parts.new.pages result }
+    requires shown { IsShown D.told parts.old session (Hand.Inserts insert.old) }
+    ensures steps { MakesItsStep D.told parts.old parts.new session (Hand.Inserts insert.old) (stepped_in (Hand.Inserts insert.new) result) }
+    ensures fit { StaysFit D.told parts.old parts.new session (Hand.Inserts insert.old) (stepped_in (Hand.Inserts insert.new) result) }
+    ensures others { LeavesTheOthers D.told parts.old parts.new session (Hand.Inserts insert.old) (stepped_in (Hand.Inserts insert.new) result) }
+    ensures stays { StaysUndone D.told parts.old parts.new session (Hand.Inserts insert.old) (stepped_in (Hand.Inserts insert.new) result) }
+    ensures cause { HasCause D.told parts.old.pages parts.new.pages (stepped_in (Hand.Inserts insert.new) result) }
     // At every moment of the step an image opens to what one did before it, or to the pages as they were.
     ensures survives { Survives D.told (IsBefore parts.old.pages) parts.old.pages parts.new.pages }
-    ensures spare { IfSome spare.new (IsInsertFor parts.old.pages.layout) }
+    ensures spare { IsInsertFor parts.old.pages.layout insert.new }
 {
     steps_of_an_insert();
     one_hand_changes();
     an_undone_step_changes_nothing(parts);
     match parts.pages.ready() {
         Ok(()) => {}
-        Err(error) => return undone(insert, fault_of(error)),
+        Err(error) => return Err(fault_of(error)),
     }
     let index = insert.index();
     match insert.step(
@@ -69,48 +69,25 @@ pub fn insert_on<D: Disk + Drop>(
         Ok(Did::Moved(point)) => {
             let layout = parts.pages.layout();
             parts.dropped.set(session, layout, insert.dropped());
-            moved(point, insert)
+            Ok(Step::Moved(point))
         }
-        Ok(Did::Finished(_)) => Stepped::Done(answered(insert, spare)),
-        Ok(Did::Blocked(held)) => Stepped::Blocked {
+        Ok(Did::Finished(_)) => done(insert.row()),
+        Ok(Did::Blocked(held)) => Ok(Step::Blocked {
             what: page_waited_for(parts.pages.layout(), index, &held),
             holder: held.by,
-            hand: Hand::Inserts(insert),
-        },
+        }),
         Ok(Did::NoRight { .. }) => unreachable!(),
         Err(MachineFault::Full { number, .. }) => {
             if !parts.journal.fits(1) {
-                return undone(insert, spent(&parts.journal));
+                return Err(spent(&parts.journal));
             }
-            let reply = full_index(parts, session, insert.row(), index, number);
-            *spare = Some(insert);
-            Stepped::Done(reply)
+            full_index(parts, session, insert.row(), index, number)
         }
         Err(MachineFault::Store(error)) => {
             parts.locks.drop_all(session);
-            undone(insert, fault_of(error))
+            Err(fault_of(error))
         }
         Err(MachineFault::Memory) => unreachable!(),
-    }
-}
-
-/// The step is made, and the insert goes on.
-fn moved(point: Point, insert: Insert) -> Stepped
-    ensures { result ≡ Stepped.Moved point (Hand.Inserts insert) }
-{
-    Stepped::Moved {
-        point,
-        hand: Hand::Inserts(insert),
-    }
-}
-
-/// The step isn't done, and the insert stays in hand.
-fn undone(insert: Insert, fault: StoreFault) -> Stepped
-    ensures { result ≡ Stepped.Undone fault (Hand.Inserts insert) }
-{
-    Stepped::Undone {
-        fault,
-        hand: Hand::Inserts(insert),
     }
 }
 
@@ -121,7 +98,7 @@ fn full_index<D: Disk + Drop>(
     row: &Row,
     index: u8,
     number: u64,
-) -> Reply
+) -> Result<Step, StoreFault>
     requires index { index < length parts.old.pages.layout.schema.indexes }
     requires promised { 0 < parts.old.journal.promised }
     requires open { IsSome (transaction_of parts.old.transactions.opens session) }
@@ -133,15 +110,10 @@ fn full_index<D: Disk + Drop>(
     ensures limit { parts.new.locks.limit ≡ parts.old.locks.limit }
     ensures counts { AddsAtMost parts.old.locks parts.new.locks session 0 }
     ensures rest { parts.new ≡ record parts.old { transactions = parts.new.transactions; locks = parts.new.locks; journal = parts.new.journal } }
-    ensures reply { (table at : ℕ) → slice_get (indexes_of parts.old.pages.layout table) at ≡ Some index → result ≡ Reply.Refused (Refusal.Full (index_name parts.old.pages.layout table at) number) }
+    ensures reply { (table at : ℕ) → slice_get (indexes_of parts.old.pages.layout table) at ≡ Some index → result ≡ Ok (Step.Done (Reply.Refused (Refusal.Full (index_name parts.old.pages.layout table at) number))) }
 {
     let relation = index_named(parts.pages.layout(), index);
-    refuse(
-        parts,
-        session,
-        row.table,
-        row.values,
-        Tag::Full,
-        Refusal::Full { relation, number },
-    )
+    let refusal = Refusal::Full { relation, number };
+    let reply = refuse(parts, session, row.table, &row.values, Tag::Full, refusal);
+    Ok(Step::Done(reply))
 }

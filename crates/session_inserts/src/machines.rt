@@ -21,16 +21,16 @@ pub(crate) fn machine_for<D: Disk + Drop>(
     parts: &mut Parts<D>,
     session: u32,
     table: u8,
-    values: Values,
+    values: &Values,
     spare: &mut Option<Insert>,
 ) -> Result<(), NoMemory>
     requires open { IsSome (transaction_of parts.old.transactions.opens session) }
     requires table { table < length parts.old.pages.layout.schema.tables }
-    requires kinds { HaveKinds (kinds_at parts.old.pages.layout table) values }
+    requires kinds { HaveKinds (kinds_at parts.old.pages.layout table) values.now }
     requires spare { IfSome spare.old (IsInsertFor parts.old.pages.layout) }
     ensures made { OnOk result (IsSomeAnd spare.new (IsInsertFor parts.old.pages.layout)) }
     ensures nowhere { OnOk result (IfSome spare.new (λ insert. insert.place ≡ None)) }
-    ensures row { OnOk result (IfSome spare.new (λ insert. (insert.row.table ≡ table) × (insert.row.values ≡ values))) }
+    ensures row { OnOk result (IfSome spare.new (λ insert. (insert.row.table ≡ table) × (insert.row.values ≡ values.now))) }
     ensures id { OnOk result (IfSome spare.new (λ insert. OfOpen parts.old.transactions session (λ o. next_row_of o ≡ Some insert.row.id))) }
     ensures number { OnOk result (IsSomeAnd (transaction_of parts.old.transactions.opens session) (λ o. o.next_k + 1 < 2 ^ 32)) }
     ensures entries { parts.new.journal.entries ≡ parts.old.journal.entries }
@@ -42,7 +42,11 @@ pub(crate) fn machine_for<D: Disk + Drop>(
     let Some(id) = parts.transactions.next_row(session) else {
         return Err(NoMemory);
     };
-    let row = Row { table, id, values };
+    let row = Row {
+        table,
+        id,
+        values: *values,
+    };
     let Ok(()) = begun(parts.alloc, row, parts.pages.layout(), spare) else {
         return Err(NoMemory);
     };
@@ -70,6 +74,26 @@ fn begun(
             return Ok(());
         }
     }
+    match replaced(alloc, row, layout, spare) {
+        Ok(()) => Ok(()),
+        Err(refusal) => Err(refusal),
+    }
+}
+
+/// A new machine begins the row, in place of the spare one.
+fn replaced(
+    alloc: Global,
+    row: Row,
+    layout: &Layout,
+    spare: &mut Option<Insert>,
+) -> Result<(), NoMemory>
+    requires table { row.table < length layout.now.schema.tables }
+    requires kinds { HaveKinds (kinds_at layout.now row.table) row.values }
+    requires spare { IfSome spare.old (IsInsertFor layout.now) }
+    ensures made { OnOk result (IsSomeAnd spare.new (IsInsertFor layout.now)) }
+    ensures begins { OnOk result (IfSome spare.new (λ insert. (insert.row ≡ row) × (insert.place ≡ None))) }
+    ensures spare { IfSome spare.new (IsInsertFor layout.now) }
+{
     *spare = Some(Insert::new(alloc, row, layout)?);
     Ok(())
 }

@@ -20,7 +20,7 @@ ghost use Rattle.brin_insert.specs.Inserts.{IsInsertFor};
 ghost use Rattle.session_parts.specs.declared.limits.TheConstants.{LOCKS_A_SESSION, MAX_LOCKS};
 ghost use Rattle.session_parts.specs.Stepping.{IsFit, IsShown};
 
-use crate::entering::{enter_row, refuse};
+use crate::entering::{done, enter_row, refuse};
 use crate::laws::steps_of_an_insert;
 use crate::machines::machine_for;
 use block_model::{Point, Refusal, Reply, Row, Tag, Values};
@@ -60,14 +60,14 @@ pub fn put_row<D: Disk + Drop>(
     an_undone_step_changes_nothing(parts);
     match parts.pages.ready() {
         Ok(()) => {}
-        Err(error) => return undone(left, table, values, fault_of(error)),
+        Err(error) => return undone(left, table, &values, fault_of(error)),
     }
     if !parts.journal.fits(1) {
-        return undone(left, table, values, spent(&parts.journal));
+        return undone(left, table, &values, spent(&parts.journal));
     }
-    match machine_for(parts, session, table, values, spare) {
+    match machine_for(parts, session, table, &values, spare) {
         Ok(()) => first_step(parts, session, left, spare),
-        Err(_) => lacks_memory(parts, session, table, values),
+        Err(_) => lacks_memory(parts, session, table, &values),
     }
 }
 
@@ -122,7 +122,7 @@ fn first_step<D: Disk + Drop>(
             parts.journal.release(1);
             parts.locks.drop_all(session);
             let row = insert.row();
-            undone(left, row.table, row.values, fault_of(error))
+            undone(left, row.table, &row.values, fault_of(error))
         }
         Err(MachineFault::Memory) => unreachable!(),
     }
@@ -132,23 +132,27 @@ fn first_step<D: Disk + Drop>(
 fn undone(
     left: &mut Option<Hand>,
     table: u8,
-    values: Values,
+    values: &Values,
     fault: StoreFault,
 ) -> Result<Step, StoreFault>
-    ensures left { left.new ≡ Some (Hand.Puts table values) }
+    ensures left { left.new ≡ Some (Hand.Puts table values.now) }
     ensures fault { result ≡ Err fault }
 {
-    *left = Some(Hand::Puts { table, values });
+    *left = Some(Hand::Puts {
+        table,
+        values: *values,
+    });
     Err(fault)
 }
 
-/// The insert goes on, with the machine that was spare.
+/// The insert goes on, with the machine that was spare. Nothing was left before, so that nothing is dropped.
 fn goes_on(
     point: Point,
     left: &mut Option<Hand>,
     spare: &mut Option<Insert>,
 ) -> Result<Step, StoreFault>
-    requires { IsSome spare.old }
+    requires spare { IsSome spare.old }
+    requires left { left.old ≡ None }
     ensures left { IfSome spare.old (λ insert. left.new ≡ Some (Hand.Inserts insert)) }
     ensures spare { spare.new ≡ None }
     ensures moved { result ≡ Ok (Step.Moved point) }
@@ -156,15 +160,11 @@ fn goes_on(
     let Some(insert) = spare.take() else {
         unreachable!()
     };
-    *left = Some(Hand::Inserts(insert));
+    match left {
+        None => *left = Some(Hand::Inserts(insert)),
+        Some(_) => unreachable!(),
+    }
     Ok(Step::Moved(point))
-}
-
-/// The insert is done: it is answered its row.
-fn done(row: &Row) -> Result<Step, StoreFault>
-    ensures { result ≡ Ok (Step.Done (Reply.Inserted row.now.id)) }
-{
-    Ok(Step::Done(Reply::Inserted { id: row.id }))
 }
 
 /// Memory is short for the machine: the insert is refused.
@@ -172,12 +172,12 @@ fn lacks_memory<D: Disk + Drop>(
     parts: &mut Parts<D>,
     session: u32,
     table: u8,
-    values: Values,
+    values: &Values,
 ) -> Result<Step, StoreFault>
     requires promised { 0 < parts.old.journal.promised }
     requires open { IsSome (transaction_of parts.old.transactions.opens session) }
     ensures failed { OfOpen parts.old.transactions session (λ o. parts.new.transactions ≡ with_failed parts.old.transactions session o) }
-    ensures entries { parts.new.journal.entries ≡ parts.old.journal.entries ++ tagged_entry session table (requests.Put values) Tag.NoMemory ∷ [] }
+    ensures entries { parts.new.journal.entries ≡ parts.old.journal.entries ++ tagged_entry session table (requests.Put values.now) Tag.NoMemory ∷ [] }
     ensures promised { parts.new.journal.promised + 1 ≡ parts.old.journal.promised }
     ensures given { GivesAll (holder parts.old.locks) (holder parts.new.locks) session }
     ensures none { locks_of parts.new.locks session ≡ 0 }
@@ -213,6 +213,6 @@ fn full_table<D: Disk + Drop>(
 {
     let relation = table_named(parts.pages.layout(), row.table);
     let refusal = Refusal::Full { relation, number };
-    let reply = refuse(parts, session, row.table, row.values, Tag::Full, refusal);
+    let reply = refuse(parts, session, row.table, &row.values, Tag::Full, refusal);
     Ok(Step::Done(reply))
 }

@@ -1,5 +1,5 @@
 -- a row that is dead to all nobody sees: no commit has it, and no open transaction sees it, or marked it
-use Rattle.std.proofs.Common.{◌≡◌, ◌≢◌, Bool, true, false, not, ◌&&◌, ◌||◌, eqb, ℕ, ◌<◌, List, length, Some, refl, sym, ap, ◌∙◌, inl, inr, arith}
+use Rattle.std.proofs.Common.{◌≡◌, ◌≢◌, Bool, true, false, not, ◌&&◌, ◌||◌, eqb, ℕ, ◌<◌, List, length, Some, refl, sym, ap, ◌∙◌, inl, inr}
 use Rattle.std.proofs.lemmas.Bool.{and_parts, false≢true, ne_eqb, or_cases, or_right}
 use Rattle.std.specs.List.{list_all}
 use Rattle.block_model.specs.declared.place.Spot.{Spot}

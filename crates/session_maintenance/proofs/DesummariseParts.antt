@@ -55,9 +55,9 @@ use Rattle.session_parts.specs.StoreStates.{ShownStore, hand_in, shown_of, store
 use Rattle.session_parts.specs.UndoneLaws.{FitsParts, StepsSo}
 use Rattle.session_parts.proofs.HeldLocks.{holder_has_lock}
 use Rattle.session_parts.proofs.Undone.{fit_of_parts}
-use Rattle.session_maintenance.proofs.DesummariseTurns.{StepsInTable, counts_on, holds_there, is_busy, is_desummarise, is_over, left_then, made_by, on_its, right_at_work, right_left, right_same, right_taken}
+use Rattle.session_maintenance.proofs.DesummariseTurns.{IsDesummariseAt, StepsInTable, counts_on, holds_there, is_busy, is_desummarise, is_over, left_then, made_by, on_its, right_at_work, right_left, right_same, right_taken}
 use Rattle.session_maintenance.proofs.SummariseLocks.{OthersStay, gives_own, gives_stay, gives_there, same_stays, stays_on}
-use Rattle.session_maintenance.proofs.UpkeepAt.{IsUpkeep, at_task, counted, here, kept_here, unseen_here}
+use Rattle.session_maintenance.proofs.UpkeepAt.{IsUpkeep, IsUpkeepAt, at_task, counted, here, kept_here, unseen_here}
 use Rattle.session_maintenance.proofs.UpkeepParts.{PartsLeft, done_so, moved_so, new_store, old_store, refused_untold, undone_so, waits_so, with_these}
 use Rattle.session_maintenance.proofs.UpkeepStays.{waits_for_lock, waits_for_page}
 
@@ -95,7 +95,7 @@ module _ {D : Type 0} (told : D → Told) (parts : Parts D) (n : ℕ) (a : Desum
   pub fits : FitsParts told parts n (Some (hands.Desummarises a))
   fits = fit_of_parts told parts n (hands.Desummarises a) fit
 
-  pub is_it : IsUpkeep parts.pages.layout (hands.Desummarises a) a.index (λ at. task_of parts.pages.layout at a) (count_at a.stage)
+  pub is_it : IsUpkeep parts.pages.layout (hands.Desummarises a) a.index (IsDesummariseAt parts.pages.layout a) (counted (count_at a.stage))
   is_it = is_desummarise parts.pages.layout a fits.in_hand.0.index below
 
   abbrev number : ℕ
@@ -108,11 +108,11 @@ module _ {D : Type 0} (told : D → Told) (parts : Parts D) (n : ℕ) (a : Desum
   pub is_sound : (shown : IsShown told parts n (hands.Desummarises a)) → Tells told parts.pages → parts.pages.failed ≡ None → TakesSound → DamageIn parts.pages.layout parts.pages.pages a → ⊥
   is_sound shown tells ready law =
       let store : ShownStore = shown_of (store_of parts (shown tells ready).0 (shown tells ready).1) in
-      let it = at_task store n (hands.Desummarises a) a.index (λ at. task_of parts.pages.layout at a) (count_at a.stage) is_it (shown tells ready).2 (shown tells ready).3.0 (shown tells ready).3.1 in
+      let it = at_task store n (hands.Desummarises a) a.index (IsDesummariseAt parts.pages.layout a) (counted (count_at a.stage)) is_it (shown tells ready).2 (shown tells ready).3.0 (shown tells ready).3.1 in
       law parts.pages.layout parts.pages.pages parts.locks
-      (here store n (hands.Desummarises a) a.index (λ at. task_of parts.pages.layout at a) (count_at a.stage) is_it (shown tells ready).2 (shown tells ready).3.0 (shown tells ready).3.1).blocks it.0 a
-      (unseen_here store n (hands.Desummarises a) a.index (λ at. task_of parts.pages.layout at a) (count_at a.stage) is_it (shown tells ready).2 (shown tells ready).3.0 (shown tells ready).3.1) it.1
-      (kept_here store n (hands.Desummarises a) a.index (λ at. task_of parts.pages.layout at a) (count_at a.stage) is_it (shown tells ready).2 (shown tells ready).3.0 (shown tells ready).3.1)
+      (here store n (hands.Desummarises a) a.index (IsDesummariseAt parts.pages.layout a) (counted (count_at a.stage)) is_it (shown tells ready).2 (shown tells ready).3.0 (shown tells ready).3.1).blocks it.0 a
+      (unseen_here store n (hands.Desummarises a) a.index (IsDesummariseAt parts.pages.layout a) (counted (count_at a.stage)) is_it (shown tells ready).2 (shown tells ready).3.0 (shown tells ready).3.1) it.1
+      (kept_here store n (hands.Desummarises a) a.index (IsDesummariseAt parts.pages.layout a) (counted (count_at a.stage)) is_it (shown tells ready).2 (shown tells ready).3.0 (shown tells ready).3.1)
 
   -- what its machine's step told of the pages, the locks and itself
   pub record MachineLeft (pages : View D) (locks : LockState) (b : DesummariseState) : Type 0 where
@@ -128,17 +128,14 @@ module _ {D : Type 0} (told : D → Told) (parts : Parts D) (n : ℕ) (a : Desum
     abbrev was : Hand
     was = hands.Desummarises a
 
-    abbrev task : ℕ → Task
-    task at = task_of parts.pages.layout at a
-
     abbrev next : Hand
     next = hands.Desummarises b
 
-    abbrev next_task : ℕ → Task
-    next_task at = task_of parts.pages.layout at b
+    abbrev HereNext : Task → Type 0
+    HereNext = IsUpkeepAt parts.pages.layout a.index (λ at. task_of parts.pages.layout at b)
 
-    is_then : IsUpkeep parts.pages.layout next a.index next_task (count_at b.stage)
-    is_then = subst (λ (i : ℕ). IsUpkeep parts.pages.layout next i next_task (count_at b.stage)) left.index
+    is_then : IsUpkeep parts.pages.layout next a.index HereNext (counted (count_at b.stage))
+    is_then = subst (λ (i : ℕ). IsUpkeep parts.pages.layout next i (IsUpkeepAt parts.pages.layout i (λ at. task_of parts.pages.layout at b)) (counted (count_at b.stage))) left.index
         (is_desummarise parts.pages.layout b left.of.index (subst (λ (i : ℕ). (index_at parts.pages.layout i).table < length parts.pages.layout.schema.tables) (sym left.index) below))
 
     pub same_statement : statement_of next ≡ statement_of was
@@ -180,18 +177,18 @@ module _ {D : Type 0} (told : D → Told) (parts : Parts D) (n : ℕ) (a : Desum
         → StepsSo told parts (with_these parts pages locks righted) n was (stepped.Moved point next)
     moved law alike righted point does work own right ready =
         let stays = right_left number n parts.rights righted a.stage (did.Moved point) within right in
-        moved_so told parts pages locks righted parts.queue n was a.index task (count_at a.stage) fit is_it (left_by righted stays) next next_task (count_at b.stage) is_then same_statement
+        moved_so told parts pages locks righted parts.queue n was a.index (IsDesummariseAt parts.pages.layout a) (counted (count_at a.stage)) fit is_it (left_by righted stays) next HereNext (counted (count_at b.stage)) is_then same_statement
         (left.of, left_then b.stage work) own refl ready
         (ap (λ (i : ℕ). right_in (index_at parts.pages.layout i).table b.stage) left.index ∙ right_at_work number b.stage work) alike (inl left.leaves) point (λ names hand_list has tells p shown.
-        let old = old_store told parts pages locks righted parts.queue n was a.index task (count_at a.stage) fit is_it (left_by righted stays) names hand_list has in
-        let then = new_store told parts pages locks righted parts.queue n was a.index task (count_at a.stage) fit is_it (left_by righted stays) names hand_list has (Some next) in
-        let it = at_task old n was a.index task (count_at a.stage) is_it has p shown in
-        let shows = here old n was a.index task (count_at a.stage) is_it has p shown in
+        let old = old_store told parts pages locks righted parts.queue n was a.index (IsDesummariseAt parts.pages.layout a) (counted (count_at a.stage)) fit is_it (left_by righted stays) names hand_list has in
+        let then = new_store told parts pages locks righted parts.queue n was a.index (IsDesummariseAt parts.pages.layout a) (counted (count_at a.stage)) fit is_it (left_by righted stays) names hand_list has (Some next) in
+        let it = at_task old n was a.index (IsDesummariseAt parts.pages.layout a) (counted (count_at a.stage)) is_it has p shown in
+        let shows = here old n was a.index (IsDesummariseAt parts.pages.layout a) (counted (count_at a.stage)) is_it has p shown in
         let so = came law righted (did.Moved point) does tells shows.blocks it.0 it.1 in
         let taken = right_taken number n parts.rights righted a.stage (did.Moved point) right tt within (holds_there old n a is_it has p shown) fits.in_hand.1 in
         let made = made_by old then n a b is_it has p shown fits.in_hand.1 point so.0 (Some n) so.2 (sym taken) refl in (
           made.0,
-          made.1,
+          (it.0, it.1, made.1),
           (λ rests. is_busy parts.pages.layout it.0 b work (sym made.1 ∙ rests)),
           ap (λ (f : Account → Account). f (counted (count_at a.stage))) made.2 ∙ counts_on a.stage b.stage so.0 so.1,
         ))
@@ -207,12 +204,12 @@ module _ {D : Type 0} (told : D → Told) (parts : Parts D) (n : ℕ) (a : Desum
         let still : number < length righted = omega (arith, within, as_many) in
         let stays = stays_on number n parts.rights righted given first (gives_stay number n righted given still gives keeps) in
         let none : held_at b.stage ≡ 0 = over_free b.stage over in
-        done_so told parts pages locks given parts.queue n was a.index task (count_at a.stage) fit is_it (left_by given stays) (count_at b.stage) (omega (arith, own, none)) refl ready (gives_own number n righted given still gives keeps) alike (inl left.leaves) point
+        done_so told parts pages locks given parts.queue n was a.index (IsDesummariseAt parts.pages.layout a) (counted (count_at a.stage)) fit is_it (left_by given stays) (counted (count_at b.stage)) refl (omega (arith, own, none)) refl ready (gives_own number n righted given still gives keeps) alike (inl left.leaves) point
         (replies.Desummarized (count_at b.stage)) (λ names hand_list has tells p shown.
-        let old = old_store told parts pages locks given parts.queue n was a.index task (count_at a.stage) fit is_it (left_by given stays) names hand_list has in
-        let then = new_store told parts pages locks given parts.queue n was a.index task (count_at a.stage) fit is_it (left_by given stays) names hand_list has None in
-        let it = at_task old n was a.index task (count_at a.stage) is_it has p shown in
-        let shows = here old n was a.index task (count_at a.stage) is_it has p shown in
+        let old = old_store told parts pages locks given parts.queue n was a.index (IsDesummariseAt parts.pages.layout a) (counted (count_at a.stage)) fit is_it (left_by given stays) names hand_list has in
+        let then = new_store told parts pages locks given parts.queue n was a.index (IsDesummariseAt parts.pages.layout a) (counted (count_at a.stage)) fit is_it (left_by given stays) names hand_list has None in
+        let it = at_task old n was a.index (IsDesummariseAt parts.pages.layout a) (counted (count_at a.stage)) is_it has p shown in
+        let shows = here old n was a.index (IsDesummariseAt parts.pages.layout a) (counted (count_at a.stage)) is_it has p shown in
         let so = came law righted (did.Finished point) does tells shows.blocks it.0 it.1 in
         let taken = right_taken number n parts.rights righted a.stage (did.Finished point) right tt within (holds_there old n a is_it has p shown) fits.in_hand.1 in
         let free : right_of given number ≡ None = gives_there number n righted given still gives keeps taken in
@@ -230,10 +227,10 @@ module _ {D : Type 0} (told : D → Told) (parts : Parts D) (n : ℕ) (a : Desum
           → ((names : List (List ℕ)) (hand_list : List (Option Hand)) (has : hand_in hand_list n ≡ Some was) → Tells told parts.pages → (p : Place) (shown : IsPlaceOf (shown_of (store_of parts names hand_list)) p)
           → Steps p n (Waits (refusals.Blocked what (name_of p by))) p)
           → StepsSo told parts (with_these parts pages locks righted) n was (stepped.Blocked what by next)
-      waits what by holder_is waiting = waits_so told parts pages locks righted parts.queue n was a.index task (count_at a.stage) fit is_it (left_by righted (same_stays number n parts.rights righted same_rights)) next next_task
-          (subst (λ (c : ℕ). IsUpkeep parts.pages.layout next a.index next_task c) (ap count_at same) is_then) same_statement (left.of, subst IsLeft (sym same) fits.in_hand.1) own refl ready (right_stays same) alike (inl left.leaves)
+      waits what by holder_is waiting = waits_so told parts pages locks righted parts.queue n was a.index (IsDesummariseAt parts.pages.layout a) (counted (count_at a.stage)) fit is_it (left_by righted (same_stays number n parts.rights righted same_rights)) next HereNext
+          (subst (λ (k : ℕ). IsUpkeep parts.pages.layout next a.index HereNext (counted k)) (ap count_at same) is_then) same_statement (left.of, subst IsLeft (sym same) fits.in_hand.1) own refl ready (right_stays same) alike (inl left.leaves)
           keeps same_locks same_rights refl what by holder_is (λ names hand_list has tells p shown. (
-            (λ place stood. ap (λ (x : DesummariseState). task_of parts.pages.layout place x) (same_state same)),
+            (λ task stood. (stood.0, stood.1, stood.2 ∙ sym (ap (λ (x : DesummariseState). task_of parts.pages.layout stood.0 x) (same_state same)))),
             waiting names hand_list has tells p shown,
           ))
 
@@ -247,12 +244,12 @@ module _ {D : Type 0} (told : D → Told) (parts : Parts D) (n : ℕ) (a : Desum
         waits alike righted (right_same number n parts.rights righted a.stage (did.Blocked held) (waits_at_work a.stage stands.0) right) stands.1 own ready blocked.2 blocked.1 what held.by
         (blocked.0.2, inl (holder_has_lock parts.locks held.page held.by blocked.0.1)) (λ names hand_list has tells p shown.
         let old : ShownStore = shown_of (store_of parts names hand_list) in
-        let it = at_task old n was a.index task (count_at a.stage) is_it has p shown in
-        let shows = here old n was a.index task (count_at a.stage) is_it has p shown in
+        let it = at_task old n was a.index (IsDesummariseAt parts.pages.layout a) (counted (count_at a.stage)) is_it has p shown in
+        let shows = here old n was a.index (IsDesummariseAt parts.pages.layout a) (counted (count_at a.stage)) is_it has p shown in
         let so = came law righted (did.Blocked held) does tells shows.blocks it.0 it.1 in
         subst (λ (x : What). Steps p n (Waits (refusals.Blocked x (name_of p held.by))) p) (sym (named number it.0 it.1))
-        (waits_for_page old n was a.index task (count_at a.stage) is_it has p shown fits.entries (on_its p n parts.pages.layout a shown.layout) held.page held.by
-        (so.0 shows.unseen it.2 shows.lock (kept_here old n was a.index task (count_at a.stage) is_it has p shown)) blocked.0.0 blocked.0.1))
+        (waits_for_page old n was a.index (IsDesummariseAt parts.pages.layout a) (counted (count_at a.stage)) is_it has p shown fits.entries (on_its p n parts.pages.layout a shown.layout) (task_of parts.pages.layout it.0 a) it.2 it.0 it.1 held.page held.by
+        (so.0 shows.unseen it.2 shows.lock (kept_here old n was a.index (IsDesummariseAt parts.pages.layout a) (counted (count_at a.stage)) is_it has p shown)) blocked.0.0 blocked.0.1))
 
     -- another session has its table's summarise lock
     pub lacks_right : StepsInTable → ShowAlike → (righted : List (Option ℕ)) (by : ℕ) → Does righted (did.NoRight by)
@@ -263,12 +260,12 @@ module _ {D : Type 0} (told : D → Told) (parts : Parts D) (n : ℕ) (a : Desum
         let told_so : (right_of parts.rights number ≡ Some by) × (by ≢ n) × (righted ≡ parts.rights) = subst (λ (q : Stage). RightAnswers number n parts.rights righted q (did.NoRight by)) stands.0 right in
         waits alike righted told_so.2 stands.1 own ready kept.1 kept.0 what by (told_so.1, inr (number, told_so.0)) (λ names hand_list has tells p shown.
         let old : ShownStore = shown_of (store_of parts names hand_list) in
-        let it = at_task old n was a.index task (count_at a.stage) is_it has p shown in
-        let shows = here old n was a.index task (count_at a.stage) is_it has p shown in
+        let it = at_task old n was a.index (IsDesummariseAt parts.pages.layout a) (counted (count_at a.stage)) is_it has p shown in
+        let shows = here old n was a.index (IsDesummariseAt parts.pages.layout a) (counted (count_at a.stage)) is_it has p shown in
         let so = came law righted (did.NoRight by) does tells shows.blocks it.0 it.1 in
         subst (λ (x : What). Steps p n (Waits (refusals.Blocked x (name_of p by))) p) (sym named)
-        (waits_for_lock old n was a.index task (count_at a.stage) is_it has p shown fits.entries (on_its p n parts.pages.layout a shown.layout) by
-        (so.0 shows.unseen it.2 shows.lock (kept_here old n was a.index task (count_at a.stage) is_it has p shown)) told_so.0))
+        (waits_for_lock old n was a.index (IsDesummariseAt parts.pages.layout a) (counted (count_at a.stage)) is_it has p shown fits.entries (on_its p n parts.pages.layout a shown.layout) (task_of parts.pages.layout it.0 a) it.2 by
+        (so.0 shows.unseen it.2 shows.lock (kept_here old n was a.index (IsDesummariseAt parts.pages.layout a) (counted (count_at a.stage)) is_it has p shown)) told_so.0))
 
   -- the pages refuse it, and its session gives its locks
   pub refused : (shown : IsShown told parts n (hands.Desummarises a)) → TakesSound → (pages : View D) (locks given : LockState) (b : DesummariseState) (left : MachineLeft pages locks b)
@@ -276,7 +273,7 @@ module _ {D : Type 0} (told : D → Told) (parts : Parts D) (n : ℕ) (a : Desum
       → (error : StoreError) → Refused told (Tells told parts.pages → DamageIn parts.pages.layout parts.pages.pages a) parts.pages pages error → NamesAPage parts.pages.layout error
       → StepsSo told parts (with_these parts pages given parts.rights) n (hands.Desummarises a) (stepped.Undone (fault_of error) (hands.Desummarises b))
   refused shown law pages locks given b left same limit none others error refusal names =
-      undone_so told parts pages given parts.rights parts.queue n (hands.Desummarises a) a.index (λ at. task_of parts.pages.layout at a) (count_at a.stage) fit is_it (record {
+      undone_so told parts pages given parts.rights parts.queue n (hands.Desummarises a) a.index (IsDesummariseAt parts.pages.layout a) (counted (count_at a.stage)) fit is_it (record {
         others = left.others;
         order = left.order;
         limit = limit ∙ left.counts.limit;

@@ -65,8 +65,12 @@ right_at_work own (stages.Drop x) work = refl
 right_at_work own stages.Lacked work = absurd work
 right_at_work own stages.Cleared work = absurd work
 
+-- at its index's place among the table's, it is at this
+abbrev pub IsDesummariseAt : DiskLayout → DesummariseState → Task → Type 0
+IsDesummariseAt layout a = IsUpkeepAt layout a.index (λ at. task_of layout at a)
+
 pub is_desummarise : (layout : DiskLayout) (a : DesummariseState) → a.index < length layout.schema.indexes → (index_at layout a.index).table < length layout.schema.tables
-    → IsUpkeep layout (hands.Desummarises a) a.index (λ at. task_of layout at a) (count_at a.stage)
+    → IsUpkeep layout (hands.Desummarises a) a.index (IsDesummariseAt layout a) (counted (count_at a.stage))
 is_desummarise layout a within below = record {
   within = within;
   below = below;
@@ -76,6 +80,7 @@ is_desummarise layout a within below = record {
   answered = refl;
   tells = λ account is. is;
   told = refl;
+  none = refl;
   own = λ transaction copy. of_any_copy copy a;
   in_table = λ table has. sym (same_Some (index_at layout a.index).table table has);
   no_insert = tt;
@@ -189,36 +194,36 @@ StepsInTable = (step : StoreStep) (at : ℕ) (a b : DesummariseState) (answer : 
     → LeavesTheRest step a.index → DesummariseDoes step a b answer → DoesInTable step at a b answer
 
 -- at its range it holds the summarise lock of its table
-pub holds_there : (old : ShownStore) (n : ℕ) (a : DesummariseState) (is : IsUpkeep old.layout (hands.Desummarises a) a.index (λ at. task_of old.layout at a) (count_at a.stage)) (had : hand_in old.hands n ≡ Some (hands.Desummarises a))
+pub holds_there : (old : ShownStore) (n : ℕ) (a : DesummariseState) (is : IsUpkeep old.layout (hands.Desummarises a) a.index (IsDesummariseAt old.layout a) (counted (count_at a.stage))) (had : hand_in old.hands n ≡ Some (hands.Desummarises a))
     → (p : Place) (shown : IsPlaceOf old p) → IsAtWork a.stage → right_of old.rights (index_at old.layout a.index).table ≡ Some n
 holds_there old n a is had p shown work =
-    let shows = here old n (hands.Desummarises a) a.index (λ at. task_of old.layout at a) (count_at a.stage) is had p shown in
-    let it = at_task old n (hands.Desummarises a) a.index (λ at. task_of old.layout at a) (count_at a.stage) is had p shown in
-    let kept = kept_here old n (hands.Desummarises a) a.index (λ at. task_of old.layout at a) (count_at a.stage) is had p shown in
+    let shows = here old n (hands.Desummarises a) a.index (IsDesummariseAt old.layout a) (counted (count_at a.stage)) is had p shown in
+    let it = at_task old n (hands.Desummarises a) a.index (IsDesummariseAt old.layout a) (counted (count_at a.stage)) is had p shown in
+    let kept = kept_here old n (hands.Desummarises a) a.index (IsDesummariseAt old.layout a) (counted (count_at a.stage)) is had p shown in
     sym shows.lock ∙ (kept.summarise_lock n).1 (subst (λ (t : Task). IsMaintenance t) (sym (it.2 ∙ at_range it.0 (range_of old.layout a) a.stage work)) tt)
 
-module _ (old new : ShownStore) (n : ℕ) (a b : DesummariseState) (is : IsUpkeep old.layout (hands.Desummarises a) a.index (λ at. task_of old.layout at a) (count_at a.stage)) (had : hand_in old.hands n ≡ Some (hands.Desummarises a))
+module _ (old new : ShownStore) (n : ℕ) (a b : DesummariseState) (is : IsUpkeep old.layout (hands.Desummarises a) a.index (IsDesummariseAt old.layout a) (counted (count_at a.stage))) (had : hand_in old.hands n ≡ Some (hands.Desummarises a))
     (p : Place) (shown : IsPlaceOf old p) (left : IsLeft a.stage) where
   abbrev number : ℕ
-  number = table old n (hands.Desummarises a) a.index (λ at. task_of old.layout at a) (count_at a.stage) is had p shown
+  number = table old n (hands.Desummarises a) a.index (IsDesummariseAt old.layout a) (counted (count_at a.stage)) is had p shown
 
   abbrev blocks : List (List Slot)
-  blocks = (here old n (hands.Desummarises a) a.index (λ at. task_of old.layout at a) (count_at a.stage) is had p shown).blocks
+  blocks = (here old n (hands.Desummarises a) a.index (IsDesummariseAt old.layout a) (counted (count_at a.stage)) is had p shown).blocks
 
   abbrev u : Unseen
-  u = unseen_here old n (hands.Desummarises a) a.index (λ at. task_of old.layout at a) (count_at a.stage) is had p shown
+  u = unseen_here old n (hands.Desummarises a) a.index (IsDesummariseAt old.layout a) (counted (count_at a.stage)) is had p shown
 
-  abbrev there : IsUpkeepAt old.layout a.index (λ at. task_of old.layout at a) (u.task n)
-  there = at_task old n (hands.Desummarises a) a.index (λ at. task_of old.layout at a) (count_at a.stage) is had p shown
+  abbrev there : IsDesummariseAt old.layout a (u.task n)
+  there = at_task old n (hands.Desummarises a) a.index (IsDesummariseAt old.layout a) (counted (count_at a.stage)) is had p shown
 
   abbrev shown_then : ShownTable
   shown_then = shown_by old.layout new.pages new.locks number blocks
 
   module _ (point : Point) (account : Account → Account) (between : Task)
-      (does : DoesAt n (w old n (hands.Desummarises a) a.index (λ at. task_of old.layout at a) (count_at a.stage) is had p shown) (table_state shown_then (turned n (Some n) between u.unnamed u)) point account)
+      (does : DoesAt n (w old n (hands.Desummarises a) a.index (IsDesummariseAt old.layout a) (counted (count_at a.stage)) is had p shown) (table_state shown_then (turned n (Some n) between u.unnamed u)) point account)
       (first : IsFirstWithin a.stage (first_task old.layout there.0 a) between) where
     abbrev Own : Type 0
-    Own = (u.task n ≢ Resting) ⊎ Begins p n (w old n (hands.Desummarises a) a.index (λ at. task_of old.layout at a) (count_at a.stage) is had p shown) (statements.Desummarize a.index a.block) between
+    Own = (u.task n ≢ Resting) ⊎ Begins p n (w old n (hands.Desummarises a) a.index (IsDesummariseAt old.layout a) (counted (count_at a.stage)) is had p shown) (statements.Desummarize a.index a.block) between
 
     at_work : (IsAtWork a.stage) → Own × IsPlain point
     at_work work = (
@@ -229,7 +234,7 @@ module _ (old new : ShownStore) (n : ℕ) (a b : DesummariseState) (is : IsUpkee
     own_by : (stage : Stage) → a.stage ≡ stage → Own × IsPlain point
     own_by stages.Right at =
         let between_is : between ≡ first_task old.layout there.0 a = subst (λ (q : Stage). IsFirstWithin q (first_task old.layout there.0 a) between) at first in (
-          inr (subst (λ (t : Task). Begins p n (w old n (hands.Desummarises a) a.index (λ at. task_of old.layout at a) (count_at a.stage) is had p shown) (statements.Desummarize a.index a.block) t) (sym between_is)
+          inr (subst (λ (t : Task). Begins p n (w old n (hands.Desummarises a) a.index (IsDesummariseAt old.layout a) (counted (count_at a.stage)) is had p shown) (statements.Desummarize a.index a.block) t) (sym between_is)
               (begins_there old.layout old.pages old.locks blocks u p n there.0 a shown.layout there.1)),
           first_point n _ _ point _ _ _ (there.2 ∙ ap (λ (q : Stage). task_at there.0 (range_of old.layout a) q) at) (pick_same n between (u.task n) ∙ between_is) does.does does.point_is,
         )
@@ -244,17 +249,17 @@ module _ (old new : ShownStore) (n : ℕ) (a b : DesummariseState) (is : IsUpkee
 
   -- a step that goes on, or replies
   pub made_by : (point : Point) (count : ℕ) (held_then : Option ℕ)
-      → DesummariseGoes n (pages_show old n (hands.Desummarises a) a.index (λ at. task_of old.layout at a) (count_at a.stage) is had p shown) shown_then (right_of old.rights number) held_then (task_of old.layout there.0 a) (task_of old.layout there.0 b) point
+      → DesummariseGoes n (pages_show old n (hands.Desummarises a) a.index (IsDesummariseAt old.layout a) (counted (count_at a.stage)) is had p shown) shown_then (right_of old.rights number) held_then (task_of old.layout there.0 a) (task_of old.layout there.0 b) point
       (account_by a.stage count) a.stage (first_task old.layout there.0 a)
       → held_then ≡ right_of new.rights number → new.queue ≡ old.queue
-      → (made : MadeIn old new n (hands.Desummarises a) a.index (λ at. task_of old.layout at a) (count_at a.stage) is had p shown point) × (made.after ≡ task_of old.layout there.0 b) × (made.account ≡ account_by a.stage count)
+      → (made : MadeIn old new n (hands.Desummarises a) a.index (IsDesummariseAt old.layout a) (counted (count_at a.stage)) is had p shown point) × (made.after ≡ task_of old.layout there.0 b) × (made.adds ≡ account_by a.stage count)
   made_by point count held_then goes right same_queue =
-      let kept = kept_here old n (hands.Desummarises a) a.index (λ at. task_of old.layout at a) (count_at a.stage) is had p shown in
-      let lock = (here old n (hands.Desummarises a) a.index (λ at. task_of old.layout at a) (count_at a.stage) is had p shown).lock in
+      let kept = kept_here old n (hands.Desummarises a) a.index (IsDesummariseAt old.layout a) (counted (count_at a.stage)) is had p shown in
+      let lock = (here old n (hands.Desummarises a) a.index (IsDesummariseAt old.layout a) (counted (count_at a.stage)) is had p shown).lock in
       let it = goes.0 u there.2 lock kept in
       let so = own_so point (account_by a.stage count) it.0 it.1 (goes.1 u there.2 lock kept) in (
         record {
-          account = account_by a.stage count;
+          adds = account_by a.stage count;
           between = it.0;
           after = task_of old.layout there.0 b;
           held = held_then;

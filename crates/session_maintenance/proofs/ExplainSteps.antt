@@ -204,10 +204,3 @@ module _ {D : Type 0} (told : D → Told) (parts : Parts D) (pages : View D) (n 
   undone_by law shown known fault error is outcome names answer answer_is = subst (λ (a : Stepped). StepsSo told parts new n (hands.Explains before) a) (sym answer_is)
       (undone_so law shown known error (subst (λ (f : MachineFault). ReadOutcome {T = Did} told Damage parts.pages pages (Err f)) is outcome)
       (judged_names parts.pages.layout before.judging.indexes before.judging.stage error (subst (λ (f : MachineFault). NamesPageAt parts.pages.layout before.judging.indexes before.judging.stage f) is names)))
-
-  -- it lacks neither a page nor memory
-  pub not_full : (fault : MachineFault) (relation number : ℕ) → fault ≡ faults.Full relation number → ReadOutcome {T = Did} told Damage parts.pages pages (Err fault) → ⊥
-  not_full fault relation number is outcome = subst (λ (f : MachineFault). ReadOutcome {T = Did} told Damage parts.pages pages (Err f)) is outcome
-
-  pub not_short : (fault : MachineFault) → fault ≡ faults.Memory → ReadOutcome {T = Did} told Damage parts.pages pages (Err fault) → ⊥
-  not_short fault is outcome = subst (λ (f : MachineFault). ReadOutcome {T = Did} told Damage parts.pages pages (Err f)) is outcome

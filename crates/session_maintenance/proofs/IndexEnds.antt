@@ -24,9 +24,10 @@ use Rattle.session_parts.specs.Hands.{count_in, summary_now}
 use Rattle.session_parts.specs.StepAnswers.{StaysReady}
 use Rattle.session_parts.specs.Stepping.{IsFit}
 use Rattle.session_parts.specs.UndoneLaws.{StepsSo}
+use Rattle.session_maintenance.proofs.SummariseParts.{MachineLeft}
 use Rattle.session_maintenance.proofs.SummariseTurns.{StepsInTable}
 use Rattle.session_maintenance.proofs.UpkeepParts.{with_these}
-use Rattle.session_maintenance.proofs.SummarySteps.{HasThen, IsNow, SummaryLeft, done, next_index_comes, now_b}
+use Rattle.session_maintenance.proofs.SummarySteps.{HasThen, IsNow, done, next_index_comes, now_b}
 
 -- its index is counted, and the next one comes
 abbrev pub behind_index : Completing → Completing
@@ -41,7 +42,7 @@ pub record EndsIndex (n : ℕ) (then : Completing) (point : Point) (answer : Ste
   pub keeps : length then.summaries.items ≤ then.next + 1 → right_of righted then.table ≢ Some n → given ≡ righted
 
 module _ {D : Type 0} (told : D → Told) (parts : Parts D) (n : ℕ) (c : Completing) (a : SummariseState) (at : IsNow parts.pages.layout c a) (fit : IsFit told parts n (hands.Completes c)) (pages : View D) (locks : LockState) (b : SummariseState)
-    (left : SummaryLeft told parts n a pages locks b) (then : Completing) (has_then : HasThen c then b) (same_next : then.next ≡ c.next) (same_ranges : then.ranges ≡ c.ranges) where
+    (left : MachineLeft told parts n a pages locks b) (then : Completing) (has_then : HasThen c then b) (same_next : then.next ≡ c.next) (same_ranges : then.ranges ≡ c.ranges) where
   abbrev number : ℕ
   number = (index_at parts.pages.layout a.index).table
 

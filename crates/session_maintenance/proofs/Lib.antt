@@ -2,6 +2,7 @@ pub mod Oldest
 mod Dead
 mod Wanted
 mod Watching
+mod InHand
 pub mod ExplainTurns
 pub mod ExplainShown
 pub mod Explained
@@ -23,11 +24,7 @@ pub mod WorkAsked
 pub mod WorkAtOnce
 pub mod WorkBegins
 pub mod WorkParts
-pub mod CompleteAt
 pub mod CompletePoints
-pub mod CompleteSteps
-pub mod CompleteStays
-pub mod CompleteParts
 pub mod Summaries
 pub mod CompleteTurns
 pub mod SummarySteps

@@ -8,9 +8,9 @@ use Rattle.std.proofs.lemmas.Option.{get_or_from_slice_get, same_Some, slice_get
 use Rattle.std.proofs.Math.Seq.{map-set_same}
 use Rattle.block_model.specs.DatabaseState.{OpenTransaction}
 use Rattle.store_layout.specs.DiskLayout.{DiskLayout}
-use Rattle.store_layout.specs.declared.statement.Statement.TheVariants as statements
 use Rattle.coverage.specs.Accounts.{Account, no_account}
 use Rattle.coverage.specs.Table.{Restarts, Resting, Task}
+use Rattle.index_steps.specs.IndexTuples.{index_at}
 use Rattle.index_steps.specs.ShownTable.{indexes_of}
 use Rattle.summarise_core.specs.declared.course.Standing.{Standing}
 use Rattle.summarise_core.specs.declared.course.Standing.TheVariants as standings
@@ -24,22 +24,19 @@ use Rattle.session_parts.specs.Hands.{completed_by, count_in, summary_now}
 use Rattle.session_parts.specs.HandFits.{AreSummariesOf, IsCompletingFor, held_in_summary}
 use Rattle.session_parts.specs.HandsInTables.{InItsTable, IsCompletingAt}
 use Rattle.session_parts.specs.ShowsPlace.{IsLeftToMark}
-use Rattle.session_maintenance.proofs.CompleteAt.{IsAtWorkIn}
+use Rattle.session_maintenance.proofs.UpkeepAt.{IsUpkeep}
 
 -- ---- what a vacuum at its summaries is
-
-not_work : (table : ℕ) → statements.Vacuum table ≢ statements.Work
-not_work table is = cc
 
 of_any_copy : (copy : Option OpenTransaction) (c : Completing) → IsLeftToMark copy (hands.Completes c)
 of_any_copy None c = tt
 of_any_copy (Some x) c = tt
 
-pub is_completing : (layout : DiskLayout) (c : Completing) (table : ℕ) → c.table ≡ table → table < length layout.schema.tables → IsAtWorkIn layout (hands.Completes c) table (IsCompletingAt layout c) (completed_by c)
-is_completing layout c table own below = record {
+pub is_completing : (layout : DiskLayout) (c : Completing) (index : ℕ) → c.table ≡ (index_at layout index).table → index < length layout.schema.indexes → (index_at layout index).table < length layout.schema.tables
+    → IsUpkeep layout (hands.Completes c) index (IsCompletingAt layout c) (completed_by c)
+is_completing layout c index own within below = record {
+  within = within;
   below = below;
-  on = λ p n same. sym own;
-  no_work = not_work c.table;
   lock = refl;
   asks = λ n answers. refl;
   answers = λ answers is. is;
@@ -48,13 +45,12 @@ is_completing layout c table own below = record {
   told = refl;
   none = refl;
   own = λ transaction copy. of_any_copy copy c;
-  in_table = ap Some own;
+  in_table = λ table has. sym (same_Some c.table table has) ∙ own;
   no_insert = tt;
   asked = λ asked. tt;
-  right = ap Some own;
-  share = refl;
-  task_is = λ number blocks tx stored transaction now is. subst (λ (t : ℕ). InItsTable t number (IsCompletingAt layout c now) now) own is;
-  is_task = λ number blocks tx stored transaction now is. subst (λ (t : ℕ). InItsTable t number (IsCompletingAt layout c now) now) (sym own) is;
+  right = λ table has. sym (same_Some c.table table has) ∙ own;
+  task_is = λ table blocks tx stored transaction now is. subst (λ (t : ℕ). InItsTable t table (IsCompletingAt layout c now) now) own is;
+  is_task = λ table blocks tx stored transaction now is. subst (λ (t : ℕ). InItsTable t table (IsCompletingAt layout c now) now) (sym own) is;
 }
 
 -- ---- what it tells

@@ -66,8 +66,8 @@ use Rattle.session_parts.specs.UndoneLaws.{FitsParts, StepsSo}
 use Rattle.session_parts.proofs.HeldLocks.{holder_has_lock}
 use Rattle.session_parts.proofs.Undone.{fit_of_parts}
 use Rattle.session_maintenance.proofs.SummariseLocks.{OthersStay, gives_own, gives_stay, gives_there, same_stays, stays_on}
-use Rattle.session_maintenance.proofs.SummariseTurns.{IsBySummarise, StepsInTable, counts_on, holds_there, is_busy, is_over, last_gives, made_by, right_left, right_taken}
-use Rattle.session_maintenance.proofs.UpkeepAt.{IsUpkeep, at_task, counted, here, kept_here, unseen_here}
+use Rattle.session_maintenance.proofs.SummariseTurns.{IsSummaryAt, IsBySummarise, StepsInTable, counts_on, holds_there, is_busy, is_over, last_gives, made_by, right_left, right_taken}
+use Rattle.session_maintenance.proofs.UpkeepAt.{IsUpkeep, IsUpkeepAt, at_task, counted, here, kept_here, unseen_here}
 use Rattle.session_maintenance.proofs.UpkeepParts.{PartsLeft, done_so, moved_so, new_store, old_store, refused_untold, undone_so, waits_so, with_these}
 use Rattle.session_maintenance.proofs.UpkeepSteps.{MadeIn}
 use Rattle.session_maintenance.proofs.UpkeepStays.{waits_for_lock, waits_for_page}
@@ -126,12 +126,49 @@ pub record MachineLeft {D : Type 0} (told : D → Told) (parts : Parts D) (n : �
   pub leaves : LeavesLocks (holder parts.locks) (holder locks) (index_relation parts.pages.layout a.index) n
   pub counts : TakesAtMost (taken_by a) parts.locks locks n
 
+module _ {D : Type 0} (told : D → Told) (parts : Parts D) (n : ℕ) (a : SummariseState) (pages : View D) (locks : LockState) (b : SummariseState) (left : MachineLeft told parts n a pages locks b) where
+  -- what is left of the parts
+  pub left_by : (rights : List (Option ℕ)) → OthersStay (index_at parts.pages.layout a.index).table n parts.rights rights → PartsLeft told parts pages locks rights n a.index
+  left_by rights stays = record {
+    others = left.others;
+    order = left.order;
+    limit = left.counts.limit;
+    counts = λ m other. left.counts.adds.others m other;
+    tables = stays.tables;
+    apart = stays.apart;
+    theirs = stays.theirs;
+  }
+
+  -- and where its session gives its page locks
+  pub left_given : (given : LockState) → given.limit ≡ locks.limit → ((m : ℕ) → m ≢ n → locks_of given m ≡ locks_of locks m) → (rights : List (Option ℕ)) → OthersStay (index_at parts.pages.layout a.index).table n parts.rights rights
+      → PartsLeft told parts pages given rights n a.index
+  left_given given limit others rights stays = record {
+    others = left.others;
+    order = left.order;
+    limit = limit ∙ left.counts.limit;
+    counts = λ m other. others m other ∙ left.counts.adds.others m other;
+    tables = stays.tables;
+    apart = stays.apart;
+    theirs = stays.theirs;
+  }
+
+  -- in the table that the store shows, with its index at that place
+  pub came : StepsInTable → (righted : List (Option ℕ)) (answer : Did)
+      → OfBlocks told parts.pages (index_at parts.pages.layout a.index).table (λ blocks. SummariseDoes (step_of parts.pages.layout parts.pages.pages pages.pages parts.locks locks parts.rights righted n blocks) a b answer)
+      → IsSummariseOf parts.pages.layout a → Tells told parts.pages → (blocks : List (List Slot)) → HasBlocks parts.pages.layout parts.pages.pages (index_at parts.pages.layout a.index).table blocks
+      → (at : ℕ) → StandsAt parts.pages.layout a.index at → DoesInTable (step_of parts.pages.layout parts.pages.pages pages.pages parts.locks locks parts.rights righted n blocks) at a b answer
+  came law righted answer does of tells blocks has at stands = law (step_of parts.pages.layout parts.pages.pages pages.pages parts.locks locks parts.rights righted n blocks) at a b answer stands of
+      (record { others = left.others.indexes tells; locks = left.leaves }) (does tells blocks has)
+
 module _ {D : Type 0} (told : D → Told) (parts : Parts D) (n : ℕ) (hand : SummariseState → Hand) (by : IsBySummarise parts.pages.layout (transaction_of parts.transactions.opens n) hand) (a : SummariseState)
     (fit : IsFit told parts n (hand a)) (below : (index_at parts.pages.layout a.index).table < length parts.pages.layout.schema.tables) where
   pub fits : FitsParts told parts n (Some (hand a))
   fits = fit_of_parts told parts n (hand a) fit
 
-  pub is_it : IsUpkeep parts.pages.layout (hand a) a.index (λ at. task_of parts.pages.layout at a) (count_of a)
+  of_it : IsSummariseOf parts.pages.layout a
+  of_it = by.of a fits.in_hand
+
+  pub is_it : IsUpkeep parts.pages.layout (hand a) a.index (IsSummaryAt parts.pages.layout a) (counted (count_of a))
   is_it = by.upkeep a fits.in_hand below
 
   -- its session holds no more page locks than the summarise
@@ -164,20 +201,20 @@ module _ {D : Type 0} (told : D → Told) (parts : Parts D) (n : ℕ) (hand : Su
     is_shown = (shown tells ready).3.1
 
     pub is_ready : TakesReady → ReadyAt parts.pages.layout parts.pages.pages a
-    is_ready law = law parts.pages.layout parts.pages.pages parts.locks (here store n (hand a) a.index (λ at. task_of parts.pages.layout at a) (count_of a) is_it had place is_shown).blocks n
-        (at_task store n (hand a) a.index (λ at. task_of parts.pages.layout at a) (count_of a) is_it had place is_shown).0 a
-        (unseen_here store n (hand a) a.index (λ at. task_of parts.pages.layout at a) (count_of a) is_it had place is_shown)
-        (at_task store n (hand a) a.index (λ at. task_of parts.pages.layout at a) (count_of a) is_it had place is_shown).1
-        (at_task store n (hand a) a.index (λ at. task_of parts.pages.layout at a) (count_of a) is_it had place is_shown).2
-        (kept_here store n (hand a) a.index (λ at. task_of parts.pages.layout at a) (count_of a) is_it had place is_shown)
+    is_ready law = law parts.pages.layout parts.pages.pages parts.locks (here store n (hand a) a.index (IsSummaryAt parts.pages.layout a) (counted (count_of a)) is_it had place is_shown).blocks n
+        (at_task store n (hand a) a.index (IsSummaryAt parts.pages.layout a) (counted (count_of a)) is_it had place is_shown).0 a
+        (unseen_here store n (hand a) a.index (IsSummaryAt parts.pages.layout a) (counted (count_of a)) is_it had place is_shown)
+        (at_task store n (hand a) a.index (IsSummaryAt parts.pages.layout a) (counted (count_of a)) is_it had place is_shown).1
+        (at_task store n (hand a) a.index (IsSummaryAt parts.pages.layout a) (counted (count_of a)) is_it had place is_shown).2
+        (kept_here store n (hand a) a.index (IsSummaryAt parts.pages.layout a) (counted (count_of a)) is_it had place is_shown)
 
     pub is_sound : TakesSound → DamageIn parts.pages.layout parts.pages.pages a → ⊥
-    is_sound law = law parts.pages.layout parts.pages.pages parts.locks (here store n (hand a) a.index (λ at. task_of parts.pages.layout at a) (count_of a) is_it had place is_shown).blocks n
-        (at_task store n (hand a) a.index (λ at. task_of parts.pages.layout at a) (count_of a) is_it had place is_shown).0 a
-        (unseen_here store n (hand a) a.index (λ at. task_of parts.pages.layout at a) (count_of a) is_it had place is_shown)
-        (at_task store n (hand a) a.index (λ at. task_of parts.pages.layout at a) (count_of a) is_it had place is_shown).1
-        (at_task store n (hand a) a.index (λ at. task_of parts.pages.layout at a) (count_of a) is_it had place is_shown).2
-        (kept_here store n (hand a) a.index (λ at. task_of parts.pages.layout at a) (count_of a) is_it had place is_shown)
+    is_sound law = law parts.pages.layout parts.pages.pages parts.locks (here store n (hand a) a.index (IsSummaryAt parts.pages.layout a) (counted (count_of a)) is_it had place is_shown).blocks n
+        (at_task store n (hand a) a.index (IsSummaryAt parts.pages.layout a) (counted (count_of a)) is_it had place is_shown).0 a
+        (unseen_here store n (hand a) a.index (IsSummaryAt parts.pages.layout a) (counted (count_of a)) is_it had place is_shown)
+        (at_task store n (hand a) a.index (IsSummaryAt parts.pages.layout a) (counted (count_of a)) is_it had place is_shown).1
+        (at_task store n (hand a) a.index (IsSummaryAt parts.pages.layout a) (counted (count_of a)) is_it had place is_shown).2
+        (kept_here store n (hand a) a.index (IsSummaryAt parts.pages.layout a) (counted (count_of a)) is_it had place is_shown)
         (λ placing. is_shown.order a.index is_it.within)
 
   -- where its session is at that task, it is in its index's table
@@ -188,14 +225,11 @@ module _ {D : Type 0} (told : D → Told) (parts : Parts D) (n : ℕ) (hand : Su
     abbrev was : Hand
     was = hand a
 
-    abbrev task : ℕ → Task
-    task at = task_of parts.pages.layout at a
-
     abbrev next : Hand
     next = hand b
 
-    abbrev next_task : ℕ → Task
-    next_task at = task_of parts.pages.layout at b
+    abbrev HereNext : Task → Type 0
+    HereNext = IsUpkeepAt parts.pages.layout a.index (λ at. task_of parts.pages.layout at b)
 
     pub same_statement : statement_of next ≡ statement_of was
     same_statement = by.same a b left.index left.wish
@@ -207,8 +241,8 @@ module _ {D : Type 0} (told : D → Told) (parts : Parts D) (n : ℕ) (hand : Su
     in_hand_then : Stands → IsHandFor parts.pages.layout (transaction_of parts.transactions.opens n) next
     in_hand_then stands = by.goes a b fits.in_hand left.of left.index left.wish stands
 
-    is_then : Stands → IsUpkeep parts.pages.layout next a.index next_task (count_of b)
-    is_then stands = subst (λ (i : ℕ). IsUpkeep parts.pages.layout next i next_task (count_of b)) left.index
+    is_then : Stands → IsUpkeep parts.pages.layout next a.index HereNext (counted (count_of b))
+    is_then stands = subst (λ (i : ℕ). IsUpkeep parts.pages.layout next i (IsUpkeepAt parts.pages.layout i (λ at. task_of parts.pages.layout at b)) (counted (count_of b))) left.index
         (by.upkeep b (in_hand_then stands) (subst (λ (i : ℕ). (index_at parts.pages.layout i).table < length parts.pages.layout.schema.tables) (sym left.index) below))
 
     -- where it stands where it stood, it has the summarise lock that it had
@@ -221,25 +255,6 @@ module _ {D : Type 0} (told : D → Told) (parts : Parts D) (n : ℕ) (hand : Su
     share_then : hand_share (Some next) ≡ hand_share (Some was)
     share_then = by.share b ∙ sym (by.share a)
 
-    left_by : (rights : List (Option ℕ)) → OthersStay number n parts.rights rights → PartsLeft told parts pages locks rights n a.index
-    left_by rights stays = record {
-      others = left.others;
-      order = left.order;
-      limit = left.counts.limit;
-      counts = λ m other. left.counts.adds.others m other;
-      tables = stays.tables;
-      apart = stays.apart;
-      theirs = stays.theirs;
-    }
-
-    module _ (law : StepsInTable) (righted : List (Option ℕ)) (answer : Did)
-        (does : OfBlocks told parts.pages number (λ blocks. SummariseDoes (step_of parts.pages.layout parts.pages.pages pages.pages parts.locks locks parts.rights righted n blocks) a b answer)) where
-      -- in the table that the store shows, with its index at that place
-      came : Tells told parts.pages → (blocks : List (List Slot)) → HasBlocks parts.pages.layout parts.pages.pages number blocks → (at : ℕ) → StandsAt parts.pages.layout a.index at
-          → DoesInTable (step_of parts.pages.layout parts.pages.pages pages.pages parts.locks locks parts.rights righted n blocks) at a b answer
-      came tells blocks has at stands = law (step_of parts.pages.layout parts.pages.pages pages.pages parts.locks locks parts.rights righted n blocks) at a b answer stands (by.of a fits.in_hand)
-          (record { others = left.others.indexes tells; locks = left.leaves }) (does tells blocks has)
-
     -- it goes on
     pub moved : StepsInTable → ShowAlike → (righted : List (Option ℕ)) (point : Point)
         → OfBlocks told parts.pages number (λ blocks. SummariseDoes (step_of parts.pages.layout parts.pages.pages pages.pages parts.locks locks parts.rights righted n blocks) a b (did.Moved point))
@@ -247,17 +262,17 @@ module _ {D : Type 0} (told : D → Told) (parts : Parts D) (n : ℕ) (hand : Su
         → StepsSo told parts (with_these parts pages locks righted) n was (stepped.Moved point next)
     moved law alike righted point does at own right ready =
         let stays = right_left number n parts.rights righted a.standing (did.Moved point) within right in
-        moved_so told parts pages locks righted parts.queue n was a.index task (count_of a) fit is_it (left_by righted stays) next next_task (count_of b) (is_then (inl at)) same_statement
+        moved_so told parts pages locks righted parts.queue n was a.index (IsSummaryAt parts.pages.layout a) (counted (count_of a)) fit is_it (left_by told parts n a pages locks b left righted stays) next HereNext (counted (count_of b)) (is_then (inl at)) same_statement
         (in_hand_then (inl at)) (own_then own) share_then ready right_then alike (inl left.leaves) point (λ names hand_list has tells p shown.
-        let old = old_store told parts pages locks righted parts.queue n was a.index task (count_of a) fit is_it (left_by righted stays) names hand_list has in
-        let then = new_store told parts pages locks righted parts.queue n was a.index task (count_of a) fit is_it (left_by righted stays) names hand_list has (Some next) in
-        let it = at_task old n was a.index task (count_of a) is_it has p shown in
-        let shows = here old n was a.index task (count_of a) is_it has p shown in
-        let so = came law righted (did.Moved point) does tells shows.blocks shows.has it.0 it.1 in
+        let old = old_store told parts pages locks righted parts.queue n was a.index (IsSummaryAt parts.pages.layout a) (counted (count_of a)) fit is_it (left_by told parts n a pages locks b left righted stays) names hand_list has in
+        let then = new_store told parts pages locks righted parts.queue n was a.index (IsSummaryAt parts.pages.layout a) (counted (count_of a)) fit is_it (left_by told parts n a pages locks b left righted stays) names hand_list has (Some next) in
+        let it = at_task old n was a.index (IsSummaryAt parts.pages.layout a) (counted (count_of a)) is_it has p shown in
+        let shows = here old n was a.index (IsSummaryAt parts.pages.layout a) (counted (count_of a)) is_it has p shown in
+        let so = came told parts n a pages locks b left law righted (did.Moved point) does of_it tells shows.blocks shows.has it.0 it.1 in
         let taken = right_taken number n parts.rights righted a.standing (did.Moved point) right tt within (holds_there old n was a is_it has p shown) (by.left a fits.in_hand) in
         let made = made_by old then n (transaction_of parts.transactions.opens n) hand by a b fits.in_hand is_it has p shown point so.0 (Some n) so.2 (sym taken) refl in (
           made.0,
-          made.1,
+          (it.0, it.1, made.1),
           (λ rests. is_busy parts.pages.layout it.0 b at (sym made.1 ∙ rests)),
           ap (λ (f : Account → Account). f (counted (count_of a))) made.2 ∙ counts_on a.wish a.standing (count_of a) so.0 (count_of b) (by.wish a fits.in_hand) so.1,
         ))
@@ -268,7 +283,7 @@ module _ {D : Type 0} (told : D → Told) (parts : Parts D) (n : ℕ) (hand : Su
     -- the reply is what the definition tells behind that step
     abbrev pub RepliesSo : Point → Reply → Type 0
     RepliesSo point reply = (names : List (List ℕ)) (hand_list : List (Option Hand)) (has : hand_in hand_list n ≡ Some was) (then : ShownStore) (p : Place) (shown : IsPlaceOf (shown_of (store_of parts names hand_list)) p)
-        (made : MadeIn (shown_of (store_of parts names hand_list)) then n was a.index task (count_of a) is_it has p shown point) → made.after ≡ Resting
+        (made : MadeIn (shown_of (store_of parts names hand_list)) then n was a.index (IsSummaryAt parts.pages.layout a) (counted (count_of a)) is_it has p shown point) → made.after ≡ Resting
         → Some reply ≡ reply_after p.layout number made.between (counted (count_of b)) [] (statement_of was)
 
     -- it replies, and its table's summarise lock is given
@@ -283,13 +298,13 @@ module _ {D : Type 0} (told : D → Told) (parts : Parts D) (n : ℕ) (hand : Su
         let still : number < length righted = omega (arith, within, as_many) in
         let stays = stays_on number n parts.rights righted given first (gives_stay number n righted given still gives keeps) in
         let none : held_by b ≡ 0 = ap (λ (q : Standing). held_in b q) at in
-        done_so told parts pages locks given parts.queue n was a.index task (count_of a) fit is_it (left_by given stays) (count_of b) (omega (arith, own, none)) (by.share a) ready (gives_own number n righted given still gives keeps) alike (inl left.leaves) point reply
+        done_so told parts pages locks given parts.queue n was a.index (IsSummaryAt parts.pages.layout a) (counted (count_of a)) fit is_it (left_by told parts n a pages locks b left given stays) (counted (count_of b)) refl (omega (arith, own, none)) (by.share a) ready (gives_own number n righted given still gives keeps) alike (inl left.leaves) point reply
         (λ names hand_list has tells p shown.
-        let old = old_store told parts pages locks given parts.queue n was a.index task (count_of a) fit is_it (left_by given stays) names hand_list has in
-        let then = new_store told parts pages locks given parts.queue n was a.index task (count_of a) fit is_it (left_by given stays) names hand_list has None in
-        let it = at_task old n was a.index task (count_of a) is_it has p shown in
-        let shows = here old n was a.index task (count_of a) is_it has p shown in
-        let so = came law righted (did.Finished point) does tells shows.blocks shows.has it.0 it.1 in
+        let old = old_store told parts pages locks given parts.queue n was a.index (IsSummaryAt parts.pages.layout a) (counted (count_of a)) fit is_it (left_by told parts n a pages locks b left given stays) names hand_list has in
+        let then = new_store told parts pages locks given parts.queue n was a.index (IsSummaryAt parts.pages.layout a) (counted (count_of a)) fit is_it (left_by told parts n a pages locks b left given stays) names hand_list has None in
+        let it = at_task old n was a.index (IsSummaryAt parts.pages.layout a) (counted (count_of a)) is_it has p shown in
+        let shows = here old n was a.index (IsSummaryAt parts.pages.layout a) (counted (count_of a)) is_it has p shown in
+        let so = came told parts n a pages locks b left law righted (did.Finished point) does of_it tells shows.blocks shows.has it.0 it.1 in
         let taken = right_taken number n parts.rights righted a.standing (did.Finished point) right tt within (holds_there old n was a is_it has p shown) (by.left a fits.in_hand) in
         let free : right_of given number ≡ None = gives_there number n righted given still gives keeps taken in
         let made = made_by old then n (transaction_of parts.transactions.opens n) hand by a b fits.in_hand is_it has p shown point so.0 (held_behind a.wish n (indexes_left parts.pages.layout a.index it.0)) so.2
@@ -311,18 +326,18 @@ module _ {D : Type 0} (told : D → Told) (parts : Parts D) (n : ℕ) (hand : Su
     waits_there law alike righted held does stands blocked own right ready what named =
         let same_rights : righted ≡ parts.rights = subst (λ (q : Standing). RightAnswers number n parts.rights righted q (did.Blocked held)) stands.0 right in
         let stood : b.standing ≡ a.standing = ap (λ (x : SummariseState). x.standing) stands.2 in
-        waits_so told parts pages locks righted parts.queue n was a.index task (count_of a) fit is_it (left_by righted (same_stays number n parts.rights righted same_rights)) next next_task
-        (subst (λ (c : ℕ). IsUpkeep parts.pages.layout next a.index next_task c) (same_count a b stands.0 stands.2 stands.3) (is_then (inr stood))) same_statement
+        waits_so told parts pages locks righted parts.queue n was a.index (IsSummaryAt parts.pages.layout a) (counted (count_of a)) fit is_it (left_by told parts n a pages locks b left righted (same_stays number n parts.rights righted same_rights)) next HereNext
+        (subst (λ (k : ℕ). IsUpkeep parts.pages.layout next a.index HereNext (counted k)) (same_count a b stands.0 stands.2 stands.3) (is_then (inr stood))) same_statement
         (in_hand_then (inr stood)) (own_then own) share_then ready (right_same stood) alike (inl left.leaves) blocked.2 blocked.1 same_rights refl what held.by
         (blocked.0.2, inl (holder_has_lock parts.locks held.page held.by blocked.0.1)) (λ names hand_list has tells p shown.
-        let old = old_store told parts pages locks righted parts.queue n was a.index task (count_of a) fit is_it (left_by righted (same_stays number n parts.rights righted same_rights)) names hand_list has in
-        let it = at_task old n was a.index task (count_of a) is_it has p shown in
-        let shows = here old n was a.index task (count_of a) is_it has p shown in
-        let so = came law righted (did.Blocked held) does tells shows.blocks shows.has in (
-          (λ place stood. (so place stood).1),
+        let old = old_store told parts pages locks righted parts.queue n was a.index (IsSummaryAt parts.pages.layout a) (counted (count_of a)) fit is_it (left_by told parts n a pages locks b left righted (same_stays number n parts.rights righted same_rights)) names hand_list has in
+        let it = at_task old n was a.index (IsSummaryAt parts.pages.layout a) (counted (count_of a)) is_it has p shown in
+        let shows = here old n was a.index (IsSummaryAt parts.pages.layout a) (counted (count_of a)) is_it has p shown in
+        let so = came told parts n a pages locks b left law righted (did.Blocked held) does of_it tells shows.blocks shows.has in (
+          (λ task stood. (stood.0, stood.1, stood.2 ∙ sym (so stood.0 stood.1).1)),
           subst (λ (x : What). Steps p n (Waits (refusals.Blocked x (name_of p held.by))) p) (sym (named number it.0 it.1))
-              (waits_for_page old n was a.index task (count_of a) is_it has p shown fits.entries (on_there p it.0 shown.layout (ap (λ (x : TableState). x.task n) shows.shown ∙ it.2)) held.page held.by
-              ((so it.0 it.1).0 shows.unseen it.2 shows.lock (kept_here old n was a.index task (count_of a) is_it has p shown)) blocked.0.0 blocked.0.1),
+              (waits_for_page old n was a.index (IsSummaryAt parts.pages.layout a) (counted (count_of a)) is_it has p shown fits.entries (on_there p it.0 shown.layout (ap (λ (x : TableState). x.task n) shows.shown ∙ it.2)) (task_of parts.pages.layout it.0 a) it.2 it.0 it.1 held.page held.by
+              ((so it.0 it.1).0 shows.unseen it.2 shows.lock (kept_here old n was a.index (IsSummaryAt parts.pages.layout a) (counted (count_of a)) is_it has p shown)) blocked.0.0 blocked.0.1),
         ))
 
     -- another session has its table's summarise lock
@@ -334,18 +349,18 @@ module _ {D : Type 0} (told : D → Told) (parts : Parts D) (n : ℕ) (hand : Su
     lacks_right law alike righted by does stands kept own right ready what named =
         let told_so : (right_of parts.rights number ≡ Some by) × (by ≢ n) × (righted ≡ parts.rights) = subst (λ (q : Standing). RightAnswers number n parts.rights righted q (did.NoRight by)) stands.0 right in
         let stood : b.standing ≡ a.standing = ap (λ (x : SummariseState). x.standing) stands.1 in
-        waits_so told parts pages locks righted parts.queue n was a.index task (count_of a) fit is_it (left_by righted (same_stays number n parts.rights righted told_so.2)) next next_task
-        (subst (λ (c : ℕ). IsUpkeep parts.pages.layout next a.index next_task c) (ap count_of stands.1) (is_then (inr stood))) same_statement
+        waits_so told parts pages locks righted parts.queue n was a.index (IsSummaryAt parts.pages.layout a) (counted (count_of a)) fit is_it (left_by told parts n a pages locks b left righted (same_stays number n parts.rights righted told_so.2)) next HereNext
+        (subst (λ (k : ℕ). IsUpkeep parts.pages.layout next a.index HereNext (counted k)) (ap count_of stands.1) (is_then (inr stood))) same_statement
         (in_hand_then (inr stood)) (own_then own) share_then ready (right_same stood) alike (inl left.leaves) kept.1 kept.0 told_so.2 refl what by
         (told_so.1, inr (number, told_so.0)) (λ names hand_list has tells p shown.
-        let old = old_store told parts pages locks righted parts.queue n was a.index task (count_of a) fit is_it (left_by righted (same_stays number n parts.rights righted told_so.2)) names hand_list has in
-        let it = at_task old n was a.index task (count_of a) is_it has p shown in
-        let shows = here old n was a.index task (count_of a) is_it has p shown in
-        let so = came law righted (did.NoRight by) does tells shows.blocks shows.has in (
-          (λ place stood. ap (λ (x : SummariseState). task_of parts.pages.layout place x) stands.1),
+        let old = old_store told parts pages locks righted parts.queue n was a.index (IsSummaryAt parts.pages.layout a) (counted (count_of a)) fit is_it (left_by told parts n a pages locks b left righted (same_stays number n parts.rights righted told_so.2)) names hand_list has in
+        let it = at_task old n was a.index (IsSummaryAt parts.pages.layout a) (counted (count_of a)) is_it has p shown in
+        let shows = here old n was a.index (IsSummaryAt parts.pages.layout a) (counted (count_of a)) is_it has p shown in
+        let so = came told parts n a pages locks b left law righted (did.NoRight by) does of_it tells shows.blocks shows.has in (
+          (λ task stood. (stood.0, stood.1, stood.2 ∙ sym (ap (λ (x : SummariseState). task_of parts.pages.layout stood.0 x) stands.1))),
           subst (λ (x : What). Steps p n (Waits (refusals.Blocked x (name_of p by))) p) (sym named)
-              (waits_for_lock old n was a.index task (count_of a) is_it has p shown fits.entries (on_there p it.0 shown.layout (ap (λ (x : TableState). x.task n) shows.shown ∙ it.2)) by
-              ((so it.0 it.1).0 shows.unseen it.2 shows.lock (kept_here old n was a.index task (count_of a) is_it has p shown)) told_so.0),
+              (waits_for_lock old n was a.index (IsSummaryAt parts.pages.layout a) (counted (count_of a)) is_it has p shown fits.entries (on_there p it.0 shown.layout (ap (λ (x : TableState). x.task n) shows.shown ∙ it.2)) (task_of parts.pages.layout it.0 a) it.2 by
+              ((so it.0 it.1).0 shows.unseen it.2 shows.lock (kept_here old n was a.index (IsSummaryAt parts.pages.layout a) (counted (count_of a)) is_it has p shown)) told_so.0),
         ))
 
   -- the pages refuse it, and its session gives its locks
@@ -354,15 +369,7 @@ module _ {D : Type 0} (told : D → Told) (parts : Parts D) (n : ℕ) (hand : Su
       → (error : StoreError) → Refused told (Tells told parts.pages → DamageIn parts.pages.layout parts.pages.pages a) parts.pages pages error → NamesAPage parts.pages.layout error
       → StepsSo told parts (with_these parts pages given parts.rights) n (hand a) (stepped.Undone (fault_of error) (hand b))
   refused shown law pages locks given b left same limit none others error refusal names =
-      undone_so told parts pages given parts.rights parts.queue n (hand a) a.index (λ at. task_of parts.pages.layout at a) (count_of a) fit is_it (record {
-        others = left.others;
-        order = left.order;
-        limit = limit ∙ left.counts.limit;
-        counts = λ m other. others m other ∙ left.counts.adds.others m other;
-        tables = refl;
-        apart = λ other apart. refl;
-        theirs = λ m other apart holds. holds;
-      }) (hand b) (same_statement pages locks b left)
+      undone_so told parts pages given parts.rights parts.queue n (hand a) a.index (IsSummaryAt parts.pages.layout a) (counted (count_of a)) fit is_it (left_given told parts n a pages locks b left given limit others parts.rights (same_stays number n parts.rights parts.rights refl)) (hand b) (same_statement pages locks b left)
       (in_hand_then pages locks b left (inr (ap (λ (x : SummariseState). x.standing) same)))
       (omega (arith, none)) (share_then pages locks b left) (right_same pages locks b left (ap (λ (x : SummariseState). x.standing) same)) refl error
       (refused_untold told (Tells told parts.pages → DamageIn parts.pages.layout parts.pages.pages a) parts.pages pages error (λ ready damage tells. is_sound shown tells ready law (damage tells)) refusal) names

@@ -65,8 +65,12 @@ right_of_its own table standings.Begins has = absurd (none-some table has)
 right_of_its own table standings.AtRange has = sym (same_Some own table has)
 right_of_its own table standings.Done has = absurd (none-some table has)
 
+-- at its index's place among the table's, it is at this
+abbrev pub IsSummaryAt : DiskLayout → SummariseState → Task → Type 0
+IsSummaryAt layout a = IsUpkeepAt layout a.index (λ at. task_of layout at a)
+
 pub is_summarise : (layout : DiskLayout) (a : SummariseState) → a.index < length layout.schema.indexes → (index_at layout a.index).table < length layout.schema.tables
-    → IsUpkeep layout (hands.Summarises a) a.index (λ at. task_of layout at a) (count_of a)
+    → IsUpkeep layout (hands.Summarises a) a.index (IsSummaryAt layout a) (counted (count_of a))
 is_summarise layout a within below = record {
   within = within;
   below = below;
@@ -76,6 +80,7 @@ is_summarise layout a within below = record {
   answered = refl;
   tells = λ account is. is;
   told = refl;
+  none = refl;
   own = λ transaction copy. of_any_copy copy a;
   in_table = λ table has. sym (same_Some (index_at layout a.index).table table has);
   no_insert = tt;
@@ -154,7 +159,7 @@ pub record IsBySummarise (layout : DiskLayout) (own : Option Open) (hand : Summa
   -- it stays fit where the summarise is at a range then, or stands where it stood
   pub goes : (a b : SummariseState) → IsHandFor layout own (hand a) → IsSummariseOf layout b → b.index ≡ a.index → b.wish ≡ a.wish → (b.standing ≡ standings.AtRange) ⊎ (b.standing ≡ a.standing) → IsHandFor layout own (hand b)
   pub upkeep : (a : SummariseState) → IsHandFor layout own (hand a) → (index_at layout a.index).table < length layout.schema.tables
-      → IsUpkeep layout (hand a) a.index (λ at. task_of layout at a) (count_of a)
+      → IsUpkeep layout (hand a) a.index (IsSummaryAt layout a) (counted (count_of a))
   pub same : (a b : SummariseState) → b.index ≡ a.index → b.wish ≡ a.wish → statement_of (hand b) ≡ statement_of (hand a)
   pub locks : (a : SummariseState) → locks_held (Some (hand a)) ≡ held_by a
   pub right : (a : SummariseState) → right_held layout (Some (hand a)) ≡ right_at (index_at layout a.index).table a.standing
@@ -227,41 +232,41 @@ StepsInTable = (step : StoreStep) (at : ℕ) (a b : SummariseState) (answer : Di
     → LeavesTheRest step a.index → SummariseDoes step a b answer → DoesInTable step at a b answer
 
 -- at a range it holds the summarise lock of its table
-pub holds_there : (old : ShownStore) (n : ℕ) (was : Hand) (a : SummariseState) (is : IsUpkeep old.layout was a.index (λ at. task_of old.layout at a) (count_of a)) (had : hand_in old.hands n ≡ Some was)
+pub holds_there : (old : ShownStore) (n : ℕ) (was : Hand) (a : SummariseState) (is : IsUpkeep old.layout was a.index (IsSummaryAt old.layout a) (counted (count_of a))) (had : hand_in old.hands n ≡ Some was)
     → (p : Place) (shown : IsPlaceOf old p) → a.standing ≡ standings.AtRange → right_of old.rights (index_at old.layout a.index).table ≡ Some n
 holds_there old n was a is had p shown at =
-    let shows = here old n was a.index (λ at. task_of old.layout at a) (count_of a) is had p shown in
-    let it = at_task old n was a.index (λ at. task_of old.layout at a) (count_of a) is had p shown in
-    let kept = kept_here old n was a.index (λ at. task_of old.layout at a) (count_of a) is had p shown in
+    let shows = here old n was a.index (IsSummaryAt old.layout a) (counted (count_of a)) is had p shown in
+    let it = at_task old n was a.index (IsSummaryAt old.layout a) (counted (count_of a)) is had p shown in
+    let kept = kept_here old n was a.index (IsSummaryAt old.layout a) (counted (count_of a)) is had p shown in
     sym shows.lock ∙ (kept.summarise_lock n).1 (subst (λ (t : Task). IsMaintenance t) (sym (it.2 ∙ at_range old.layout it.0 a at)) tt)
 
-module _ (old new : ShownStore) (n : ℕ) (own : Option Open) (hand : SummariseState → Hand) (by : IsBySummarise old.layout own hand) (a b : SummariseState) (fit : IsHandFor old.layout own (hand a)) (is : IsUpkeep old.layout (hand a) a.index (λ at. task_of old.layout at a) (count_of a)) (had : hand_in old.hands n ≡ Some (hand a))
+module _ (old new : ShownStore) (n : ℕ) (own : Option Open) (hand : SummariseState → Hand) (by : IsBySummarise old.layout own hand) (a b : SummariseState) (fit : IsHandFor old.layout own (hand a)) (is : IsUpkeep old.layout (hand a) a.index (IsSummaryAt old.layout a) (counted (count_of a))) (had : hand_in old.hands n ≡ Some (hand a))
     (p : Place) (shown : IsPlaceOf old p) where
   abbrev number : ℕ
-  number = table old n (hand a) a.index (λ at. task_of old.layout at a) (count_of a) is had p shown
+  number = table old n (hand a) a.index (IsSummaryAt old.layout a) (counted (count_of a)) is had p shown
 
   abbrev blocks : List (List Slot)
-  blocks = (here old n (hand a) a.index (λ at. task_of old.layout at a) (count_of a) is had p shown).blocks
+  blocks = (here old n (hand a) a.index (IsSummaryAt old.layout a) (counted (count_of a)) is had p shown).blocks
 
   abbrev u : Unseen
-  u = unseen_here old n (hand a) a.index (λ at. task_of old.layout at a) (count_of a) is had p shown
+  u = unseen_here old n (hand a) a.index (IsSummaryAt old.layout a) (counted (count_of a)) is had p shown
 
-  abbrev there : IsUpkeepAt old.layout a.index (λ at. task_of old.layout at a) (u.task n)
-  there = at_task old n (hand a) a.index (λ at. task_of old.layout at a) (count_of a) is had p shown
+  abbrev there : IsSummaryAt old.layout a (u.task n)
+  there = at_task old n (hand a) a.index (IsSummaryAt old.layout a) (counted (count_of a)) is had p shown
 
   abbrev shown_then : ShownTable
   shown_then = shown_by old.layout new.pages new.locks number blocks
 
   module _ (point : Point) (account : Account → Account) (between : Task) (unnamed : ℕ → Spot → Bool)
-      (does : DoesAt n (w old n (hand a) a.index (λ at. task_of old.layout at a) (count_of a) is had p shown) (table_state shown_then (turned n (Some n) between unnamed u)) point account)
+      (does : DoesAt n (w old n (hand a) a.index (IsSummaryAt old.layout a) (counted (count_of a)) is had p shown) (table_state shown_then (turned n (Some n) between unnamed u)) point account)
       (first : IsFirstWithin a.standing (first_task old.layout there.0 (length blocks) a) between) where
     abbrev Own : Type 0
-    Own = (u.task n ≢ Resting) ⊎ Begins p n (w old n (hand a) a.index (λ at. task_of old.layout at a) (count_of a) is had p shown) (statement_of (hand a)) between
+    Own = (u.task n ≢ Resting) ⊎ Begins p n (w old n (hand a) a.index (IsSummaryAt old.layout a) (counted (count_of a)) is had p shown) (statement_of (hand a)) between
 
     own_by : (standing : Standing) → a.standing ≡ standing → Own × IsPlain point
     own_by standings.Begins at =
         let between_is : between ≡ first_task old.layout there.0 (length blocks) a = subst (λ (q : Standing). IsFirstWithin q (first_task old.layout there.0 (length blocks) a) between) at first in (
-          inr (subst (λ (t : Task). Begins p n (w old n (hand a) a.index (λ at. task_of old.layout at a) (count_of a) is had p shown) (statement_of (hand a)) t) (sym between_is)
+          inr (subst (λ (t : Task). Begins p n (w old n (hand a) a.index (IsSummaryAt old.layout a) (counted (count_of a)) is had p shown) (statement_of (hand a)) t) (sym between_is)
               (by.begins a fit at old.pages old.locks blocks u p n there.0 shown.layout there.1)),
           first_point n _ _ point _ _ _ (there.2 ∙ is_new old.layout there.0 a (by.wish a fit) at) (pick_same n between (u.task n) ∙ between_is) does.does does.point_is,
         )
@@ -276,18 +281,18 @@ module _ (old new : ShownStore) (n : ℕ) (own : Option Open) (hand : SummariseS
 
   -- a step that goes on, or replies
   pub made_by : (point : Point) (count : ℕ) (held_then : Option ℕ)
-      → SummariseGoes n (pages_show old n (hand a) a.index (λ at. task_of old.layout at a) (count_of a) is had p shown) shown_then (right_of old.rights number) held_then (task_of old.layout there.0 a) (task_of old.layout there.0 b) point
+      → SummariseGoes n (pages_show old n (hand a) a.index (IsSummaryAt old.layout a) (counted (count_of a)) is had p shown) shown_then (right_of old.rights number) held_then (task_of old.layout there.0 a) (task_of old.layout there.0 b) point
       (account_by a.wish a.standing count) a.standing (first_task old.layout there.0 (length blocks) a)
       → held_then ≡ right_of new.rights number → new.queue ≡ old.queue
-      → (made : MadeIn old new n (hand a) a.index (λ at. task_of old.layout at a) (count_of a) is had p shown point) × (made.after ≡ task_of old.layout there.0 b) × (made.account ≡ account_by a.wish a.standing count)
+      → (made : MadeIn old new n (hand a) a.index (IsSummaryAt old.layout a) (counted (count_of a)) is had p shown point) × (made.after ≡ task_of old.layout there.0 b) × (made.adds ≡ account_by a.wish a.standing count)
   made_by point count held_then goes right same_queue =
-      let kept = kept_here old n (hand a) a.index (λ at. task_of old.layout at a) (count_of a) is had p shown in
-      let shows = here old n (hand a) a.index (λ at. task_of old.layout at a) (count_of a) is had p shown in
+      let kept = kept_here old n (hand a) a.index (IsSummaryAt old.layout a) (counted (count_of a)) is had p shown in
+      let shows = here old n (hand a) a.index (IsSummaryAt old.layout a) (counted (count_of a)) is had p shown in
       let lock = shows.lock in
       let it = goes.0 u there.2 lock kept in
       let so = own_so point (account_by a.wish a.standing count) it.2 it.0 it.3 (goes.1 u there.2 lock kept) in (
         record {
-          account = account_by a.wish a.standing count;
+          adds = account_by a.wish a.standing count;
           between = it.2;
           after = task_of old.layout there.0 b;
           held = held_then;

@@ -41,7 +41,7 @@ use Rattle.session_maintenance.specs.declared.asker.Asker.{Asker}
 use Rattle.session_maintenance.specs.declared.asker.Asker.TheVariants as askers
 use Rattle.session_maintenance.specs.Askers.{hand_for, reply_for}
 use Rattle.session_maintenance.proofs.SummariseParts.{MachineLeft, RepliesSo, fits, is_it}
-use Rattle.session_maintenance.proofs.SummariseTurns.{IsBySummarise, at_range, by_summarise, is_busy, right_of_its}
+use Rattle.session_maintenance.proofs.SummariseTurns.{IsSummaryAt, IsBySummarise, at_range, by_summarise, is_busy, right_of_its}
 use Rattle.session_maintenance.proofs.UpkeepAt.{IsUpkeep, at_task, counted, unseen_here}
 use Rattle.session_maintenance.proofs.WorkEnds.{ends_behind}
 
@@ -52,7 +52,7 @@ of_any_copy None r = tt
 of_any_copy (Some x) r = tt
 
 pub is_work : (layout : DiskLayout) (r : Requested) → r.summarise.index < length layout.schema.indexes → (index_at layout r.summarise.index).table < length layout.schema.tables
-    → IsUpkeep layout (hands.Works r) r.summarise.index (λ at. task_of layout at r.summarise) (count_of r.summarise)
+    → IsUpkeep layout (hands.Works r) r.summarise.index (IsSummaryAt layout r.summarise) (counted (count_of r.summarise))
 is_work layout r within below = record {
   within = within;
   below = below;
@@ -62,6 +62,7 @@ is_work layout r within below = record {
   answered = refl;
   tells = λ account is. is;
   told = refl;
+  none = refl;
   own = λ transaction copy. of_any_copy copy r;
   in_table = λ table has. sym (same_Some (index_at layout r.summarise.index).table table has);
   no_insert = tt;
@@ -138,9 +139,6 @@ module _ {D : Type 0} (told : D → Told) (parts : Parts D) (n : ℕ) (asker : A
   abbrev was : Hand
   was = hand_for asker a
 
-  abbrev task : ℕ → Task
-  task at = task_of parts.pages.layout at a
-
   abbrev number : ℕ
   number = (index_at parts.pages.layout a.index).table
 
@@ -149,8 +147,8 @@ module _ {D : Type 0} (told : D → Told) (parts : Parts D) (n : ℕ) (asker : A
       → RepliesSo told parts n (hand_for asker) by a fit below pages locks b left point reply
   replies_so point reply named = λ names hand_list has then p shown made rests.
       let old : ShownStore = shown_of (store_of parts names hand_list) in
-      let it = at_task old n was a.index task (count_of a) (is_it told parts n (hand_for asker) by a fit below) has p shown in
-      let u = unseen_here old n was a.index task (count_of a) (is_it told parts n (hand_for asker) by a fit below) has p shown in
+      let it = at_task old n was a.index (IsSummaryAt parts.pages.layout a) (counted (count_of a)) (is_it told parts n (hand_for asker) by a fit below) has p shown in
+      let u = unseen_here old n was a.index (IsSummaryAt parts.pages.layout a) (counted (count_of a)) (is_it told parts n (hand_for asker) by a fit below) has p shown in
       ap Some (named number it.0 it.1)
       ∙ tells_by asker parts.pages.layout (transaction_of parts.transactions.opens n) a (fits told parts n (hand_for asker) by a fit below).in_hand p n number it.0 _ _ _ point shown.layout it.2
       made.turns.does made.turns.point_is made.turns.settles (pick_same n made.after (u.task n) ∙ rests) (count_of b)

@@ -8,32 +8,27 @@ use Rattle.block_model.specs.declared.reply.Refusal.TheVariants as refusals
 use Rattle.block_model.specs.declared.reply.What.{What}
 use Rattle.block_model.specs.declared.reply.What.TheVariants as whats
 use Rattle.store_layout.specs.DiskLayout.{DiskLayout}
-use Rattle.page_layout.specs.PageContents.{Slot}
 use Rattle.page_map.specs.declared.faults.StoreError.{StoreError}
 use Rattle.page_map.specs.Keeps.{Keeps, Tells}
 use Rattle.page_map.specs.Outcome.{Refused}
 use Rattle.page_map.specs.PageMap.{View}
-use Rattle.page_locks.specs.declared.did.Did.{Did}
 use Rattle.page_locks.specs.declared.did.Did.TheVariants as did
 use Rattle.page_locks.specs.declared.held.Held.{Held}
 use Rattle.page_locks.specs.LockCounts.{locks_of}
-use Rattle.page_locks.specs.LockHolders.{LockState, holder}
+use Rattle.page_locks.specs.LockHolders.{LockState}
 use Rattle.page_locks.specs.RightHolders.{right_of}
-use Rattle.heap_rows.specs.HeapBlocks.{HasBlocks, OfBlocks}
+use Rattle.heap_rows.specs.HeapBlocks.{OfBlocks}
 use Rattle.transactions.specs.Laws.{ShowAlike}
-use Rattle.index_contents.specs.IndexChanges.{LeavesOthers as LeavesOtherIndexes}
-use Rattle.index_contents.specs.IndexContents.{relation_of as index_relation}
-use Rattle.index_contents.specs.KeepsOrder.{KeepsOrder}
 use Rattle.index_steps.specs.IndexTuples.{index_at}
 use Rattle.index_steps.specs.ShownTable.{indexes_of}
-use Rattle.index_steps.specs.SwapAnswers.{LeavesLocks, NamesHeld, TakesAtMost}
+use Rattle.index_steps.specs.SwapAnswers.{NamesHeld}
 use Rattle.coverage.specs.Accounts.{Account}
 use Rattle.coverage.specs.Table.{Restarts, Resting, Task}
 use Rattle.summarise_core.specs.declared.course.Standing.{Standing}
 use Rattle.summarise_core.specs.declared.course.Standing.TheVariants as standings
 use Rattle.summarise_core.specs.declared.wish.Wish.TheVariants as wishes
-use Rattle.summarise_core.specs.Summarises.{DamageIn, IsSummariseOf, ReadyAt, RightAnswers, StandsThen, SummariseDoes, SummariseState, count_of, held_by, held_in, step_of, taken_by}
-use Rattle.summarise_core.specs.SummariseTable.{DoesInTable, held_behind, indexes_left, task_at, task_of}
+use Rattle.summarise_core.specs.Summarises.{DamageIn, IsSummariseOf, ReadyAt, RightAnswers, StandsThen, SummariseDoes, SummariseState, count_of, held_by, held_in, step_of}
+use Rattle.summarise_core.specs.SummariseTable.{held_behind, indexes_left, task_at, task_of}
 use Rattle.script_semantics.specs.Names.{index_name, name_of, table_name}
 use Rattle.script_semantics.specs.Place.{Place}
 use Rattle.script_semantics.specs.StatementSteps.{Steps, Waits}
@@ -45,7 +40,7 @@ use Rattle.session_parts.specs.declared.hand.Stepped.TheVariants as stepped
 use Rattle.session_parts.specs.declared.parts.Parts.{Parts}
 use Rattle.session_parts.specs.DamagedPages.{NamesAPage}
 use Rattle.session_parts.specs.Hands.{completed_by, statement_of, summary_now}
-use Rattle.session_parts.specs.HandFits.{IsCompletingFor}
+use Rattle.session_parts.specs.HandFits.{IsCompletingFor, right_held}
 use Rattle.session_parts.specs.HandsInTables.{IsCompletingAt}
 use Rattle.session_parts.specs.ShowsPlace.{IsPlaceOf}
 use Rattle.session_parts.specs.StepAnswers.{StaysReady}
@@ -55,25 +50,14 @@ use Rattle.session_parts.specs.StoreStates.{ShownStore, hand_in, shown_of, store
 use Rattle.session_parts.specs.UndoneLaws.{FitsParts, StepsSo}
 use Rattle.session_parts.proofs.HeldLocks.{holder_has_lock}
 use Rattle.session_parts.proofs.Undone.{fit_of_parts}
-use Rattle.session_maintenance.proofs.SummariseLocks.{OthersStay, gives_own, gives_stay, gives_there, same_stays, stays_on}
-use Rattle.session_maintenance.proofs.SummariseParts.{TakesReady, TakesSound, same_count}
+use Rattle.session_maintenance.proofs.SummariseLocks.{gives_own, gives_stay, gives_there, same_stays, stays_on}
+use Rattle.session_maintenance.proofs.SummariseParts.{MachineLeft, TakesReady, TakesSound, came, left_by, left_given, same_count}
 use Rattle.session_maintenance.proofs.SummariseTurns.{StepsInTable, is_busy, right_left, right_taken}
-use Rattle.session_maintenance.proofs.UpkeepParts.{PartsLeft, refused_untold, with_these}
-use Rattle.session_maintenance.proofs.CompleteAt.{IsAtWorkIn, here, kept_here, unseen_here}
-use Rattle.session_maintenance.proofs.CompleteParts.{done_so, moved_so, new_store, old_store, undone_so, waits_so}
-use Rattle.session_maintenance.proofs.CompleteStays.{waits_for_lock, waits_for_page}
+use Rattle.session_maintenance.proofs.UpkeepAt.{IsUpkeep, here, kept_here, unseen_here}
+use Rattle.session_maintenance.proofs.UpkeepParts.{done_so, moved_so, new_store, old_store, refused_untold, undone_so, waits_so, with_these}
+use Rattle.session_maintenance.proofs.UpkeepStays.{waits_for_lock, waits_for_page}
 use Rattle.session_maintenance.proofs.CompleteTurns.{holds_there, made_by, restarts_apart, there}
 use Rattle.session_maintenance.proofs.Summaries.{adds_now, as_many, behind_all, behind_one, completing_next, completing_on, got_now, held_no_more, held_now, held_on, index_there, is_completing, is_left, is_of, new_task, next_summary, now_then, task_now, telling, tells_next, tells_now}
-
--- what its machine's step told of the pages, the locks and the summary
-pub record SummaryLeft {D : Type 0} (told : D → Told) (parts : Parts D) (n : ℕ) (a : SummariseState) (pages : View D) (locks : LockState) (b : SummariseState) : Type 0 where
-  pub of : IsSummariseOf parts.pages.layout b
-  pub index : b.index ≡ a.index
-  pub wish : b.wish ≡ a.wish
-  pub others : LeavesOtherIndexes told a.index parts.pages pages
-  pub order : KeepsOrder told a.index parts.pages pages
-  pub leaves : LeavesLocks (holder parts.locks) (holder locks) (index_relation parts.pages.layout a.index) n
-  pub counts : TakesAtMost (taken_by a) parts.locks locks n
 
 -- the vacuum has the summary in its place then
 pub record HasThen (c then : Completing) (b : SummariseState) : Type 0 where
@@ -114,11 +98,11 @@ module _ {D : Type 0} (told : D → Told) (parts : Parts D) (n : ℕ) (c : Compl
   pub below : number < length parts.pages.layout.schema.tables
   below = subst (λ (t : ℕ). t < length parts.pages.layout.schema.tables) (sym same_table) fits.in_hand.table
 
-  pub is_it : IsAtWorkIn parts.pages.layout (hands.Completes c) (index_at parts.pages.layout a.index).table (IsCompletingAt parts.pages.layout c) (completed_by c)
-  is_it = is_completing parts.pages.layout c number (sym same_table) below
-
   pub of_it : IsSummariseOf parts.pages.layout a
   of_it = (is_of c a got parts.pages.layout fits.in_hand).0
+
+  pub is_it : IsUpkeep parts.pages.layout (hands.Completes c) a.index (IsCompletingAt parts.pages.layout c) (completed_by c)
+  is_it = is_completing parts.pages.layout c a.index (sym same_table) of_it.index below
 
   pub wish_it : a.wish ≡ wishes.Complete
   wish_it = (is_of c a got parts.pages.layout fits.in_hand).1
@@ -150,30 +134,19 @@ module _ {D : Type 0} (told : D → Told) (parts : Parts D) (n : ℕ) (c : Compl
     is_shown = (shown tells ready).3.1
 
     pub is_ready : TakesReady → ReadyAt parts.pages.layout parts.pages.pages a
-    is_ready law = law parts.pages.layout parts.pages.pages parts.locks (here store n (hands.Completes c) number (IsCompletingAt parts.pages.layout c) (completed_by c) is_it had place is_shown).blocks n c.next a
-        (unseen_here store n (hands.Completes c) number (IsCompletingAt parts.pages.layout c) (completed_by c) is_it had place is_shown) stands (there store n c a got is_it had place is_shown)
-        (kept_here store n (hands.Completes c) number (IsCompletingAt parts.pages.layout c) (completed_by c) is_it had place is_shown)
+    is_ready law = law parts.pages.layout parts.pages.pages parts.locks (here store n (hands.Completes c) a.index (IsCompletingAt parts.pages.layout c) (completed_by c) is_it had place is_shown).blocks n c.next a
+        (unseen_here store n (hands.Completes c) a.index (IsCompletingAt parts.pages.layout c) (completed_by c) is_it had place is_shown) stands (there store n c a got is_it had place is_shown)
+        (kept_here store n (hands.Completes c) a.index (IsCompletingAt parts.pages.layout c) (completed_by c) is_it had place is_shown)
 
     pub is_sound : TakesSound → DamageIn parts.pages.layout parts.pages.pages a → ⊥
-    is_sound law = law parts.pages.layout parts.pages.pages parts.locks (here store n (hands.Completes c) number (IsCompletingAt parts.pages.layout c) (completed_by c) is_it had place is_shown).blocks n c.next a
-        (unseen_here store n (hands.Completes c) number (IsCompletingAt parts.pages.layout c) (completed_by c) is_it had place is_shown) stands (there store n c a got is_it had place is_shown)
-        (kept_here store n (hands.Completes c) number (IsCompletingAt parts.pages.layout c) (completed_by c) is_it had place is_shown)
+    is_sound law = law parts.pages.layout parts.pages.pages parts.locks (here store n (hands.Completes c) a.index (IsCompletingAt parts.pages.layout c) (completed_by c) is_it had place is_shown).blocks n c.next a
+        (unseen_here store n (hands.Completes c) a.index (IsCompletingAt parts.pages.layout c) (completed_by c) is_it had place is_shown) stands (there store n c a got is_it had place is_shown)
+        (kept_here store n (hands.Completes c) a.index (IsCompletingAt parts.pages.layout c) (completed_by c) is_it had place is_shown)
         (λ placing. is_shown.order a.index of_it.index)
 
-  module _ (pages : View D) (locks : LockState) (b : SummariseState) (left : SummaryLeft told parts n a pages locks b) where
+  module _ (pages : View D) (locks : LockState) (b : SummariseState) (left : MachineLeft told parts n a pages locks b) where
     abbrev was : Hand
     was = hands.Completes c
-
-    left_by : (rights : List (Option ℕ)) → OthersStay number n parts.rights rights → PartsLeft told parts pages locks rights n a.index
-    left_by rights stays = record {
-      others = left.others;
-      order = left.order;
-      limit = left.counts.limit;
-      counts = λ m other. left.counts.adds.others m other;
-      tables = stays.tables;
-      apart = stays.apart;
-      theirs = stays.theirs;
-    }
 
     -- so many indexes come behind its own
     left_is : indexes_left parts.pages.layout a.index c.next ≡ length c.summaries.items - (c.next + 1)
@@ -200,14 +173,6 @@ module _ {D : Type 0} (told : D → Told) (parts : Parts D) (n : ℕ) (c : Compl
         ap (λ (q : Standing). task_at parts.pages.layout c.next b q) is
         ∙ behind_all parts.pages.layout n c.next (indexes_left parts.pages.layout b.index c.next) b wish_then (let is_so = left_then in omega (arith, is_so, last))
 
-    module _ (law : StepsInTable) (righted : List (Option ℕ)) (answer : Did)
-        (does : OfBlocks told parts.pages number (λ blocks. SummariseDoes (step_of parts.pages.layout parts.pages.pages pages.pages parts.locks locks parts.rights righted n blocks) a b answer)) where
-      -- in the table that the store shows, with its index at that place
-      came : Tells told parts.pages → (blocks : List (List Slot)) → HasBlocks parts.pages.layout parts.pages.pages number blocks
-          → DoesInTable (step_of parts.pages.layout parts.pages.pages pages.pages parts.locks locks parts.rights righted n blocks) c.next a b answer
-      came tells blocks has = law (step_of parts.pages.layout parts.pages.pages pages.pages parts.locks locks parts.rights righted n blocks) c.next a b answer stands of_it
-          (record { others = left.others.indexes tells; locks = left.leaves }) (does tells blocks has)
-
     module _ (then : Completing) (has_then : HasThen c then b) where
       abbrev next : Hand
       next = hands.Completes then
@@ -215,8 +180,17 @@ module _ {D : Type 0} (told : D → Told) (parts : Parts D) (n : ℕ) (c : Compl
       same_statement : statement_of next ≡ statement_of was
       same_statement = ap statements.Vacuum has_then.table
 
-      is_next : IsAtWorkIn parts.pages.layout next (index_at parts.pages.layout a.index).table (IsCompletingAt parts.pages.layout then) (completed_by then)
-      is_next = is_completing parts.pages.layout then number (has_then.table ∙ sym same_table) below
+      is_next : IsUpkeep parts.pages.layout next a.index (IsCompletingAt parts.pages.layout then) (completed_by then)
+      is_next = is_completing parts.pages.layout then a.index (has_then.table ∙ sym same_table) of_it.index below
+
+      tells_so : {account : Account} → completed_by then ≡ account → IsUpkeep parts.pages.layout next a.index (IsCompletingAt parts.pages.layout then) account
+      tells_so same = subst (λ (k : Account). IsUpkeep parts.pages.layout next a.index (IsCompletingAt parts.pages.layout then) k) same is_next
+
+      right_next : right_held parts.pages.layout (Some next) ≡ Some number
+      right_next = ap Some (has_then.table ∙ sym same_table)
+
+      right_stays : right_held parts.pages.layout (Some next) ≡ right_held parts.pages.layout (Some was)
+      right_stays = ap Some has_then.table
 
       tells_then : (k : ℕ) → telling then.rows then.unnamed k ≡ telling c.rows c.unnamed k
       tells_then k = ap (λ (r : ℕ). telling r then.unnamed k) has_then.rows ∙ ap (λ (r : ℕ). telling c.rows r k) has_then.unnamed
@@ -238,14 +212,14 @@ module _ {D : Type 0} (told : D → Told) (parts : Parts D) (n : ℕ) (c : Compl
             → StepsSo told parts (with_these parts pages locks righted) n was (stepped.Moved point next)
         moved law alike righted point does at own right ready =
             let stays = right_left number n parts.rights righted a.standing (did.Moved point) within right in
-            moved_so told parts pages locks righted n was a.index of_it.index (IsCompletingAt parts.pages.layout c) (completed_by c) fit is_it (left_by righted stays) next (IsCompletingAt parts.pages.layout then) (completed_by then) is_next same_statement
-            (for_b (λ over. at_range_apart (sym at ∙ over))) (subst (λ (k : ℕ). locks_of locks n ≤ k) (sym (held_now then b now_b)) own) ready alike (inl left.leaves) point (λ names hand_list has tells p shown.
-            let old = old_store told parts pages locks righted n was a.index of_it.index (IsCompletingAt parts.pages.layout c) (completed_by c) fit is_it (left_by righted stays) names hand_list has in
-            let after = new_store told parts pages locks righted n was a.index of_it.index (IsCompletingAt parts.pages.layout c) (completed_by c) fit is_it (left_by righted stays) names hand_list has (Some next) in
-            let shows = here old n was number (IsCompletingAt parts.pages.layout c) (completed_by c) is_it has p shown in
-            let so = came law righted (did.Moved point) does tells shows.blocks shows.has in
+            moved_so told parts pages locks righted parts.queue n was a.index (IsCompletingAt parts.pages.layout c) (completed_by c) fit is_it (left_by told parts n a pages locks b left righted stays) next (IsCompletingAt parts.pages.layout then) (completed_by then) is_next same_statement
+            (for_b (λ over. at_range_apart (sym at ∙ over))) (subst (λ (k : ℕ). locks_of locks n ≤ k) (sym (held_now then b now_b)) own) refl ready right_next alike (inl left.leaves) point (λ names hand_list has tells p shown.
+            let old = old_store told parts pages locks righted parts.queue n was a.index (IsCompletingAt parts.pages.layout c) (completed_by c) fit is_it (left_by told parts n a pages locks b left righted stays) names hand_list has in
+            let after = new_store told parts pages locks righted parts.queue n was a.index (IsCompletingAt parts.pages.layout c) (completed_by c) fit is_it (left_by told parts n a pages locks b left righted stays) names hand_list has (Some next) in
+            let shows = here old n was a.index (IsCompletingAt parts.pages.layout c) (completed_by c) is_it has p shown in
+            let so = came told parts n a pages locks b left law righted (did.Moved point) does of_it tells shows.blocks shows.has c.next stands in
             let taken = right_taken number n parts.rights righted a.standing (did.Moved point) right tt within (holds_there old n c a got is_it has p shown) left_it in
-            let made = made_by old n c a got is_it has p shown after b left_it wish_it point so.0 (Some n) so.2 (sym taken) in (
+            let made = made_by old n c a got is_it has p shown after b left_it wish_it same_table point so.0 (Some n) so.2 (sym taken) refl in (
               made.0,
               (b, now_b, made.1 ∙ ap (λ (m : ℕ). task_of parts.pages.layout m b) (sym same_next)),
               (λ rests. is_busy parts.pages.layout c.next b at (sym made.1 ∙ rests)),
@@ -262,18 +236,18 @@ module _ {D : Type 0} (told : D → Told) (parts : Parts D) (n : ℕ) (c : Compl
         waits_there law alike righted held does stood blocked own right ready what named =
             let same_rights : righted ≡ parts.rights = subst (λ (q : Standing). RightAnswers number n parts.rights righted q (did.Blocked held)) stood.0 right in
             let stays = same_stays number n parts.rights righted same_rights in
-            waits_so told parts pages locks righted n was a.index of_it.index (IsCompletingAt parts.pages.layout c) (completed_by c) fit is_it (left_by righted stays) next (IsCompletingAt parts.pages.layout then) (completed_by then) is_next same_statement
-            (for_b (λ over. at_range_apart (sym stood.0 ∙ sym (ap (λ (x : SummariseState). x.standing) stood.2) ∙ over))) (subst (λ (k : ℕ). locks_of locks n ≤ k) (sym (held_now then b now_b)) own) ready
-            (tells_b ∙ ap (λ (k : ℕ). telling c.rows c.unnamed (c.ranges + k)) (same_count a b stood.0 stood.2 stood.3) ∙ sym (tells_now c a got))
-            alike (inl left.leaves) blocked.2 blocked.1 same_rights what held.by (blocked.0.2, inl (holder_has_lock parts.locks held.page held.by blocked.0.1)) (λ names hand_list has tells p shown.
-            let old = old_store told parts pages locks righted n was a.index of_it.index (IsCompletingAt parts.pages.layout c) (completed_by c) fit is_it (left_by righted stays) names hand_list has in
-            let shows = here old n was number (IsCompletingAt parts.pages.layout c) (completed_by c) is_it has p shown in
+            waits_so told parts pages locks righted parts.queue n was a.index (IsCompletingAt parts.pages.layout c) (completed_by c) fit is_it (left_by told parts n a pages locks b left righted stays) next (IsCompletingAt parts.pages.layout then)
+            (tells_so (tells_b ∙ ap (λ (k : ℕ). telling c.rows c.unnamed (c.ranges + k)) (same_count a b stood.0 stood.2 stood.3) ∙ sym (tells_now c a got))) same_statement
+            (for_b (λ over. at_range_apart (sym stood.0 ∙ sym (ap (λ (x : SummariseState). x.standing) stood.2) ∙ over))) (subst (λ (k : ℕ). locks_of locks n ≤ k) (sym (held_now then b now_b)) own) refl ready right_stays
+            alike (inl left.leaves) blocked.2 blocked.1 same_rights refl what held.by (blocked.0.2, inl (holder_has_lock parts.locks held.page held.by blocked.0.1)) (λ names hand_list has tells p shown.
+            let old = old_store told parts pages locks righted parts.queue n was a.index (IsCompletingAt parts.pages.layout c) (completed_by c) fit is_it (left_by told parts n a pages locks b left righted stays) names hand_list has in
+            let shows = here old n was a.index (IsCompletingAt parts.pages.layout c) (completed_by c) is_it has p shown in
             let at = there old n c a got is_it has p shown in
-            let so = came law righted (did.Blocked held) does tells shows.blocks shows.has in (
+            let so = came told parts n a pages locks b left law righted (did.Blocked held) does of_it tells shows.blocks shows.has c.next stands in (
               at_still parts.pages.layout c then a b got now_b same_next so.1,
               subst (λ (x : What). Steps p n (Waits (refusals.Blocked x (name_of p held.by))) p) (sym (named number c.next stands))
-                  (waits_for_page old n was a.index (IsCompletingAt parts.pages.layout c) (completed_by c) is_it has p shown fits.entries (task_of parts.pages.layout c.next a) at c.next stands held.page held.by
-                  (so.0 shows.unseen at shows.lock (kept_here old n was number (IsCompletingAt parts.pages.layout c) (completed_by c) is_it has p shown)) blocked.0.0 blocked.0.1),
+                  (waits_for_page old n was a.index (IsCompletingAt parts.pages.layout c) (completed_by c) is_it has p shown fits.entries same_table (task_of parts.pages.layout c.next a) at c.next stands held.page held.by
+                  (so.0 shows.unseen at shows.lock (kept_here old n was a.index (IsCompletingAt parts.pages.layout c) (completed_by c) is_it has p shown)) blocked.0.0 blocked.0.1),
             ))
 
         -- another session has its table's summarise lock, where the disk doesn't tell its contents
@@ -285,18 +259,18 @@ module _ {D : Type 0} (told : D → Told) (parts : Parts D) (n : ℕ) (c : Compl
         lacks_right law alike righted by does stood kept own right ready what named =
             let told_so : (right_of parts.rights number ≡ Some by) × (by ≢ n) × (righted ≡ parts.rights) = subst (λ (q : Standing). RightAnswers number n parts.rights righted q (did.NoRight by)) stood.0 right in
             let stays = same_stays number n parts.rights righted told_so.2 in
-            waits_so told parts pages locks righted n was a.index of_it.index (IsCompletingAt parts.pages.layout c) (completed_by c) fit is_it (left_by righted stays) next (IsCompletingAt parts.pages.layout then) (completed_by then) is_next same_statement
-            (for_b (λ over. left_it (sym (ap (λ (x : SummariseState). x.standing) stood.1) ∙ over))) (subst (λ (k : ℕ). locks_of locks n ≤ k) (sym (held_now then b now_b)) own) ready
-            (tells_b ∙ ap (λ (x : SummariseState). telling c.rows c.unnamed (c.ranges + count_of x)) stood.1 ∙ sym (tells_now c a got))
-            alike (inl left.leaves) kept.1 kept.0 told_so.2 what by (told_so.1, inr (number, told_so.0)) (λ names hand_list has tells p shown.
-            let old = old_store told parts pages locks righted n was a.index of_it.index (IsCompletingAt parts.pages.layout c) (completed_by c) fit is_it (left_by righted stays) names hand_list has in
-            let shows = here old n was number (IsCompletingAt parts.pages.layout c) (completed_by c) is_it has p shown in
+            waits_so told parts pages locks righted parts.queue n was a.index (IsCompletingAt parts.pages.layout c) (completed_by c) fit is_it (left_by told parts n a pages locks b left righted stays) next (IsCompletingAt parts.pages.layout then)
+            (tells_so (tells_b ∙ ap (λ (x : SummariseState). telling c.rows c.unnamed (c.ranges + count_of x)) stood.1 ∙ sym (tells_now c a got))) same_statement
+            (for_b (λ over. left_it (sym (ap (λ (x : SummariseState). x.standing) stood.1) ∙ over))) (subst (λ (k : ℕ). locks_of locks n ≤ k) (sym (held_now then b now_b)) own) refl ready right_stays
+            alike (inl left.leaves) kept.1 kept.0 told_so.2 refl what by (told_so.1, inr (number, told_so.0)) (λ names hand_list has tells p shown.
+            let old = old_store told parts pages locks righted parts.queue n was a.index (IsCompletingAt parts.pages.layout c) (completed_by c) fit is_it (left_by told parts n a pages locks b left righted stays) names hand_list has in
+            let shows = here old n was a.index (IsCompletingAt parts.pages.layout c) (completed_by c) is_it has p shown in
             let at = there old n c a got is_it has p shown in
-            let so = came law righted (did.NoRight by) does tells shows.blocks shows.has in (
+            let so = came told parts n a pages locks b left law righted (did.NoRight by) does of_it tells shows.blocks shows.has c.next stands in (
               at_still parts.pages.layout c then a b got now_b same_next (ap (task_of parts.pages.layout c.next) stood.1),
               subst (λ (x : What). Steps p n (Waits (refusals.Blocked x (name_of p by))) p) (sym named)
-                  (waits_for_lock old n was a.index (IsCompletingAt parts.pages.layout c) (completed_by c) is_it has p shown fits.entries (task_of parts.pages.layout c.next a) at by
-                  (so.0 shows.unseen at shows.lock (kept_here old n was number (IsCompletingAt parts.pages.layout c) (completed_by c) is_it has p shown)) told_so.0),
+                  (waits_for_lock old n was a.index (IsCompletingAt parts.pages.layout c) (completed_by c) is_it has p shown fits.entries same_table (task_of parts.pages.layout c.next a) at by
+                  (so.0 shows.unseen at shows.lock (kept_here old n was a.index (IsCompletingAt parts.pages.layout c) (completed_by c) is_it has p shown)) told_so.0),
             ))
 
       -- its index is done: another one comes
@@ -311,16 +285,16 @@ module _ {D : Type 0} (told : D → Told) (parts : Parts D) (n : ℕ) (c : Compl
             let for_next = completing_next parts.pages.layout c then a b got fits.in_hand has_then.items has_then.table left.index left.wish left.of one_more more_ranges more done in
             let tells = tells_next parts.pages.layout c then a b got fits.in_hand has_then.items has_then.table left.index left.wish left.of one_more more_ranges more done in
             let holds : locks_of locks n ≡ 0 = no_locks done own in
-            moved_so told parts pages locks righted n was a.index of_it.index (IsCompletingAt parts.pages.layout c) (completed_by c) fit is_it (left_by righted stays) next (IsCompletingAt parts.pages.layout then) (completed_by then) is_next same_statement
-            for_next (omega (arith, holds)) ready alike (inl left.leaves) point (λ names hand_list has tell p shown.
-            let old = old_store told parts pages locks righted n was a.index of_it.index (IsCompletingAt parts.pages.layout c) (completed_by c) fit is_it (left_by righted stays) names hand_list has in
-            let after = new_store told parts pages locks righted n was a.index of_it.index (IsCompletingAt parts.pages.layout c) (completed_by c) fit is_it (left_by righted stays) names hand_list has (Some next) in
-            let shows = here old n was number (IsCompletingAt parts.pages.layout c) (completed_by c) is_it has p shown in
-            let so = came law righted (did.Finished point) does tell shows.blocks shows.has in
+            moved_so told parts pages locks righted parts.queue n was a.index (IsCompletingAt parts.pages.layout c) (completed_by c) fit is_it (left_by told parts n a pages locks b left righted stays) next (IsCompletingAt parts.pages.layout then) (completed_by then) is_next same_statement
+            for_next (omega (arith, holds)) refl ready right_next alike (inl left.leaves) point (λ names hand_list has tell p shown.
+            let old = old_store told parts pages locks righted parts.queue n was a.index (IsCompletingAt parts.pages.layout c) (completed_by c) fit is_it (left_by told parts n a pages locks b left righted stays) names hand_list has in
+            let after = new_store told parts pages locks righted parts.queue n was a.index (IsCompletingAt parts.pages.layout c) (completed_by c) fit is_it (left_by told parts n a pages locks b left righted stays) names hand_list has (Some next) in
+            let shows = here old n was a.index (IsCompletingAt parts.pages.layout c) (completed_by c) is_it has p shown in
+            let so = came told parts n a pages locks b left law righted (did.Finished point) does of_it tell shows.blocks shows.has c.next stands in
             let taken = right_taken number n parts.rights righted a.standing (did.Finished point) right tt within (holds_there old n c a got is_it has p shown) left_it in
             let some : 0 < indexes_left parts.pages.layout a.index c.next = let is = left_is in omega (arith, is, more) in
-            let made = made_by old n c a got is_it has p shown after b left_it wish_it point so.0 (held_behind a.wish n (indexes_left parts.pages.layout a.index c.next)) so.2
-            (held_on parts.pages.layout n c.next (indexes_left parts.pages.layout a.index c.next) a wish_it some ∙ sym taken) in
+            let made = made_by old n c a got is_it has p shown after b left_it wish_it same_table point so.0 (held_behind a.wish n (indexes_left parts.pages.layout a.index c.next)) so.2
+            (held_on parts.pages.layout n c.next (indexes_left parts.pages.layout a.index c.next) a wish_it some ∙ sym taken) refl in
             let comes : made.0.after ≡ Restarts (c.next + 1) = made.1 ∙ restarts_so done more in (
               made.0,
               (new.now, new.is, comes ∙ ap Restarts (sym one_more) ∙ sym (new_task parts.pages.layout n then.next 0 new.now new.wish new.new)),
@@ -340,18 +314,18 @@ module _ {D : Type 0} (told : D → Told) (parts : Parts D) (n : ℕ) (c : Compl
         let inside = within in
         let still : number < length righted = omega (arith, inside, as_long) in
         let stays = stays_on number n parts.rights righted given first (gives_stay number n righted given still gives keeps) in
-        done_so told parts pages locks given n was a.index of_it.index (IsCompletingAt parts.pages.layout c) (completed_by c) fit is_it (left_by given stays) (telling c.rows c.unnamed (c.ranges + count_of b)) refl
-        (no_locks at own) ready (gives_own number n righted given still gives keeps) alike (inl left.leaves) point (replies.Vacuumed c.rows c.unnamed (c.ranges + count_of b))
+        done_so told parts pages locks given parts.queue n was a.index (IsCompletingAt parts.pages.layout c) (completed_by c) fit is_it (left_by told parts n a pages locks b left given stays) (telling c.rows c.unnamed (c.ranges + count_of b)) refl
+        (no_locks at own) refl ready (gives_own number n righted given still gives keeps) alike (inl left.leaves) point (replies.Vacuumed c.rows c.unnamed (c.ranges + count_of b))
         (λ names hand_list has tells p shown.
-        let old = old_store told parts pages locks given n was a.index of_it.index (IsCompletingAt parts.pages.layout c) (completed_by c) fit is_it (left_by given stays) names hand_list has in
-        let after = new_store told parts pages locks given n was a.index of_it.index (IsCompletingAt parts.pages.layout c) (completed_by c) fit is_it (left_by given stays) names hand_list has None in
-        let shows = here old n was number (IsCompletingAt parts.pages.layout c) (completed_by c) is_it has p shown in
-        let so = came law righted (did.Finished point) does tells shows.blocks shows.has in
+        let old = old_store told parts pages locks given parts.queue n was a.index (IsCompletingAt parts.pages.layout c) (completed_by c) fit is_it (left_by told parts n a pages locks b left given stays) names hand_list has in
+        let after = new_store told parts pages locks given parts.queue n was a.index (IsCompletingAt parts.pages.layout c) (completed_by c) fit is_it (left_by told parts n a pages locks b left given stays) names hand_list has None in
+        let shows = here old n was a.index (IsCompletingAt parts.pages.layout c) (completed_by c) is_it has p shown in
+        let so = came told parts n a pages locks b left law righted (did.Finished point) does of_it tells shows.blocks shows.has c.next stands in
         let taken = right_taken number n parts.rights righted a.standing (did.Finished point) right tt within (holds_there old n c a got is_it has p shown) left_it in
         let free : right_of given number ≡ None = gives_there number n righted given still gives keeps taken in
         let none : indexes_left parts.pages.layout a.index c.next ≡ 0 = let is = left_is in omega (arith, is, last) in
-        let made = made_by old n c a got is_it has p shown after b left_it wish_it point so.0 (held_behind a.wish n (indexes_left parts.pages.layout a.index c.next)) so.2
-        (held_no_more parts.pages.layout n c.next (indexes_left parts.pages.layout a.index c.next) a wish_it none ∙ sym free) in (
+        let made = made_by old n c a got is_it has p shown after b left_it wish_it same_table point so.0 (held_behind a.wish n (indexes_left parts.pages.layout a.index c.next)) so.2
+        (held_no_more parts.pages.layout n c.next (indexes_left parts.pages.layout a.index c.next) a wish_it none ∙ sym free) refl in (
           made.0,
           made.1 ∙ rests_so at last,
           ap (λ (f : Account → Account). f (completed_by c)) made.2 ∙ adds_now c a got b so.0 wish_it so.1,
@@ -359,20 +333,12 @@ module _ {D : Type 0} (told : D → Told) (parts : Parts D) (n : ℕ) (c : Compl
         ))
 
   -- the pages refuse it, and its session gives its page locks
-  pub refused : (shown : IsShown told parts n (hands.Completes c)) → TakesSound → (pages : View D) (locks given : LockState) (b : SummariseState) (left : SummaryLeft told parts n a pages locks b)
+  pub refused : (shown : IsShown told parts n (hands.Completes c)) → TakesSound → (pages : View D) (locks given : LockState) (b : SummariseState) (left : MachineLeft told parts n a pages locks b)
       → b ≡ record a { hand = b.hand } → (then : Completing) → HasThen c then b → then.next ≡ c.next → then.ranges ≡ c.ranges → given.limit ≡ locks.limit → locks_of given n ≡ 0 → ((m : ℕ) → m ≢ n → locks_of given m ≡ locks_of locks m)
       → (error : StoreError) → Refused told (Tells told parts.pages → DamageIn parts.pages.layout parts.pages.pages a) parts.pages pages error → NamesAPage parts.pages.layout error
       → StepsSo told parts (with_these parts pages given parts.rights) n (hands.Completes c) (stepped.Undone (fault_of error) (hands.Completes then))
   refused shown law pages locks given b left same then has_then same_next same_ranges limit none others error refusal names =
-      undone_so told parts pages given parts.rights n (hands.Completes c) a.index of_it.index (IsCompletingAt parts.pages.layout c) (completed_by c) fit is_it (record {
-        others = left.others;
-        order = left.order;
-        limit = limit ∙ left.counts.limit;
-        counts = λ m other. others m other ∙ left.counts.adds.others m other;
-        tables = refl;
-        apart = λ other apart. refl;
-        theirs = λ m other apart holds. holds;
-      }) (hands.Completes then) (same_statement pages locks b left then has_then)
+      undone_so told parts pages given parts.rights parts.queue n (hands.Completes c) a.index (IsCompletingAt parts.pages.layout c) (completed_by c) fit is_it (left_given told parts n a pages locks b left given limit others parts.rights (same_stays number n parts.rights parts.rights refl)) (hands.Completes then) (same_statement pages locks b left then has_then)
       (for_b pages locks b left then has_then same_next same_ranges (λ over. left_it (sym (ap (λ (x : SummariseState). x.standing) same) ∙ over)))
-      (omega (arith, none)) refl (ap Some (has_then.table ∙ sym same_table)) error
+      (omega (arith, none)) refl (ap Some has_then.table) refl error
       (refused_untold told (Tells told parts.pages → DamageIn parts.pages.layout parts.pages.pages a) parts.pages pages error (λ ready damage tells. is_sound shown tells ready law (damage tells)) refusal) names

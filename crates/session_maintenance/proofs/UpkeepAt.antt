@@ -41,26 +41,27 @@ counted count = record no_account { ranges = count }
 abbrev pub IsUpkeepAt : DiskLayout → (index : ℕ) → (ℕ → Task) → Task → Type 0
 IsUpkeepAt layout index task now = (at : ℕ) × StandsAt layout index at × (now ≡ task at)
 
--- What a maintenance statement in hand is: one of this index of a table, at this task by the index's place there, and with so many ranges counted. It makes no
--- request, and needs the summarise lock. It is in no other table; work is in none before its first step.
-pub record IsUpkeep (layout : DiskLayout) (hand : Hand) (index : ℕ) (task : ℕ → Task) (count : ℕ) : Type 0 where
+-- What a maintenance statement in hand is: one of the table of this index, at such a task there, and with this to tell. It makes no request, and needs the
+-- summarise lock. It is in no other table; work is in none before its first step.
+pub record IsUpkeep (layout : DiskLayout) (hand : Hand) (index : ℕ) (Here : Task → Type 0) (account : Account) : Type 0 where
   pub within : index < length layout.schema.indexes
   pub below : (index_at layout index).table < length layout.schema.tables
   pub lock : IsTrue (takes_lock (statement_of hand))
   pub asks : (n : ℕ) (answers : List Answer) → next_request n (statement_of hand) answers ≡ None
   pub answers : (answers : List Answer) → AnswersAre hand answers → answers ≡ []
   pub answered : AnswersAre hand []
-  pub tells : (account : Account) → TellsSo hand account → account ≡ counted count
-  pub told : TellsSo hand (counted count)
+  pub tells : (so_far : Account) → TellsSo hand so_far → so_far ≡ account
+  pub told : TellsSo hand account
+  pub none : account.dropped ≡ []
   pub own : (transaction : Option Open) (copy : Option OpenTransaction) → IsOfTransaction transaction copy hand
   pub in_table : (table : ℕ) → table_in layout (Some hand) ≡ Some table → table ≡ (index_at layout index).table
   pub no_insert : IsNoInsert (Some hand)
   pub asked : (asked : List Asked) → HandAsked layout (Some hand) asked
   pub right : (table : ℕ) → right_held layout (Some hand) ≡ Some table → table ≡ (index_at layout index).table
   pub task_is : (table : ℕ) (blocks : List (List Slot)) (tx : TxState) (stored : List Status) (transaction : Option Open) (now : Task)
-      → IsTaskOf layout table blocks tx stored transaction (Some hand) now → InItsTable (index_at layout index).table table (IsUpkeepAt layout index task now) now
+      → IsTaskOf layout table blocks tx stored transaction (Some hand) now → InItsTable (index_at layout index).table table (Here now) now
   pub is_task : (table : ℕ) (blocks : List (List Slot)) (tx : TxState) (stored : List Status) (transaction : Option Open) (now : Task)
-      → InItsTable (index_at layout index).table table (IsUpkeepAt layout index task now) now → IsTaskOf layout table blocks tx stored transaction (Some hand) now
+      → InItsTable (index_at layout index).table table (Here now) now → IsTaskOf layout table blocks tx stored transaction (Some hand) now
 
 -- what a step of its machine left of the store: pages of the index alone changed, and locks of them, and the table's summarise lock; and perhaps the requests
 -- for summaries
@@ -78,21 +79,21 @@ pub record UpkeepLeft (old new : ShownStore) (n : ℕ) (was : Hand) (index : ℕ
   pub few : length old.entries ≤ MAX_ENTRIES
 
 -- what the definition has in hand of it
-pub upkeep_hand : (layout : DiskLayout) (hand : Hand) (index : ℕ) (task : ℕ → Task) (count : ℕ) → IsUpkeep layout hand index task count → (at : Option HandAt) (account : Account) → HandShows (Some hand) at account
-    → (at ≡ Some (new_hand (statement_of hand))) × (account ≡ counted count)
-upkeep_hand layout hand index task count is at account (h, there, statement, answers, tells) = (
+pub upkeep_hand : (layout : DiskLayout) (hand : Hand) (index : ℕ) (Here : Task → Type 0) (account : Account) → IsUpkeep layout hand index Here account → (at : Option HandAt) (so_far : Account) → HandShows (Some hand) at so_far
+    → (at ≡ Some (new_hand (statement_of hand))) × (so_far ≡ account)
+upkeep_hand layout hand index Here account is at so_far (h, there, statement, answers, tells) = (
   there ∙ ap Some (λ j. record { statement = statement j; answers = is.answers h.answers answers j }),
-  is.tells account tells,
+  is.tells so_far tells,
 )
 
 -- so a hand stands there
-pub upkeep_shows : (layout : DiskLayout) (hand : Hand) (index : ℕ) (task : ℕ → Task) (count : ℕ) → IsUpkeep layout hand index task count → (now : Option Hand) → now ≡ Some hand → (account : Account) → account ≡ counted count
-    → HandShows now (Some (new_hand (statement_of hand))) account
-upkeep_shows layout hand index task count is now there account told =
-    subst (λ (h : Option Hand). HandShows h (Some (new_hand (statement_of hand))) account) (sym there)
+pub upkeep_shows : (layout : DiskLayout) (hand : Hand) (index : ℕ) (Here : Task → Type 0) (account : Account) → IsUpkeep layout hand index Here account → (now : Option Hand) → now ≡ Some hand → (so_far : Account) → so_far ≡ account
+    → HandShows now (Some (new_hand (statement_of hand))) so_far
+upkeep_shows layout hand index Here account is now there so_far told =
+    subst (λ (h : Option Hand). HandShows h (Some (new_hand (statement_of hand))) so_far) (sym there)
     (new_hand (statement_of hand), refl, refl, is.answered, subst (TellsSo hand) (sym told) is.told)
 
-module _ (old : ShownStore) (n : ℕ) (was : Hand) (index : ℕ) (task : ℕ → Task) (count : ℕ) (is : IsUpkeep old.layout was index task count) (had : hand_in old.hands n ≡ Some was) (p : Place) (shown : IsPlaceOf old p) where
+module _ (old : ShownStore) (n : ℕ) (was : Hand) (index : ℕ) (Here : Task → Type 0) (account : Account) (is : IsUpkeep old.layout was index Here account) (had : hand_in old.hands n ≡ Some was) (p : Place) (shown : IsPlaceOf old p) where
   abbrev pub table : ℕ
   table = (index_at old.layout index).table
 
@@ -111,7 +112,7 @@ module _ (old : ShownStore) (n : ℕ) (was : Hand) (index : ℕ) (task : ℕ →
   abbrev pub w : TableState
   w = table_state pages_show unseen_here
 
-  pub at_task : IsUpkeepAt old.layout index task (unseen_here.task n)
+  pub at_task : Here (unseen_here.task n)
   at_task = (is.task_is table here.blocks old.transactions.tx stored (transaction_of old.transactions.opens n) (unseen_here.task n)
       (subst (λ (h : Option Hand). IsTaskOf old.layout table here.blocks old.transactions.tx stored (transaction_of old.transactions.opens n) h (unseen_here.task n)) had (here.tasks n))).0 refl
 
@@ -122,10 +123,10 @@ module _ (old : ShownStore) (n : ℕ) (was : Hand) (index : ℕ) (task : ℕ →
   shown_hand = subst (λ (h : Option Hand). HandShows h (p.hands n) (p.accounts n)) had (shown.hands n)
 
   pub hand_is : p.hands n ≡ Some (new_hand (statement_of was))
-  hand_is = (upkeep_hand old.layout was index task count is (p.hands n) (p.accounts n) shown_hand).0
+  hand_is = (upkeep_hand old.layout was index Here account is (p.hands n) (p.accounts n) shown_hand).0
 
-  pub told_is : p.accounts n ≡ counted count
-  told_is = (upkeep_hand old.layout was index task count is (p.hands n) (p.accounts n) shown_hand).1
+  pub told_is : p.accounts n ≡ account
+  told_is = (upkeep_hand old.layout was index Here account is (p.hands n) (p.accounts n) shown_hand).1
 
 -- ---- the table of its index, by the numbers that were read
 

@@ -27,8 +27,8 @@ use Rattle.index_contents.specs.IndexContents.{index_page, relation_of as index_
 use Rattle.index_contents.specs.KeepsOrder.{KeepsOrder}
 use Rattle.index_steps.specs.IndexTuples.{index_at}
 use Rattle.index_steps.specs.SwapAnswers.{LeavesLocks}
+use Rattle.coverage.specs.Accounts.{Account}
 use Rattle.coverage.specs.Table.{Resting, Task}
-use Rattle.script_semantics.specs.Beginnings.{StandsAt}
 use Rattle.script_semantics.specs.Names.{name_of}
 use Rattle.script_semantics.specs.Place.{Place}
 use Rattle.script_semantics.specs.StatementSteps.{Ended, Steps, Waits, reply_after}
@@ -51,7 +51,7 @@ use Rattle.session_parts.specs.UndoneLaws.{FitsParts, StepsSo}
 use Rattle.session_parts.proofs.Stores.{hand_changes}
 use Rattle.session_parts.proofs.Undone.{fit_of_parts, fit_of_stores}
 use Rattle.std.proofs.lemmas.Option.{none-some}
-use Rattle.session_maintenance.proofs.UpkeepAt.{IsUpkeep, UpkeepLeft, at_task, counted, table}
+use Rattle.session_maintenance.proofs.UpkeepAt.{IsUpkeep, UpkeepLeft, table}
 use Rattle.session_maintenance.proofs.UpkeepStays.{stays_shown}
 use Rattle.session_maintenance.proofs.UpkeepSteps.{MadeIn, goes_on, is_done}
 
@@ -103,8 +103,8 @@ refused_untold told Cause old now errors.Disk untold refused = refused
 refused_untold told Cause old now (errors.Reopen faults) untold refused = refused
 refused_untold told Cause old now (errors.Damaged at) untold refused = (refused.0, refused.1, refused.2, untold refused.0 refused.3)
 
-module _ {D : Type 0} (told : D → Told) (parts : Parts D) (pages : View D) (locks : LockState) (rights : List (Option ℕ)) (queue : List (ℕ × ℕ)) (n : ℕ) (was : Hand) (index : ℕ) (task : ℕ → Task) (count : ℕ)
-    (fit : IsFit told parts n was) (is : IsUpkeep parts.pages.layout was index task count) (left : PartsLeft told parts pages locks rights n index) where
+module _ {D : Type 0} (told : D → Told) (parts : Parts D) (pages : View D) (locks : LockState) (rights : List (Option ℕ)) (queue : List (ℕ × ℕ)) (n : ℕ) (was : Hand) (index : ℕ) (Here : Task → Type 0) (account : Account)
+    (fit : IsFit told parts n was) (is : IsUpkeep parts.pages.layout was index Here account) (left : PartsLeft told parts pages locks rights n index) where
   abbrev pub new : Parts D
   new = with_queue parts pages locks rights queue
 
@@ -212,22 +212,22 @@ module _ {D : Type 0} (told : D → Told) (parts : Parts D) (pages : View D) (lo
     }
 
   -- it goes on
-  module _ (next : Hand) (next_task : ℕ → Task) (next_count : ℕ) (stays : IsUpkeep parts.pages.layout next index next_task next_count) (same : statement_of next ≡ statement_of was)
+  module _ (next : Hand) (HereNext : Task → Type 0) (next_account : Account) (stays : IsUpkeep parts.pages.layout next index HereNext next_account) (same : statement_of next ≡ statement_of was)
       (in_hand : IsHandFor parts.pages.layout (transaction_of parts.transactions.opens n) next) (own : locks_of locks n ≤ locks_held (Some next)) (share : hand_share (Some next) ≡ hand_share (Some was)) (ready : StaysReady parts.pages pages)
       (right : right_held parts.pages.layout (Some next) ≡ Some (index_at parts.pages.layout index).table) where
     -- its step in each place that is shown
     abbrev pub Goes : Point → Type 0
     Goes point = (names : List (List ℕ)) (hand_list : List (Option Hand)) (has : hand_in hand_list n ≡ Some was) → Tells told parts.pages → (p : Place) (shown : IsPlaceOf (old_store names hand_list has) p)
-        → (made : MadeIn (old_store names hand_list has) (new_store names hand_list has (Some next)) n was index task count is has p shown point)
-        × (made.after ≡ next_task (at_task (old_store names hand_list has) n was index task count is has p shown).0) × (made.after ≢ Resting) × (made.account (counted count) ≡ counted next_count)
+        → (made : MadeIn (old_store names hand_list has) (new_store names hand_list has (Some next)) n was index Here account is has p shown point)
+        × HereNext made.after × (made.after ≢ Resting) × (made.adds account ≡ next_account)
 
     pub moved_so : ShowAlike → LocksLeft parts.pages.layout parts.locks locks n index → (point : Point) → Goes point → StepsSo told parts new n was (stepped.Moved point next)
     unfolding left_so
     moved_so alike leaves point makes = record {
       steps = λ names hand_list has tells first then p shown.
           let it = makes names hand_list has tells p shown in
-          goes_on (old_store names hand_list has) (new_store names hand_list has (Some next)) n was index task count is (left_so names hand_list has leaves tells (Some next)) p shown alike point it.0
-          next next_task next_count stays same (hand_changes hand_list n was (Some next) has).own it.1 it.2 it.3;
+          goes_on (old_store names hand_list has) (new_store names hand_list has (Some next)) n was index Here account is (left_so names hand_list has leaves tells (Some next)) p shown alike point it.0
+          next HereNext next_account stays same (hand_changes hand_list n was (Some next) has).own it.1 it.2 it.3;
       fit = stays_fit (stepped.Moved point next) (fits_then (Some next) in_hand own share (held_by (Some next) right));
       others = leaves_others (stepped.Moved point next) share;
       stays = λ names hand_list has. same;
@@ -235,20 +235,20 @@ module _ {D : Type 0} (told : D → Told) (parts : Parts D) (pages : View D) (lo
     }
 
   -- it replies
-  module _ (next_count : ℕ) (none : locks_of locks n ≡ 0) (free : hand_share (Some was) ≡ 0) (ready : StaysReady parts.pages pages) (lacks : right_of rights (index_at parts.pages.layout index).table ≢ Some n) where
+  module _ (next_account : Account) (none_asked : next_account.dropped ≡ []) (none : locks_of locks n ≡ 0) (free : hand_share (Some was) ≡ 0) (ready : StaysReady parts.pages pages) (lacks : right_of rights (index_at parts.pages.layout index).table ≢ Some n) where
     abbrev pub Ends : Point → Reply → Type 0
     Ends point reply = (names : List (List ℕ)) (hand_list : List (Option Hand)) (has : hand_in hand_list n ≡ Some was) → Tells told parts.pages → (p : Place) (shown : IsPlaceOf (old_store names hand_list has) p)
-        → (made : MadeIn (old_store names hand_list has) (new_store names hand_list has None) n was index task count is has p shown point)
-        × (made.after ≡ Resting) × (made.account (counted count) ≡ counted next_count)
-        × (Some reply ≡ reply_after p.layout (table (old_store names hand_list has) n was index task count is has p shown) made.between (counted next_count) [] (statement_of was))
+        → (made : MadeIn (old_store names hand_list has) (new_store names hand_list has None) n was index Here account is has p shown point)
+        × (made.after ≡ Resting) × (made.adds account ≡ next_account)
+        × (Some reply ≡ reply_after p.layout (table (old_store names hand_list has) n was index Here account is has p shown) made.between next_account [] (statement_of was))
 
     pub done_so : ShowAlike → LocksLeft parts.pages.layout parts.locks locks n index → (point : Point) (reply : Reply) → Ends point reply → StepsSo told parts new n was (stepped.Done reply)
     unfolding left_so
     done_so alike leaves point reply makes = record {
       steps = λ names hand_list has tells first then p shown.
           let it = makes names hand_list has tells p shown in
-          is_done (old_store names hand_list has) (new_store names hand_list has None) n was index task count is (left_so names hand_list has leaves tells None) p shown alike point it.0
-          (hand_changes hand_list n was None has).own it.1 next_count it.2 reply it.3;
+          is_done (old_store names hand_list has) (new_store names hand_list has None) n was index Here account is (left_so names hand_list has leaves tells None) p shown alike point it.0
+          (hand_changes hand_list n was None has).own it.1 next_account it.2 none_asked reply it.3;
       fit = stays_fit (stepped.Done reply) (fits_then None tt (omega (arith, none)) (sym free) (held_none lacks));
       others = leaves_others (stepped.Done reply) (sym free);
       stays = λ names hand_list has. tt;
@@ -273,12 +273,12 @@ module _ {D : Type 0} (told : D → Told) (parts : Parts D) (pages : View D) (lo
     }
 
   -- nothing changed but the statement, which is at the same task
-  module _ (next : Hand) (next_task : ℕ → Task) (stays : IsUpkeep parts.pages.layout next index next_task count) (same : statement_of next ≡ statement_of was)
+  module _ (next : Hand) (HereNext : Task → Type 0) (stays : IsUpkeep parts.pages.layout next index HereNext account) (same : statement_of next ≡ statement_of was)
       (in_hand : IsHandFor parts.pages.layout (transaction_of parts.transactions.opens n) next) (own : locks_of locks n ≤ locks_held (Some next)) (share : hand_share (Some next) ≡ hand_share (Some was)) (ready : StaysReady parts.pages pages)
       (right : right_held parts.pages.layout (Some next) ≡ right_held parts.pages.layout (Some was)) where
     abbrev pub IsWaiting : What → ℕ → Type 0
     IsWaiting what by = (names : List (List ℕ)) (hand_list : List (Option Hand)) (has : hand_in hand_list n ≡ Some was) → Tells told parts.pages → (p : Place) (shown : IsPlaceOf (old_store names hand_list has) p)
-        → ((place : ℕ) → StandsAt parts.pages.layout index place → next_task place ≡ task place) × Steps p n (Waits (refusals.Blocked what (name_of p by))) p
+        → ((task : Task) → Here task → HereNext task) × Steps p n (Waits (refusals.Blocked what (name_of p by))) p
 
     pub waits_so : ShowAlike → LocksLeft parts.pages.layout parts.locks locks n index → Keeps told parts.pages pages → locks ≡ parts.locks → rights ≡ parts.rights → queue ≡ parts.queue → (what : What) (by : ℕ)
         → (by ≢ n) × ((1 ≤ locks_of parts.locks by) ⊎ ((t : ℕ) × (right_of parts.rights t ≡ Some by))) → IsWaiting what by → StepsSo told parts new n was (stepped.Blocked what by next)
@@ -286,7 +286,7 @@ module _ {D : Type 0} (told : D → Told) (parts : Parts D) (pages : View D) (lo
     waits_so alike leaves keeps same_locks same_rights same_queue what by holder_is waits = record {
       steps = λ names hand_list has tells first then p shown. (
         p,
-        stays_shown (old_store names hand_list has) (new_store names hand_list has (Some next)) n was next index task next_task count is (record {
+        stays_shown (old_store names hand_list has) (new_store names hand_list has (Some next)) n was next index Here HereNext account is (record {
           left = left_so names hand_list has leaves tells (Some next);
           stays = stays;
           same = same;

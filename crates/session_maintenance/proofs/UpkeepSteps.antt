@@ -48,7 +48,7 @@ use Rattle.session_parts.proofs.Asks.{none_asked}
 use Rattle.session_parts.proofs.Places.{asking_step_is_shown}
 use Rattle.session_parts.proofs.Steps.{asking_leads, led, machine_asks, not_pruned, table_after, turn_asks, turned as turn_made, updated_here}
 use Rattle.session_parts.proofs.Tables.{own_table_goes_on, same_blocks}
-use Rattle.session_maintenance.proofs.UpkeepAt.{IsUpkeep, UpkeepLeft, at_task, counted, hand_is, here, pages_show, table, told_is, unseen_here, upkeep_shows, w}
+use Rattle.session_maintenance.proofs.UpkeepAt.{IsUpkeep, UpkeepLeft, hand_is, here, pages_show, table, told_is, unseen_here, upkeep_shows, w}
 use Rattle.session_maintenance.proofs.UpkeepPoints.{IsPlain}
 
 pub no_prune : (point : Point) → IsPlain point → point ≢ points.Prune
@@ -89,30 +89,30 @@ pub record TurnsSo (n table : ℕ) (statement : Statement) (p : Place) (shown th
   pub plain : IsPlain point
 
 -- the machine made a step in its table, which is shown then
-pub record MadeIn (old new : ShownStore) (n : ℕ) (was : Hand) (index : ℕ) (task : ℕ → Task) (count : ℕ) (is : IsUpkeep old.layout was index task count) (had : hand_in old.hands n ≡ Some was) (p : Place) (shown : IsPlaceOf old p) (point : Point) : Type 0 where
-  pub account : Account → Account
+pub record MadeIn (old new : ShownStore) (n : ℕ) (was : Hand) (index : ℕ) (Here : Task → Type 0) (account : Account) (is : IsUpkeep old.layout was index Here account) (had : hand_in old.hands n ≡ Some was) (p : Place) (shown : IsPlaceOf old p) (point : Point) : Type 0 where
+  pub adds : Account → Account
   pub between : Task
   pub after : Task
   pub held : Option ℕ
   pub unnamed : ℕ → Spot → Bool
   pub queue : List Asked
   pub requests : AreRequestsOf old.layout new.queue queue
-  pub turns : TurnsSo n (index_at old.layout index).table (statement_of was) p (pages_show old n was index task count is had p shown)
-      (shown_by old.layout new.pages new.locks (index_at old.layout index).table (here old n was index task count is had p shown).blocks) (unseen_here old n was index task count is had p shown) point (account (p.accounts n)) between after held unnamed queue
+  pub turns : TurnsSo n (index_at old.layout index).table (statement_of was) p (pages_show old n was index Here account is had p shown)
+      (shown_by old.layout new.pages new.locks (index_at old.layout index).table (here old n was index Here account is had p shown).blocks) (unseen_here old n was index Here account is had p shown) point (adds (p.accounts n)) between after held unnamed queue
   pub right : held ≡ right_of new.rights (index_at old.layout index).table
 
-module _ (old new : ShownStore) (n : ℕ) (was : Hand) (index : ℕ) (task : ℕ → Task) (count : ℕ) (is : IsUpkeep old.layout was index task count) (left : UpkeepLeft old new n was index) (p : Place) (shown : IsPlaceOf old p) (alike : ShowAlike) where
+module _ (old new : ShownStore) (n : ℕ) (was : Hand) (index : ℕ) (Here : Task → Type 0) (account : Account) (is : IsUpkeep old.layout was index Here account) (left : UpkeepLeft old new n was index) (p : Place) (shown : IsPlaceOf old p) (alike : ShowAlike) where
   abbrev number : ℕ
-  number = table old n was index task count is left.had p shown
+  number = table old n was index Here account is left.had p shown
 
   abbrev stored : List Status
   stored = shown.database.stored
 
   abbrev at_here : ShowsTable old stored number (p.tables number)
-  at_here = here old n was index task count is left.had p shown
+  at_here = here old n was index Here account is left.had p shown
 
   abbrev u : Unseen
-  u = unseen_here old n was index task count is left.had p shown
+  u = unseen_here old n was index Here account is left.had p shown
 
   abbrev statement : Statement
   statement = statement_of was
@@ -130,9 +130,9 @@ module _ (old new : ShownStore) (n : ℕ) (was : Hand) (index : ℕ) (task : ℕ
   pub has_then : HasBlocks old.layout new.pages number at_here.blocks
   has_then = same_blocks old.layout old.pages new.pages number at_here.blocks (λ block. same_heaps number block is.below) at_here.has
 
-  pub leads_so : (at : Option HandAt) (account : Account) → HandShows (hand_in new.hands n) at account
-      → ((hand : Hand) → hand_in new.hands n ≡ Some hand → IsOfTransaction (transaction_of new.transactions.opens n) (finite.get (database_at p).sessions n) hand) → LeadsTo old new p n at account
-  leads_so at account hand own = no_request_leads alike old new p n at account shown left.entries left.transactions same_statuses same_heaps (record { hand = hand; own = own; order = left.order })
+  pub leads_so : (at : Option HandAt) (so_far : Account) → HandShows (hand_in new.hands n) at so_far
+      → ((hand : Hand) → hand_in new.hands n ≡ Some hand → IsOfTransaction (transaction_of new.transactions.opens n) (finite.get (database_at p).sessions n) hand) → LeadsTo old new p n at so_far
+  leads_so at so_far hand own = no_request_leads alike old new p n at so_far shown left.entries left.transactions same_statuses same_heaps (record { hand = hand; own = own; order = left.order })
 
   steps_in : ((other : ℕ) → table_in old.layout (hand_in new.hands n) ≡ Some other → other ≡ number) → StepsInTable n number old new
   steps_in then = record {
@@ -154,20 +154,20 @@ module _ (old new : ShownStore) (n : ℕ) (was : Hand) (index : ℕ) (task : ℕ
   journal_is = left.entries ∙ sym shown.journal
 
   -- behind a step whose table is shown then, and with these summaries asked for, the store shows this place, whatever the session has in hand
-  pub behind : (at : Option HandAt) (v : TableState) (account : Account) (queue : List Asked) → AreRequestsOf old.layout new.queue queue → HandShows (hand_in new.hands n) at account
+  pub behind : (at : Option HandAt) (v : TableState) (so_far : Account) (queue : List Asked) → AreRequestsOf old.layout new.queue queue → HandShows (hand_in new.hands n) at so_far
       → ((hand : Hand) → hand_in new.hands n ≡ Some hand → IsOfTransaction (transaction_of new.transactions.opens n) (finite.get (database_at p).sessions n) hand)
       → ((other : ℕ) → table_in old.layout (hand_in new.hands n) ≡ Some other → other ≡ number) → ShowsTable new stored number v
-      → account.dropped ≡ (p.accounts n).dropped → IsNoInsert (hand_in new.hands n)
-      → IsPlaceOf new (place_asking p n number at v account (counts_of new.transactions stored) new.entries queue)
-  behind at v account queue requests hand own there shows told asks = asking_step_is_shown old new p n number at v account queue shown left.others (steps_in there) (same_counts_few old new stored stored counts_same)
-      (leads_so at account hand own) shows (record {
+      → so_far.dropped ≡ (p.accounts n).dropped → IsNoInsert (hand_in new.hands n)
+      → IsPlaceOf new (place_asking p n number at v so_far (counts_of new.transactions stored) new.entries queue)
+  behind at v so_far queue requests hand own there shows told asks = asking_step_is_shown old new p n number at v so_far queue shown left.others (steps_in there) (same_counts_few old new stored stored counts_same)
+      (leads_so at so_far hand own) shows (record {
         requests = requests;
         told = ap (λ (l : List (List Dropped)). dropped_in l n) left.dropped ∙ shown.told n ∙ ap (dropped_of old.layout) (sym told);
         others = λ m apart. ap (λ (l : List (List Dropped)). dropped_in l m) left.dropped;
-        hand = none_asked old.layout (hand_in new.hands n) account.dropped asks;
+        hand = none_asked old.layout (hand_in new.hands n) so_far.dropped asks;
       })
 
-  module _ (point : Point) (made : MadeIn old new n was index task count is left.had p shown point) where
+  module _ (point : Point) (made : MadeIn old new n was index Here account is left.had p shown point) where
     abbrev between : Task
     between = made.between
 
@@ -187,15 +187,15 @@ module _ (old new : ShownStore) (n : ℕ) (was : Hand) (index : ℕ) (task : ℕ
     v_is = pick_same n after (u.task n)
 
     abbrev account_then : Account
-    account_then = made.account (p.accounts n)
+    account_then = made.adds (p.accounts n)
 
     turns : (turns : TurnsAsking p n statement number v account_then made.queue) × (point_in turns ≡ Some point) × (turns.step.between ≡ within)
-    turns = machine_asks p n number statement (w old n was index task count is left.had p shown) within v point account_then made.queue at_here.shown made.turns.takes made.turns.on
+    turns = machine_asks p n number statement (w old n was index Here account is left.had p shown) within v point account_then made.queue at_here.shown made.turns.takes made.turns.on
         made.turns.does made.turns.point_is made.turns.adds
-        (not_pruned p n (w old n was index task count is left.had p shown) within made.turns.does point made.turns.point_is (no_prune point made.turns.plain)) made.turns.settles own
+        (not_pruned p n (w old n was index Here account is left.had p shown) within made.turns.does point made.turns.point_is (no_prune point made.turns.plain)) made.turns.settles own
       where
-        own : (u.task n ≢ Resting) ⊎ Begins p n (w old n was index task count is left.had p shown) statement (within.task n)
-        own = subst (λ (t : Task). (u.task n ≢ Resting) ⊎ Begins p n (w old n was index task count is left.had p shown) statement t) (sym within_is) made.turns.own
+        own : (u.task n ≢ Resting) ⊎ Begins p n (w old n was index Here account is left.had p shown) statement (within.task n)
+        own = subst (λ (t : Task). (u.task n ≢ Resting) ⊎ Begins p n (w old n was index Here account is left.had p shown) statement t) (sym within_is) made.turns.own
 
     table_then : IsTaskOf old.layout number at_here.blocks new.transactions.tx stored (transaction_of new.transactions.opens n) (hand_in new.hands n) after → ShowsTable new stored number v
     table_then is_at = own_table_goes_on old new stored n number (p.tables number) v (turned n made.held after made.unnamed u) at_here.blocks at_here left.others turns.0.step refl has_then made.right
@@ -203,34 +203,33 @@ module _ (old new : ShownStore) (n : ℕ) (was : Hand) (index : ℕ) (task : ℕ
         (subst (λ (t : Task). IsTaskOf old.layout number at_here.blocks new.transactions.tx stored (transaction_of new.transactions.opens n) (hand_in new.hands n) t) (sym v_is) is_at)
         (nothing_leaves_slots old stored n at_here.blocks)
 
-    told_then : account_then ≡ made.account (counted count)
-    told_then = ap made.account (told_is old n was index task count is left.had p shown)
+    told_then : account_then ≡ made.adds account
+    told_then = ap made.adds (told_is old n was index Here account is left.had p shown)
 
     -- it asks for no summary
-    asks_none : (next_count : ℕ) → made.account (counted count) ≡ counted next_count → account_then.dropped ≡ (p.accounts n).dropped
-    asks_none next_count counts_on = ap (λ (a : Account). a.dropped) (told_then ∙ counts_on) ∙ sym (ap (λ (a : Account). a.dropped) (told_is old n was index task count is left.had p shown))
+    asks_none : (next_account : Account) → made.adds account ≡ next_account → next_account.dropped ≡ [] → account_then.dropped ≡ (p.accounts n).dropped
+    asks_none next_account goes none = ap (λ (a : Account). a.dropped) (told_then ∙ goes) ∙ none ∙ sym is.none ∙ sym (ap (λ (a : Account). a.dropped) (told_is old n was index Here account is left.had p shown))
 
     -- it goes on
-    module _ (next : Hand) (next_task : ℕ → Task) (next_count : ℕ) (stays : IsUpkeep old.layout next index next_task next_count) (same : statement_of next ≡ statement_of was) (now : hand_in new.hands n ≡ Some next)
-        (at_next : after ≡ next_task (at_task old n was index task count is left.had p shown).0) (busy : after ≢ Resting) (counts_on : made.account (counted count) ≡ counted next_count) where
+    module _ (next : Hand) (HereNext : Task → Type 0) (next_account : Account) (stays : IsUpkeep old.layout next index HereNext next_account) (same : statement_of next ≡ statement_of was) (now : hand_in new.hands n ≡ Some next)
+        (at_next : HereNext after) (busy : after ≢ Resting) (goes : made.adds account ≡ next_account) where
       next_shows : HandShows (hand_in new.hands n) (Some (new_hand statement)) account_then
       next_shows = subst (λ (s : Statement). HandShows (hand_in new.hands n) (Some (new_hand s)) account_then) same
-          (upkeep_shows old.layout next index next_task next_count stays (hand_in new.hands n) now account_then (told_then ∙ counts_on))
+          (upkeep_shows old.layout next index HereNext next_account stays (hand_in new.hands n) now account_then (told_then ∙ goes))
 
       next_at : IsTaskOf old.layout number at_here.blocks new.transactions.tx stored (transaction_of new.transactions.opens n) (hand_in new.hands n) after
       next_at = subst (λ (h : Option Hand). IsTaskOf old.layout number at_here.blocks new.transactions.tx stored (transaction_of new.transactions.opens n) h after) (sym now)
-          (stays.is_task number at_here.blocks new.transactions.tx stored (transaction_of new.transactions.opens n) after
-          ((λ own. ((at_task old n was index task count is left.had p shown).0, (at_task old n was index task count is left.had p shown).1, at_next)), (λ away. absurd (away refl))))
+          (stays.is_task number at_here.blocks new.transactions.tx stored (transaction_of new.transactions.opens n) after ((λ own. at_next), (λ away. absurd (away refl))))
 
       pub goes_on : (q : Place) × IsPlaceOf new q × Steps p n (Moved point) q
       goes_on = (
         place_asking p n number (Some (new_hand statement)) v account_then (counts_of new.transactions stored) new.entries made.queue,
         behind (Some (new_hand statement)) v account_then made.queue made.requests next_shows
             (λ h there. subst (λ (x : Hand). IsOfTransaction (transaction_of new.transactions.opens n) (finite.get (database_at p).sessions n) x) (same_Some next h (sym now ∙ there)) (stays.own (transaction_of new.transactions.opens n) (finite.get (database_at p).sessions n)))
-            (λ other there. stays.in_table other (ap (table_in old.layout) (sym now) ∙ there)) (table_then next_at) (asks_none next_count counts_on) (subst IsNoInsert (sym now) stays.no_insert),
+            (λ other there. stays.in_table other (ap (table_in old.layout) (sym now) ∙ there)) (table_then next_at) (asks_none next_account goes stays.none) (subst IsNoInsert (sym now) stays.no_insert),
         record {
           hand = new_hand statement;
-          in_hand = hand_is old n was index task count is left.had p shown;
+          in_hand = hand_is old n was index Here account is left.had p shown;
           steps = subst (λ (l : List Entry). StepsTo p n (new_hand statement) (Moved point) (place_asking p n number (Some (new_hand statement)) v account_then (counts_of new.transactions stored) l made.queue)) (sym journal_is)
               (turn_asks p n number (new_hand statement) v account_then made.queue (counts_of new.transactions stored) point (course_of p (new_hand statement)) turns.0 turns.1
               (λ rests. busy (sym v_is ∙ rests)) (plain_enters point p n (new_hand statement) made.turns.plain));
@@ -239,8 +238,8 @@ module _ (old new : ShownStore) (n : ℕ) (was : Hand) (index : ℕ) (task : ℕ
       )
 
     -- it replies
-    module _ (now : hand_in new.hands n ≡ None) (rests : after ≡ Resting) (next_count : ℕ) (counts_on : made.account (counted count) ≡ counted next_count) (reply : Reply)
-        (replies : Some reply ≡ reply_after p.layout number between (counted next_count) [] statement) where
+    module _ (now : hand_in new.hands n ≡ None) (rests : after ≡ Resting) (next_account : Account) (goes : made.adds account ≡ next_account) (none : next_account.dropped ≡ []) (reply : Reply)
+        (replies : Some reply ≡ reply_after p.layout number between next_account [] statement) where
       pub is_done : (q : Place) × IsPlaceOf new q × Steps p n (Ended reply) q
       is_done = (
         place_asking p n number None v account_then (counts_of new.transactions stored) new.entries made.queue,
@@ -248,10 +247,10 @@ module _ (old new : ShownStore) (n : ℕ) (was : Hand) (index : ℕ) (task : ℕ
             (subst (λ (h : Option Hand). HandShows h None account_then) (sym now) refl)
             (λ h there. absurd (none-some h (sym now ∙ there)))
             (λ other there. absurd (none-some other (ap (table_in old.layout) (sym now) ∙ there)))
-            (table_then (subst (λ (h : Option Hand). IsTaskOf old.layout number at_here.blocks new.transactions.tx stored (transaction_of new.transactions.opens n) h after) (sym now) rests)) (asks_none next_count counts_on) (subst IsNoInsert (sym now) tt),
+            (table_then (subst (λ (h : Option Hand). IsTaskOf old.layout number at_here.blocks new.transactions.tx stored (transaction_of new.transactions.opens n) h after) (sym now) rests)) (asks_none next_account goes none) (subst IsNoInsert (sym now) tt),
         record {
           hand = new_hand statement;
-          in_hand = hand_is old n was index task count is left.had p shown;
+          in_hand = hand_is old n was index Here account is left.had p shown;
           steps = subst (λ (l : List Entry). StepsTo p n (new_hand statement) (Ended reply) (place_asking p n number None v account_then (counts_of new.transactions stored) l made.queue)) (sym journal_is)
               (asking_replies p n number (new_hand statement) v account_then made.queue (counts_of new.transactions stored) point (course_of p (new_hand statement)) reply turns.0 turns.1 (v_is ∙ rests)
               (NoneLeft (course_of p (new_hand statement)) (is.asks n [])) told);
@@ -260,5 +259,5 @@ module _ (old new : ShownStore) (n : ℕ) (was : Hand) (index : ℕ) (task : ℕ
       )
         where
           told : Some reply ≡ reply_after p.layout number (turns.0.step.between.task n) account_then [] statement
-          told = replies ∙ ap (λ (a : Account). reply_after p.layout number between a [] statement) (sym (told_then ∙ counts_on))
+          told = replies ∙ ap (λ (a : Account). reply_after p.layout number between a [] statement) (sym (told_then ∙ goes))
               ∙ ap (λ (t : Task). reply_after p.layout number t account_then [] statement) (sym (ap (λ (x : TableState). x.task n) turns.2 ∙ within_is))

@@ -7,8 +7,8 @@ use Rattle.block_model.specs.DatabaseState.{OpenTransaction}
 use Rattle.store_layout.specs.DiskLayout.{DiskLayout}
 use Rattle.snapshot_core.specs.StoredVersions.{transaction_of}
 use Rattle.store_layout.specs.declared.statement.Statement.TheVariants as statements
-use Rattle.coverage.specs.Accounts.{Asked}
-use Rattle.coverage.specs.Table.{Resting, TableState}
+use Rattle.coverage.specs.Accounts.{Asked, no_account}
+use Rattle.coverage.specs.Table.{Resting, TableState, Task}
 use Rattle.index_steps.specs.IndexTuples.{index_at}
 use Rattle.index_steps.specs.ShownTable.{indexes_of}
 use Rattle.index_steps.proofs.Listed.{is_ascending}
@@ -23,7 +23,7 @@ use Rattle.session_parts.specs.HandsInTables.{IsTaskOf}
 use Rattle.session_parts.specs.ShowsPlace.{IsLeftToMark, IsPlaceOf, ShowsTable}
 use Rattle.session_parts.specs.StoreStates.{ShownStore, hand_in}
 use Rattle.session_parts.proofs.Tables.{unlisted}
-use Rattle.session_maintenance.proofs.UpkeepAt.{IsUpkeep}
+use Rattle.session_maintenance.proofs.UpkeepAt.{IsUpkeep, IsUpkeepAt}
 
 -- ---- work before its first step, as a maintenance statement of any index
 
@@ -31,7 +31,11 @@ of_any_copy : (copy : Option OpenTransaction) → IsLeftToMark copy hands.Workin
 of_any_copy None = tt
 of_any_copy (Some x) = tt
 
-pub is_working : (layout : DiskLayout) (index : ℕ) → index < length layout.schema.indexes → (index_at layout index).table < length layout.schema.tables → IsUpkeep layout hands.Working index (λ at. Resting) 0
+-- it is at nothing in its index's table
+abbrev pub IsRestingAt : DiskLayout → (index : ℕ) → Task → Type 0
+IsRestingAt layout index = IsUpkeepAt layout index (λ at. Resting)
+
+pub is_working : (layout : DiskLayout) (index : ℕ) → index < length layout.schema.indexes → (index_at layout index).table < length layout.schema.tables → IsUpkeep layout hands.Working index (IsRestingAt layout index) no_account
 is_working layout index within below =
     let listed = unlisted layout (index_at layout index).table index within refl in
     record {
@@ -43,6 +47,7 @@ is_working layout index within below =
       answered = refl;
       tells = λ account is. is;
       told = refl;
+      none = refl;
       own = λ transaction copy. of_any_copy copy;
       in_table = λ table has. absurd (none-some table has);
       no_insert = tt;

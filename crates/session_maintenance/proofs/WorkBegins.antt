@@ -33,10 +33,10 @@ use Rattle.session_parts.specs.StoreStates.{ShownStore, hand_in}
 use Rattle.session_maintenance.specs.FirstRequests.{IsOfRange}
 use Rattle.session_maintenance.proofs.SummariseTurns.{is_new}
 use Rattle.session_maintenance.proofs.SummaryReplies.{block_not_complete}
-use Rattle.session_maintenance.proofs.UpkeepAt.{IsUpkeep, IsUpkeepAt, at_task, here, kept_here, pages_show, unseen_here, w}
+use Rattle.session_maintenance.proofs.UpkeepAt.{IsUpkeep, at_task, here, kept_here, pages_show, unseen_here, w}
 use Rattle.session_maintenance.proofs.UpkeepPoints.{IsPlain, is_considering, is_resting}
 use Rattle.session_maintenance.proofs.UpkeepSteps.{MadeIn, turned}
-use Rattle.session_maintenance.proofs.WorkAsked.{IsAskedSo, asked, asked_first, asked_table, asked_there, on_asked, same_place}
+use Rattle.session_maintenance.proofs.WorkAsked.{IsAskedSo, IsRestingAt, asked, asked_first, asked_table, asked_there, on_asked, same_place}
 
 -- ---- a step from nothing to a range takes the summarise lock
 
@@ -85,25 +85,25 @@ module _ (n : ℕ) (w v : TableState) (point : Point) (job : Job) (at range : �
 abbrev pub emptied : Account → Account
 emptied account = no_account
 
-module _ (old new : ShownStore) (n : ℕ) (a b : SummariseState) (range : ℕ) (is : IsUpkeep old.layout hands.Working a.index (λ at. Resting) 0) (had : hand_in old.hands n ≡ Some hands.Working) (p : Place) (shown : IsPlaceOf old p)
+module _ (old new : ShownStore) (n : ℕ) (a b : SummariseState) (range : ℕ) (is : IsUpkeep old.layout hands.Working a.index (IsRestingAt old.layout a.index) no_account) (had : hand_in old.hands n ≡ Some hands.Working) (p : Place) (shown : IsPlaceOf old p)
     (begins : a.standing ≡ standings.Begins) (ranged : IsOfRange old.layout a range) (first : slice_get old.queue 0 ≡ Some (a.index, range)) (later : new.queue ≡ drop 1 old.queue) where
   abbrev number : ℕ
   number = (index_at old.layout a.index).table
 
   abbrev shows : ShowsTable old shown.database.stored number (p.tables number)
-  shows = here old n hands.Working a.index (λ at. Resting) 0 is had p shown
+  shows = here old n hands.Working a.index (IsRestingAt old.layout a.index) no_account is had p shown
 
   abbrev blocks : List (List Slot)
   blocks = shows.blocks
 
   abbrev u : Unseen
-  u = unseen_here old n hands.Working a.index (λ at. Resting) 0 is had p shown
+  u = unseen_here old n hands.Working a.index (IsRestingAt old.layout a.index) no_account is had p shown
 
   abbrev before : TableState
-  before = w old n hands.Working a.index (λ at. Resting) 0 is had p shown
+  before = w old n hands.Working a.index (IsRestingAt old.layout a.index) no_account is had p shown
 
-  abbrev it : IsUpkeepAt old.layout a.index (λ at. Resting) (u.task n)
-  it = at_task old n hands.Working a.index (λ at. Resting) 0 is had p shown
+  abbrev it : IsRestingAt old.layout a.index (u.task n)
+  it = at_task old n hands.Working a.index (IsRestingAt old.layout a.index) no_account is had p shown
 
   abbrev shown_then : ShownTable
   shown_then = shown_by old.layout new.pages new.locks number blocks
@@ -156,17 +156,17 @@ module _ (old new : ShownStore) (n : ℕ) (a b : SummariseState) (range : ℕ) (
 
   -- a step that goes on, or replies
   pub made_first : (point : Point) (account : Account → Account) (held_then : Option ℕ)
-      → SummariseGoes n (pages_show old n hands.Working a.index (λ at. Resting) 0 is had p shown) shown_then (right_of old.rights number) held_then (task_of old.layout it.0 a) (task_of old.layout it.0 b) point account a.standing
+      → SummariseGoes n (pages_show old n hands.Working a.index (IsRestingAt old.layout a.index) no_account is had p shown) shown_then (right_of old.rights number) held_then (task_of old.layout it.0 a) (task_of old.layout it.0 b) point account a.standing
       (first_task old.layout it.0 (length blocks) a)
       → held_then ≡ right_of new.rights number
-      → (made : MadeIn old new n hands.Working a.index (λ at. Resting) 0 is had p shown point) × (made.after ≡ task_of old.layout it.0 b) × (made.between ≡ its_first) × (made.account ≡ emptied)
+      → (made : MadeIn old new n hands.Working a.index (IsRestingAt old.layout a.index) no_account is had p shown point) × (made.after ≡ task_of old.layout it.0 b) × (made.between ≡ its_first) × (made.adds ≡ emptied)
   made_first point account held_then goes right =
-      let kept = kept_here old n hands.Working a.index (λ at. Resting) 0 is had p shown in
+      let kept = kept_here old n hands.Working a.index (IsRestingAt old.layout a.index) no_account is had p shown in
       let new_task = it.2 ∙ sym (is_new old.layout it.0 a not_complete begins) in
       let so = goes.0 u new_task shows.lock kept in
       let between_is = subst (λ (q : Standing). IsFirstWithin q (first_task old.layout it.0 (length blocks) a) so.2) begins (goes.1 u new_task shows.lock kept) ∙ first_is in (
         record {
-          account = emptied;
+          adds = emptied;
           between = so.2;
           after = task_of old.layout it.0 b;
           held = held_then;

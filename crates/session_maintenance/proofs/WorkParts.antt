@@ -9,29 +9,26 @@ use Rattle.block_model.specs.declared.reply.What.{What}
 use Rattle.block_model.specs.declared.reply.What.TheVariants as whats
 use Rattle.block_model.specs.declared.reply.Refusal.TheVariants as refusals
 use Rattle.store_layout.specs.DiskLayout.{DiskLayout}
-use Rattle.page_layout.specs.PageContents.{Slot}
 use Rattle.page_map.specs.declared.faults.StoreError.{StoreError}
 use Rattle.page_map.specs.Keeps.{Tells}
 use Rattle.page_map.specs.Outcome.{Refused}
 use Rattle.page_map.specs.PageMap.{View}
-use Rattle.page_locks.specs.declared.did.Did.{Did}
 use Rattle.page_locks.specs.declared.did.Did.TheVariants as did
 use Rattle.page_locks.specs.LockChanges.{GivesAll}
 use Rattle.page_locks.specs.LockCounts.{locks_of}
 use Rattle.page_locks.specs.LockHolders.{LockState, holder}
 use Rattle.page_locks.specs.RightHolders.{right_of}
-use Rattle.heap_rows.specs.HeapBlocks.{HasBlocks, OfBlocks}
+use Rattle.heap_rows.specs.HeapBlocks.{OfBlocks}
 use Rattle.transactions.specs.Laws.{ShowAlike}
 use Rattle.index_steps.specs.IndexTuples.{index_at}
 use Rattle.index_steps.specs.ShownTable.{indexes_of}
-use Rattle.coverage.specs.Accounts.{Account}
+use Rattle.coverage.specs.Accounts.{Account, no_account}
 use Rattle.coverage.specs.Table.{Resting, Task}
 use Rattle.coverage.specs.TableSteps.{SummariseLockHeld}
 use Rattle.summarise_core.specs.declared.course.Standing.{Standing}
 use Rattle.summarise_core.specs.declared.course.Standing.TheVariants as standings
 use Rattle.summarise_core.specs.Summarises.{DamageIn, FullAt, IsSummariseOf, RightAnswers, SummariseDoes, SummariseState, count_of, held_by, held_in, in_range_of, step_of}
-use Rattle.summarise_core.specs.SummariseTable.{DoesInTable, HasCounted, held_behind, indexes_left, task_of}
-use Rattle.script_semantics.specs.Beginnings.{StandsAt}
+use Rattle.summarise_core.specs.SummariseTable.{HasCounted, held_behind, indexes_left, task_of}
 use Rattle.script_semantics.specs.Names.{index_name, name_of, table_name}
 use Rattle.script_semantics.specs.StatementSteps.{Steps, Waits, work_reply}
 use Rattle.session_parts.specs.declared.hand.Hand.{Hand}
@@ -46,14 +43,14 @@ use Rattle.session_parts.specs.StoreFaults.{fault_of}
 use Rattle.session_parts.specs.UndoneLaws.{FitsParts, StepsSo}
 use Rattle.session_parts.proofs.Undone.{fit_of_parts}
 use Rattle.session_maintenance.specs.FirstRequests.{IsOfRange}
-use Rattle.session_maintenance.proofs.SummariseLocks.{OthersStay, gives_own, gives_stay, gives_there, stays_on}
-use Rattle.session_maintenance.proofs.SummariseParts.{MachineLeft}
+use Rattle.session_maintenance.proofs.SummariseLocks.{gives_own, gives_stay, gives_there, same_stays, stays_on}
+use Rattle.session_maintenance.proofs.SummariseParts.{MachineLeft, came, left_by, left_given}
 use Rattle.session_maintenance.proofs.SummariseTurns.{StepsInTable, is_busy, is_over, last_gives, right_left, right_taken}
 use Rattle.session_maintenance.proofs.SummaryReplies.{is_work}
-use Rattle.session_maintenance.proofs.UpkeepAt.{IsUpkeep, at_task, counted, here}
+use Rattle.session_maintenance.proofs.UpkeepAt.{IsUpkeep, IsUpkeepAt, at_task, counted, here}
 use Rattle.session_maintenance.proofs.UpkeepParts.{PartsLeft, done_so, leaves_same, moved_so, new_store, old_store, refused_so, refused_untold, undone_so, waits_so, with_queue, with_these}
 use Rattle.session_maintenance.proofs.UpkeepStays.{waits_for_lock}
-use Rattle.session_maintenance.proofs.WorkAsked.{is_working, on_asked}
+use Rattle.session_maintenance.proofs.WorkAsked.{IsRestingAt, is_working, on_asked}
 use Rattle.session_maintenance.proofs.WorkBegins.{made_first, not_complete}
 
 pub begins_not_range : standings.Begins ≢ standings.AtRange
@@ -76,10 +73,7 @@ never_lacks by table n rights righted standing begins free right =
 
 module _ {D : Type 0} (told : D → Told) (parts : Parts D) (n : ℕ) (fit : IsFit told parts n hands.Working) (ready : parts.pages.failed ≡ None) (alike : ShowAlike) (request : ℕ × ℕ) (first : slice_get parts.queue 0 ≡ Some request)
     (within : request.0 < length parts.pages.layout.schema.indexes) (below : (index_at parts.pages.layout request.0).table < length parts.pages.layout.schema.tables) where
-  abbrev at_rest : ℕ → Task
-  at_rest at = Resting
-
-  is_it : IsUpkeep parts.pages.layout hands.Working request.0 at_rest 0
+  is_it : IsUpkeep parts.pages.layout hands.Working request.0 (IsRestingAt parts.pages.layout request.0) no_account
   is_it = is_working parts.pages.layout request.0 within below
 
   fits : FitsParts told parts n (Some hands.Working)
@@ -99,14 +93,14 @@ module _ {D : Type 0} (told : D → Told) (parts : Parts D) (n : ℕ) (fit : IsF
   pub held_so : (by : ℕ) → right_of parts.rights (index_at parts.pages.layout request.0).table ≡ Some by → by ≢ n → (what : What) → what ≡ whats.Work (table_name parts.pages.layout (index_at parts.pages.layout request.0).table)
       → StepsSo told parts parts n hands.Working (stepped.Blocked what by hands.Working)
   held_so by holds other what named =
-      waits_so told parts parts.pages parts.locks parts.rights parts.queue n hands.Working request.0 at_rest 0 fit is_it nothing_left hands.Working at_rest is_it refl tt fits.own refl (ready, ready) refl alike
+      waits_so told parts parts.pages parts.locks parts.rights parts.queue n hands.Working request.0 (IsRestingAt parts.pages.layout request.0) no_account fit is_it nothing_left hands.Working (IsRestingAt parts.pages.layout request.0) is_it refl tt fits.own refl (ready, ready) refl alike
       (inl (record { elsewhere = λ page away free. refl; others = λ page m apart. ((λ held. held), (λ held. held)) })) (record { leaves = leaves_same told parts.pages; pages = λ tells. refl }) refl refl refl what by
       (other, inr ((index_at parts.pages.layout request.0).table, holds)) (λ names hand_list has tells p shown.
-      let old = old_store told parts parts.pages parts.locks parts.rights parts.queue n hands.Working request.0 at_rest 0 fit is_it nothing_left names hand_list has in
-      let shows = here old n hands.Working request.0 at_rest 0 is_it has p shown in (
-        (λ place stood. refl),
+      let old = old_store told parts parts.pages parts.locks parts.rights parts.queue n hands.Working request.0 (IsRestingAt parts.pages.layout request.0) no_account fit is_it nothing_left names hand_list has in
+      let shows = here old n hands.Working request.0 (IsRestingAt parts.pages.layout request.0) no_account is_it has p shown in (
+        (λ task stood. stood),
         subst (λ (x : What). Steps p n (Waits (refusals.Blocked x (name_of p by))) p) (sym named)
-            (waits_for_lock old n hands.Working request.0 at_rest 0 is_it has p shown fits.entries (on_asked old n has p shown request first) by (SummariseLockHeld by (shows.lock ∙ holds) other, refl) holds),
+            (waits_for_lock old n hands.Working request.0 (IsRestingAt parts.pages.layout request.0) no_account is_it has p shown fits.entries (on_asked old n has p shown request first) Resting (at_task old n hands.Working request.0 (IsRestingAt parts.pages.layout request.0) no_account is_it has p shown).2 by (SummariseLockHeld by (shows.lock ∙ holds) other, refl) holds),
       ))
 
 -- ---- it takes the request up
@@ -116,10 +110,7 @@ module _ {D : Type 0} (told : D → Told) (parts : Parts D) (n range : ℕ) (a :
   abbrev number : ℕ
   number = (index_at parts.pages.layout a.index).table
 
-  abbrev task : ℕ → Task
-  task at = Resting
-
-  is_there : IsUpkeep parts.pages.layout hands.Working a.index task 0
+  is_there : IsUpkeep parts.pages.layout hands.Working a.index (IsRestingAt parts.pages.layout a.index) no_account
   is_there = is_working parts.pages.layout a.index of.index below
 
   fits_there : FitsParts told parts n (Some hands.Working)
@@ -142,30 +133,12 @@ module _ {D : Type 0} (told : D → Told) (parts : Parts D) (n range : ℕ) (a :
     abbrev next : Hand
     next = hands.Works (record { summarise = b; range = range })
 
-    abbrev next_task : ℕ → Task
-    next_task at = task_of parts.pages.layout at b
+    abbrev HereNext : Task → Type 0
+    HereNext = IsUpkeepAt parts.pages.layout a.index (λ at. task_of parts.pages.layout at b)
 
-    is_next : IsUpkeep parts.pages.layout next a.index next_task (count_of b)
-    is_next = subst (λ (i : ℕ). IsUpkeep parts.pages.layout next i next_task (count_of b)) left.index
+    is_next : IsUpkeep parts.pages.layout next a.index HereNext (counted (count_of b))
+    is_next = subst (λ (i : ℕ). IsUpkeep parts.pages.layout next i (IsUpkeepAt parts.pages.layout i (λ at. task_of parts.pages.layout at b)) (counted (count_of b))) left.index
         (is_work parts.pages.layout (record { summarise = b; range = range }) left.of.index (subst (λ (i : ℕ). (index_at parts.pages.layout i).table < length parts.pages.layout.schema.tables) (sym left.index) below))
-
-    left_by : (rights : List (Option ℕ)) → OthersStay number n parts.rights rights → PartsLeft told parts pages locks rights n a.index
-    left_by rights stays = record {
-      others = left.others;
-      order = left.order;
-      limit = left.counts.limit;
-      counts = λ m other. left.counts.adds.others m other;
-      tables = stays.tables;
-      apart = stays.apart;
-      theirs = stays.theirs;
-    }
-
-    module _ (law : StepsInTable) (alike : ShowAlike) (first : slice_get parts.queue 0 ≡ Some (a.index, range)) (righted : List (Option ℕ)) (answer : Did)
-        (does : OfBlocks told parts.pages number (λ blocks. SummariseDoes (step_of parts.pages.layout parts.pages.pages pages.pages parts.locks locks parts.rights righted n blocks) a b answer)) where
-      came_there : Tells told parts.pages → (blocks : List (List Slot)) → HasBlocks parts.pages.layout parts.pages.pages number blocks → (at : ℕ) → StandsAt parts.pages.layout a.index at
-          → DoesInTable (step_of parts.pages.layout parts.pages.pages pages.pages parts.locks locks parts.rights righted n blocks) at a b answer
-      came_there tells blocks has at stands = law (step_of parts.pages.layout parts.pages.pages pages.pages parts.locks locks parts.rights righted n blocks) at a b answer stands of
-          (record { others = left.others.indexes tells; locks = left.leaves }) (does tells blocks has)
 
     -- it goes on
     pub begun_so : StepsInTable → ShowAlike → slice_get parts.queue 0 ≡ Some (a.index, range) → (righted : List (Option ℕ)) (point : Point)
@@ -175,7 +148,7 @@ module _ {D : Type 0} (told : D → Told) (parts : Parts D) (n range : ℕ) (a :
     begun_so law alike first righted point does at own right ready =
         let stays = right_left number n parts.rights righted a.standing (did.Moved point) inside right in
         let taken = right_taken number n parts.rights righted a.standing (did.Moved point) right tt inside (λ at_range. absurd (not_range at_range)) left_to_do in
-        moved_so told parts pages locks righted (drop 1 parts.queue) n hands.Working a.index task 0 fit is_there (left_by righted stays) next next_task (count_of b) is_next refl
+        moved_so told parts pages locks righted (drop 1 parts.queue) n hands.Working a.index (IsRestingAt parts.pages.layout a.index) no_account fit is_there (left_by told parts n a pages locks b left righted stays) next HereNext (counted (count_of b)) is_next refl
         (record {
           of = left.of;
           at = at;
@@ -183,16 +156,16 @@ module _ {D : Type 0} (told : D → Told) (parts : Parts D) (n range : ℕ) (a :
           wish = left.wish ∙ ranged.1;
           range = ap (λ (i : ℕ). ranged.0 / in_range_of parts.pages.layout i) left.index ∙ ranged.2;
         }) own refl ready (ap (λ (i : ℕ). right_at (index_at parts.pages.layout i).table b.standing) left.index ∙ ap (right_at number) at) alike (inl left.leaves) point (λ names hand_list has tells p shown.
-        let old = old_store told parts pages locks righted (drop 1 parts.queue) n hands.Working a.index task 0 fit is_there (left_by righted stays) names hand_list has in
-        let then = new_store told parts pages locks righted (drop 1 parts.queue) n hands.Working a.index task 0 fit is_there (left_by righted stays) names hand_list has (Some next) in
-        let it = at_task old n hands.Working a.index task 0 is_there has p shown in
-        let shows = here old n hands.Working a.index task 0 is_there has p shown in
-        let so = came_there law alike first righted (did.Moved point) does tells shows.blocks shows.has it.0 it.1 in
+        let old = old_store told parts pages locks righted (drop 1 parts.queue) n hands.Working a.index (IsRestingAt parts.pages.layout a.index) no_account fit is_there (left_by told parts n a pages locks b left righted stays) names hand_list has in
+        let then = new_store told parts pages locks righted (drop 1 parts.queue) n hands.Working a.index (IsRestingAt parts.pages.layout a.index) no_account fit is_there (left_by told parts n a pages locks b left righted stays) names hand_list has (Some next) in
+        let it = at_task old n hands.Working a.index (IsRestingAt parts.pages.layout a.index) no_account is_there has p shown in
+        let shows = here old n hands.Working a.index (IsRestingAt parts.pages.layout a.index) no_account is_there has p shown in
+        let so = came told parts n a pages locks b left law righted (did.Moved point) does of tells shows.blocks shows.has it.0 it.1 in
         let made = made_first old then n a b range is_there has p shown begins ranged first refl point _ (Some n) so.2 (sym taken) in (
           made.0,
-          made.1,
+          (it.0, it.1, made.1),
           (λ rests. is_busy parts.pages.layout it.0 b at (sym made.1 ∙ rests)),
-          ap (λ (f : Account → Account). f (counted 0)) made.3 ∙ ap counted (sym (none_counted a.standing (count_of a) so.0 (count_of b) begins so.1)),
+          ap (λ (f : Account → Account). f no_account) made.3 ∙ ap counted (sym (none_counted a.standing (count_of a) so.0 (count_of b) begins so.1)),
         ))
 
     -- it replies, and its table's summarise lock is given
@@ -210,19 +183,19 @@ module _ {D : Type 0} (told : D → Told) (parts : Parts D) (n range : ℕ) (a :
         let none : held_by b ≡ 0 = ap (λ (q : Standing). held_in b q) at in
         let taken = right_taken number n parts.rights righted a.standing (did.Finished point) right tt inside (λ at_range. absurd (not_range at_range)) left_to_do in
         let free : right_of given number ≡ None = gives_there number n righted given still gives keeps taken in
-        done_so told parts pages locks given (drop 1 parts.queue) n hands.Working a.index task 0 fit is_there (left_by given stays) (count_of b) (omega (arith, own, none)) refl ready (gives_own number n righted given still gives keeps) alike
+        done_so told parts pages locks given (drop 1 parts.queue) n hands.Working a.index (IsRestingAt parts.pages.layout a.index) no_account fit is_there (left_by told parts n a pages locks b left given stays) (counted (count_of b)) refl (omega (arith, own, none)) refl ready (gives_own number n righted given still gives keeps) alike
         (inl left.leaves) point reply (λ names hand_list has tells p shown.
-        let old = old_store told parts pages locks given (drop 1 parts.queue) n hands.Working a.index task 0 fit is_there (left_by given stays) names hand_list has in
-        let then = new_store told parts pages locks given (drop 1 parts.queue) n hands.Working a.index task 0 fit is_there (left_by given stays) names hand_list has None in
-        let it = at_task old n hands.Working a.index task 0 is_there has p shown in
-        let shows = here old n hands.Working a.index task 0 is_there has p shown in
-        let so = came_there law alike first righted (did.Finished point) does tells shows.blocks shows.has it.0 it.1 in
+        let old = old_store told parts pages locks given (drop 1 parts.queue) n hands.Working a.index (IsRestingAt parts.pages.layout a.index) no_account fit is_there (left_by told parts n a pages locks b left given stays) names hand_list has in
+        let then = new_store told parts pages locks given (drop 1 parts.queue) n hands.Working a.index (IsRestingAt parts.pages.layout a.index) no_account fit is_there (left_by told parts n a pages locks b left given stays) names hand_list has None in
+        let it = at_task old n hands.Working a.index (IsRestingAt parts.pages.layout a.index) no_account is_there has p shown in
+        let shows = here old n hands.Working a.index (IsRestingAt parts.pages.layout a.index) no_account is_there has p shown in
+        let so = came told parts n a pages locks b left law righted (did.Finished point) does of tells shows.blocks shows.has it.0 it.1 in
         let plain = not_complete old then n a b range is_there has p shown begins ranged first refl in
         let made = made_first old then n a b range is_there has p shown begins ranged first refl point _ (held_behind a.wish n (indexes_left parts.pages.layout a.index it.0)) so.2
         (last_gives a.wish n (indexes_left parts.pages.layout a.index it.0) plain ∙ sym free) in (
           made.0,
           made.1 ∙ is_over parts.pages.layout it.0 b (λ complete. plain (sym left.wish ∙ complete)) at,
-          ap (λ (f : Account → Account). f (counted 0)) made.3 ∙ ap counted (sym (none_counted a.standing (count_of a) so.0 (count_of b) begins so.1)),
+          ap (λ (f : Account → Account). f no_account) made.3 ∙ ap counted (sym (none_counted a.standing (count_of a) so.0 (count_of b) begins so.1)),
           ap Some (named number it.0 it.1) ∙ ap (λ (l : DiskLayout). Some (replies.Worked (index_name l number it.0) range (count_of b))) (sym shown.layout)
               ∙ sym (ap (λ (t : Task). work_reply p.layout number t (count_of b)) made.2),
         ))
@@ -232,15 +205,7 @@ module _ {D : Type 0} (told : D → Told) (parts : Parts D) (n range : ℕ) (a :
         → (error : StoreError) → Refused told (Tells told parts.pages → DamageIn parts.pages.layout parts.pages.pages a) parts.pages pages error → NamesAPage parts.pages.layout error
         → StepsSo told parts (with_these parts pages given parts.rights) n hands.Working (stepped.Undone (fault_of error) hands.Working)
     refused_first given limit none others error refusal names =
-        undone_so told parts pages given parts.rights parts.queue n hands.Working a.index task 0 fit is_there (record {
-          others = left.others;
-          order = left.order;
-          limit = limit ∙ left.counts.limit;
-          counts = λ m other. others m other ∙ left.counts.adds.others m other;
-          tables = refl;
-          apart = λ other apart. refl;
-          theirs = λ m other apart holds. holds;
-        }) hands.Working refl tt (omega (arith, none)) refl refl refl error
+        undone_so told parts pages given parts.rights parts.queue n hands.Working a.index (IsRestingAt parts.pages.layout a.index) no_account fit is_there (left_given told parts n a pages locks b left given limit others parts.rights (same_stays number n parts.rights parts.rights refl)) hands.Working refl tt (omega (arith, none)) refl refl refl error
         (refused_untold told (Tells told parts.pages → DamageIn parts.pages.layout parts.pages.pages a) parts.pages pages error (λ ready damage tells. not_range (damage tells).0) refusal) names
 
     -- no page of the index is left for a tuple; none is put yet, so it can't be where the disk tells its contents
@@ -250,13 +215,5 @@ module _ {D : Type 0} (told : D → Told) (parts : Parts D) (n range : ℕ) (a :
         → (reply : Reply) → StepsSo told parts (with_these parts pages given rights) n hands.Working (stepped.Done reply)
     full_first given room full same_locks ready gives limit none others rights gave kept reply =
         let stays = gives_stay number n parts.rights rights inside gave kept in
-        refused_so told parts pages given rights parts.queue n hands.Working a.index task 0 fit is_there (record {
-          others = left.others;
-          order = left.order;
-          limit = limit ∙ left.counts.limit;
-          counts = λ m other. others m other ∙ left.counts.adds.others m other;
-          tables = stays.tables;
-          apart = stays.apart;
-          theirs = stays.theirs;
-        }) none refl ready (inr (subst (λ (l : LockState). GivesAll (holder l) (holder given) n) same_locks gives)) (gives_own number n parts.rights rights inside gave kept) reply
+        refused_so told parts pages given rights parts.queue n hands.Working a.index (IsRestingAt parts.pages.layout a.index) no_account fit is_there (left_given told parts n a pages locks b left given limit others rights stays) none refl ready (inr (subst (λ (l : LockState). GivesAll (holder l) (holder given) n) same_locks gives)) (gives_own number n parts.rights rights inside gave kept) reply
         (λ names hand_list has tells p shown so now. absurd (not_range (full tells).0))

@@ -3,3 +3,4 @@ pub mod Watched
 pub mod Askers
 pub mod FirstRequests
 pub mod Cleaned
+pub mod InHand

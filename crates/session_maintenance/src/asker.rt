@@ -4,10 +4,10 @@ ghost use Rattle.std.specs.Prelude.{◌≡◌, ℕ, ◌<◌, Some, length, slice
 ghost use Rattle.summarise_core.specs.Summarises.{count_of};
 ghost use Rattle.index_steps.specs.ShownTable.{indexes_of};
 ghost use Rattle.script_semantics.specs.Names.{index_name};
-ghost use Rattle.session_maintenance.specs.Askers.{hand_for, reply_for};
+ghost use Rattle.session_maintenance.specs.Askers.{reply_for};
 
 use block_model::Reply;
-use session_parts::{Hand, Requested, index_named};
+use session_parts::index_named;
 use store_layout::Layout;
 use summarise_core::Summarise;
 
@@ -16,16 +16,6 @@ use summarise_core::Summarise;
 pub(crate) enum Asker {
     Line,
     Insert { range: u32 },
-}
-
-/// The statement in hand, with its summarise.
-pub(crate) fn hand_for(asker: Asker, summarise: Summarise) -> Hand
-    ensures { result ≡ hand_for asker summarise }
-{
-    match asker {
-        Asker::Line => Hand::Summarises(summarise),
-        Asker::Insert { range } => Hand::Works(Requested { summarise, range }),
-    }
 }
 
 /// How many ranges the summarise gave a final tuple; work tells its index and its range too.

@@ -5,14 +5,17 @@ ghost use Rattle.page_store.specs.Survives.{Survives};
 ghost use Rattle.page_locks.specs.LockHolders.{count_of};
 ghost use Rattle.session_parts.specs.declared.limits.TheConstants.{LOCKS_A_SESSION, MAX_LOCKS};
 ghost use Rattle.session_parts.specs.StepAnswers.{HasCause};
+ghost use Rattle.session_parts.specs.StepIs.{stepped_in};
 ghost use Rattle.session_parts.specs.Stepping.{IsFit, IsShown, LeavesTheOthers, MakesItsStep, StaysFit, StaysUndone};
 
-use crate::complete_answers::{end_index, indexes_are_listed, undone, waits};
+use crate::complete_answers::{end_index, indexes_are_listed};
 use crate::summarise::refused;
 use disk_trait::Disk;
 use page_locks::Did;
 use page_map::MachineFault;
-use session_parts::{Completing, Hand, Parts, Stepped, fault_of, lock_waited_for, page_waited_for};
+use session_parts::{
+    Completing, Hand, Parts, Step, StoreFault, fault_of, lock_waited_for, page_waited_for,
+};
 use summarise_core::{a_kept_table_takes_a_summarise, a_summarise_steps_in_its_table};
 use transactions::other_pages_show_alike;
 
@@ -24,16 +27,16 @@ use transactions::other_pages_show_alike;
 pub fn complete_on<D: Disk + Drop>(
     parts: &mut Parts<D>,
     session: u32,
-    mut completing: Completing,
-) -> Stepped
-    requires fit { IsFit D.told parts.old session (Hand.Completes completing) }
+    completing: &mut Completing,
+) -> Result<Step, StoreFault>
+    requires fit { IsFit D.told parts.old session (Hand.Completes completing.old) }
     requires few { count_of parts.old.locks + LOCKS_A_SESSION ≤ MAX_LOCKS }
-    requires shown { IsShown D.told parts.old session (Hand.Completes completing) }
-    ensures steps { MakesItsStep D.told parts.old parts.new session (Hand.Completes completing) result }
-    ensures fit { StaysFit D.told parts.old parts.new session (Hand.Completes completing) result }
-    ensures others { LeavesTheOthers D.told parts.old parts.new session (Hand.Completes completing) result }
-    ensures stays { StaysUndone D.told parts.old parts.new session (Hand.Completes completing) result }
-    ensures cause { HasCause D.told parts.old.pages parts.new.pages result }
+    requires shown { IsShown D.told parts.old session (Hand.Completes completing.old) }
+    ensures steps { MakesItsStep D.told parts.old parts.new session (Hand.Completes completing.old) (stepped_in (Hand.Completes completing.new) result) }
+    ensures fit { StaysFit D.told parts.old parts.new session (Hand.Completes completing.old) (stepped_in (Hand.Completes completing.new) result) }
+    ensures others { LeavesTheOthers D.told parts.old parts.new session (Hand.Completes completing.old) (stepped_in (Hand.Completes completing.new) result) }
+    ensures stays { StaysUndone D.told parts.old parts.new session (Hand.Completes completing.old) (stepped_in (Hand.Completes completing.new) result) }
+    ensures cause { HasCause D.told parts.old.pages parts.new.pages (stepped_in (Hand.Completes completing.new) result) }
     ensures survives { Survives D.told (λ passed. passed ≡ parts.old.pages.pages) parts.old.pages parts.new.pages }
 {
     a_summarise_steps_in_its_table();
@@ -42,7 +45,7 @@ pub fn complete_on<D: Disk + Drop>(
     indexes_are_listed(parts.pages.layout());
     match parts.pages.ready() {
         Ok(()) => {}
-        Err(error) => return undone(completing, fault_of(error)),
+        Err(error) => return Err(fault_of(error)),
     }
     let table = completing.table;
     let at = completing.next;
@@ -54,25 +57,25 @@ pub fn complete_on<D: Disk + Drop>(
         &mut parts.rights,
         session,
     ) {
-        Ok(Did::Moved(point)) => Stepped::Moved {
-            point,
-            hand: Hand::Completes(completing),
-        },
-        Ok(Did::Finished(point)) => end_index(&mut parts.rights, session, point, completing),
+        Ok(Did::Moved(point)) => Ok(Step::Moved(point)),
+        Ok(Did::Finished(point)) => Ok(end_index(&mut parts.rights, session, point, completing)),
         Ok(Did::Blocked(held)) => {
             let what = page_waited_for(parts.pages.layout(), index, &held);
-            waits(completing, what, held.by)
+            Ok(Step::Blocked {
+                what,
+                holder: held.by,
+            })
         }
         Ok(Did::NoRight { by }) => {
             let what = lock_waited_for(parts.pages.layout(), table);
-            waits(completing, what, by)
+            Ok(Step::Blocked { what, holder: by })
         }
         Err(MachineFault::Full { number, .. }) => {
-            Stepped::Done(refused(parts, session, index, table, number))
+            Ok(Step::Done(refused(parts, session, index, table, number)))
         }
         Err(MachineFault::Store(error)) => {
             parts.locks.drop_all(session);
-            undone(completing, fault_of(error))
+            Err(fault_of(error))
         }
         Err(MachineFault::Memory) => unreachable!(),
     }

@@ -6,14 +6,14 @@ ghost use Rattle.page_store.specs.Survives.{Survives};
 ghost use Rattle.page_locks.specs.LockHolders.{count_of};
 ghost use Rattle.session_parts.specs.declared.limits.TheConstants.{LOCKS_A_SESSION, MAX_LOCKS};
 ghost use Rattle.session_parts.specs.StepAnswers.{HasCause};
+ghost use Rattle.session_parts.specs.StepIs.{stepped_in};
 ghost use Rattle.session_parts.specs.Stepping.{IsFit, IsShown, LeavesTheOthers, MakesItsStep, StaysFit, StaysUndone};
 
-use crate::answers::{undone, waits};
 use block_model::Reply;
 use disk_trait::Disk;
 use page_locks::Did;
 use page_map::MachineFault;
-use session_parts::{Hand, Parts, Stepped, fault_of, lock_waited_for, page_waited_for};
+use session_parts::{Hand, Parts, Step, StoreFault, fault_of, lock_waited_for, page_waited_for};
 use summarise_core::{
     Desummarise, a_desummarise_steps_in_its_table, a_kept_table_takes_a_desummarise, table_of,
 };
@@ -26,16 +26,16 @@ use transactions::other_pages_show_alike;
 pub fn desummarise_on<D: Disk + Drop>(
     parts: &mut Parts<D>,
     session: u32,
-    mut desummarise: Desummarise,
-) -> Stepped
-    requires fit { IsFit D.told parts.old session (Hand.Desummarises desummarise) }
+    desummarise: &mut Desummarise,
+) -> Result<Step, StoreFault>
+    requires fit { IsFit D.told parts.old session (Hand.Desummarises desummarise.old) }
     requires few { count_of parts.old.locks + LOCKS_A_SESSION ≤ MAX_LOCKS }
-    requires shown { IsShown D.told parts.old session (Hand.Desummarises desummarise) }
-    ensures steps { MakesItsStep D.told parts.old parts.new session (Hand.Desummarises desummarise) result }
-    ensures fit { StaysFit D.told parts.old parts.new session (Hand.Desummarises desummarise) result }
-    ensures others { LeavesTheOthers D.told parts.old parts.new session (Hand.Desummarises desummarise) result }
-    ensures stays { StaysUndone D.told parts.old parts.new session (Hand.Desummarises desummarise) result }
-    ensures cause { HasCause D.told parts.old.pages parts.new.pages result }
+    requires shown { IsShown D.told parts.old session (Hand.Desummarises desummarise.old) }
+    ensures steps { MakesItsStep D.told parts.old parts.new session (Hand.Desummarises desummarise.old) (stepped_in (Hand.Desummarises desummarise.new) result) }
+    ensures fit { StaysFit D.told parts.old parts.new session (Hand.Desummarises desummarise.old) (stepped_in (Hand.Desummarises desummarise.new) result) }
+    ensures others { LeavesTheOthers D.told parts.old parts.new session (Hand.Desummarises desummarise.old) (stepped_in (Hand.Desummarises desummarise.new) result) }
+    ensures stays { StaysUndone D.told parts.old parts.new session (Hand.Desummarises desummarise.old) (stepped_in (Hand.Desummarises desummarise.new) result) }
+    ensures cause { HasCause D.told parts.old.pages parts.new.pages (stepped_in (Hand.Desummarises desummarise.new) result) }
     ensures survives { Survives D.told (λ passed. passed ≡ parts.old.pages.pages) parts.old.pages parts.new.pages }
 {
     a_desummarise_steps_in_its_table();
@@ -49,25 +49,25 @@ pub fn desummarise_on<D: Disk + Drop>(
         &mut parts.rights,
         session,
     ) {
-        Ok(Did::Moved(point)) => Stepped::Moved {
-            point,
-            hand: Hand::Desummarises(desummarise),
-        },
+        Ok(Did::Moved(point)) => Ok(Step::Moved(point)),
         Ok(Did::Finished(_)) => {
             parts.rights.give(table, session);
-            Stepped::Done(told(desummarise))
+            Ok(Step::Done(told(desummarise)))
         }
         Ok(Did::Blocked(held)) => {
             let what = page_waited_for(parts.pages.layout(), index, &held);
-            waits(Hand::Desummarises(desummarise), what, held.by)
+            Ok(Step::Blocked {
+                what,
+                holder: held.by,
+            })
         }
         Ok(Did::NoRight { by }) => {
             let what = lock_waited_for(parts.pages.layout(), table);
-            waits(Hand::Desummarises(desummarise), what, by)
+            Ok(Step::Blocked { what, holder: by })
         }
         Err(MachineFault::Store(error)) => {
             parts.locks.drop_all(session);
-            undone(Hand::Desummarises(desummarise), fault_of(error))
+            Err(fault_of(error))
         }
         Err(MachineFault::Full { .. }) => unreachable!(),
         Err(MachineFault::Memory) => unreachable!(),
@@ -75,8 +75,8 @@ pub fn desummarise_on<D: Disk + Drop>(
 }
 
 /// One range, if the desummarise took out its entry.
-fn told(desummarise: Desummarise) -> Reply
-    ensures { result ≡ Reply.Desummarized (desummarised_at desummarise.stage) }
+fn told(desummarise: &Desummarise) -> Reply
+    ensures { result ≡ Reply.Desummarized (desummarised_at desummarise.now.stage) }
 {
     Reply::Desummarized {
         count: desummarise.count(),

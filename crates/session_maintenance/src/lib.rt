@@ -6,7 +6,6 @@
 //! session_parts, which says which rows are dead, and on the machines of bitmap_scan, summarise_core, summarise_core and vacuum_core.
 #![tactic(auto)]
 
-mod answers;
 mod asker;
 mod cleaning;
 mod complete;

@@ -10,18 +10,18 @@ ghost use Rattle.page_locks.specs.LockHolders.{count_of, holder};
 ghost use Rattle.page_locks.specs.RightHolders.{right_of};
 ghost use Rattle.session_parts.specs.declared.limits.TheConstants.{LOCKS_A_SESSION, MAX_LOCKS};
 ghost use Rattle.session_parts.specs.StepAnswers.{HasCause};
+ghost use Rattle.session_parts.specs.StepIs.{stepped_in};
 ghost use Rattle.session_parts.specs.Stepping.{IsFit, IsShown, LeavesTheOthers, MakesItsStep, StaysFit, StaysUndone};
 ghost use Rattle.session_parts.specs.UndoneLaws.{StepsSo};
 ghost use Rattle.session_maintenance.specs.Askers.{hand_for};
 
-use crate::answers::{undone, waits};
-use crate::asker::{Asker, hand_for, told};
+use crate::asker::{Asker, told};
 use block_model::{Refusal, Reply};
 use disk_trait::Disk;
 use page_locks::Did;
 use page_map::MachineFault;
 use session_parts::{
-    Hand, Parts, Stepped, fault_of, index_named, lock_waited_for, page_waited_for,
+    Hand, Parts, Step, StoreFault, fault_of, index_named, lock_waited_for, page_waited_for,
 };
 use summarise_core::{
     Summarise, a_kept_table_takes_a_summarise, a_summarise_steps_in_its_table, table_of,
@@ -34,16 +34,16 @@ use transactions::other_pages_show_alike;
 pub fn summarise_on<D: Disk + Drop>(
     parts: &mut Parts<D>,
     session: u32,
-    summarise: Summarise,
-) -> Stepped
-    requires fit { IsFit D.told parts.old session (Hand.Summarises summarise) }
+    summarise: &mut Summarise,
+) -> Result<Step, StoreFault>
+    requires fit { IsFit D.told parts.old session (Hand.Summarises summarise.old) }
     requires few { count_of parts.old.locks + LOCKS_A_SESSION ≤ MAX_LOCKS }
-    requires shown { IsShown D.told parts.old session (Hand.Summarises summarise) }
-    ensures steps { MakesItsStep D.told parts.old parts.new session (Hand.Summarises summarise) result }
-    ensures fit { StaysFit D.told parts.old parts.new session (Hand.Summarises summarise) result }
-    ensures others { LeavesTheOthers D.told parts.old parts.new session (Hand.Summarises summarise) result }
-    ensures stays { StaysUndone D.told parts.old parts.new session (Hand.Summarises summarise) result }
-    ensures cause { HasCause D.told parts.old.pages parts.new.pages result }
+    requires shown { IsShown D.told parts.old session (Hand.Summarises summarise.old) }
+    ensures steps { MakesItsStep D.told parts.old parts.new session (Hand.Summarises summarise.old) (stepped_in (Hand.Summarises summarise.new) result) }
+    ensures fit { StaysFit D.told parts.old parts.new session (Hand.Summarises summarise.old) (stepped_in (Hand.Summarises summarise.new) result) }
+    ensures others { LeavesTheOthers D.told parts.old parts.new session (Hand.Summarises summarise.old) (stepped_in (Hand.Summarises summarise.new) result) }
+    ensures stays { StaysUndone D.told parts.old parts.new session (Hand.Summarises summarise.old) (stepped_in (Hand.Summarises summarise.new) result) }
+    ensures cause { HasCause D.told parts.old.pages parts.new.pages (stepped_in (Hand.Summarises summarise.new) result) }
     ensures survives { Survives D.told (λ passed. passed ≡ parts.old.pages.pages) parts.old.pages parts.new.pages }
 {
     summary_on(parts, session, Asker::Line, summarise)
@@ -55,12 +55,12 @@ pub(crate) fn summary_on<D: Disk + Drop>(
     parts: &mut Parts<D>,
     session: u32,
     asker: Asker,
-    mut summarise: Summarise,
-) -> Stepped
-    requires fit { IsFit D.told parts.old session (hand_for asker summarise) }
+    summarise: &mut Summarise,
+) -> Result<Step, StoreFault>
+    requires fit { IsFit D.told parts.old session (hand_for asker summarise.old) }
     requires few { count_of parts.old.locks + LOCKS_A_SESSION ≤ MAX_LOCKS }
-    requires shown { IsShown D.told parts.old session (hand_for asker summarise) }
-    ensures so { StepsSo D.told parts.old parts.new session (hand_for asker summarise) result }
+    requires shown { IsShown D.told parts.old session (hand_for asker summarise.old) }
+    ensures so { StepsSo D.told parts.old parts.new session (hand_for asker summarise.old) (stepped_in (hand_for asker summarise.new) result) }
     ensures survives { Survives D.told (λ passed. passed ≡ parts.old.pages.pages) parts.old.pages parts.new.pages }
 {
     a_summarise_steps_in_its_table();
@@ -68,7 +68,7 @@ pub(crate) fn summary_on<D: Disk + Drop>(
     other_pages_show_alike();
     match parts.pages.ready() {
         Ok(()) => {}
-        Err(error) => return undone(hand_for(asker, summarise), fault_of(error)),
+        Err(error) => return Err(fault_of(error)),
     }
     let index = summarise.index();
     let table = table_of(parts.pages.layout(), index);
@@ -78,28 +78,28 @@ pub(crate) fn summary_on<D: Disk + Drop>(
         &mut parts.rights,
         session,
     ) {
-        Ok(Did::Moved(point)) => Stepped::Moved {
-            point,
-            hand: hand_for(asker, summarise),
-        },
+        Ok(Did::Moved(point)) => Ok(Step::Moved(point)),
         Ok(Did::Finished(_)) => {
             parts.rights.give(table, session);
-            Stepped::Done(told(asker, parts.pages.layout(), &summarise))
+            Ok(Step::Done(told(asker, parts.pages.layout(), summarise)))
         }
         Ok(Did::Blocked(held)) => {
             let what = page_waited_for(parts.pages.layout(), index, &held);
-            waits(hand_for(asker, summarise), what, held.by)
+            Ok(Step::Blocked {
+                what,
+                holder: held.by,
+            })
         }
         Ok(Did::NoRight { by }) => {
             let what = lock_waited_for(parts.pages.layout(), table);
-            waits(hand_for(asker, summarise), what, by)
+            Ok(Step::Blocked { what, holder: by })
         }
         Err(MachineFault::Full { number, .. }) => {
-            Stepped::Done(refused(parts, session, index, table, number))
+            Ok(Step::Done(refused(parts, session, index, table, number)))
         }
         Err(MachineFault::Store(error)) => {
             parts.locks.drop_all(session);
-            undone(hand_for(asker, summarise), fault_of(error))
+            Err(fault_of(error))
         }
         Err(MachineFault::Memory) => unreachable!(),
     }

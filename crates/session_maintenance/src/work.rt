@@ -8,19 +8,19 @@ ghost use Rattle.page_locks.specs.RightHolders.{right_of};
 ghost use Rattle.summarise_core.specs.SummariseHands.{table_of};
 ghost use Rattle.session_parts.specs.declared.limits.TheConstants.{LOCKS_A_SESSION, MAX_LOCKS};
 ghost use Rattle.session_parts.specs.StepAnswers.{HasCause};
+ghost use Rattle.session_parts.specs.StepIs.{stepped_in};
 ghost use Rattle.session_parts.specs.Stepping.{IsFit, IsShown, LeavesTheOthers, MakesItsStep, StaysFit, StaysUndone};
 ghost use Rattle.session_parts.specs.UndoneLaws.{StepsSo};
 ghost use Rattle.session_maintenance.specs.FirstRequests.{IsFirstRequest, IsOfRange};
 
-use crate::answers::{undone, waits};
 use crate::asker::{Asker, told};
 use crate::first_request::{FirstRequest, first_request};
 use crate::summarise::{refused, summary_on};
-use block_model::{Refusal, Reply};
+use block_model::{Refusal, Reply, What};
 use disk_trait::Disk;
 use page_locks::{Did, Rights};
 use page_map::MachineFault;
-use session_parts::{Hand, Parts, Requested, Stepped, fault_of, lock_waited_for};
+use session_parts::{Hand, Parts, Requested, Step, Stepped, StoreFault, fault_of, lock_waited_for};
 use summarise_core::{Standing, Summarise, Wish, a_summarise_steps_in_its_table, table_of};
 use transactions::other_pages_show_alike;
 
@@ -50,19 +50,25 @@ pub fn begin_work<D: Disk + Drop>(parts: &mut Parts<D>, session: u32) -> Stepped
 
 /// A further step of work, at the range of its request, as a summarise makes it. With the last one it replies with the index, the range and
 /// how many ranges got a final tuple, and gives the lock.
-pub fn work_on<D: Disk + Drop>(parts: &mut Parts<D>, session: u32, requested: Requested) -> Stepped
-    requires fit { IsFit D.told parts.old session (Hand.Works requested) }
+pub fn work_on<D: Disk + Drop>(
+    parts: &mut Parts<D>,
+    session: u32,
+    requested: &mut Requested,
+) -> Result<Step, StoreFault>
+    requires fit { IsFit D.told parts.old session (Hand.Works requested.old) }
     requires few { count_of parts.old.locks + LOCKS_A_SESSION ≤ MAX_LOCKS }
-    requires shown { IsShown D.told parts.old session (Hand.Works requested) }
-    ensures steps { MakesItsStep D.told parts.old parts.new session (Hand.Works requested) result }
-    ensures fit { StaysFit D.told parts.old parts.new session (Hand.Works requested) result }
-    ensures others { LeavesTheOthers D.told parts.old parts.new session (Hand.Works requested) result }
-    ensures stays { StaysUndone D.told parts.old parts.new session (Hand.Works requested) result }
-    ensures cause { HasCause D.told parts.old.pages parts.new.pages result }
+    requires shown { IsShown D.told parts.old session (Hand.Works requested.old) }
+    ensures steps { MakesItsStep D.told parts.old parts.new session (Hand.Works requested.old) (stepped_in (Hand.Works requested.new) result) }
+    ensures fit { StaysFit D.told parts.old parts.new session (Hand.Works requested.old) (stepped_in (Hand.Works requested.new) result) }
+    ensures others { LeavesTheOthers D.told parts.old parts.new session (Hand.Works requested.old) (stepped_in (Hand.Works requested.new) result) }
+    ensures stays { StaysUndone D.told parts.old parts.new session (Hand.Works requested.old) (stepped_in (Hand.Works requested.new) result) }
+    ensures cause { HasCause D.told parts.old.pages parts.new.pages (stepped_in (Hand.Works requested.new) result) }
     ensures survives { Survives D.told (λ passed. passed ≡ parts.old.pages.pages) parts.old.pages parts.new.pages }
 {
-    let Requested { summarise, range } = requested;
-    summary_on(parts, session, Asker::Insert { range }, summarise)
+    let asker = Asker::Insert {
+        range: requested.range,
+    };
+    summary_on(parts, session, asker, &mut requested.summarise)
 }
 
 /// Work takes up the request, unless another session has the summarise lock of its table, or memory is short.
@@ -158,4 +164,18 @@ fn begin_summary<D: Disk + Drop>(
         }
         Err(MachineFault::Memory) => unreachable!(),
     }
+}
+
+/// It waits for what that session holds.
+fn waits(hand: Hand, what: What, holder: u32) -> Stepped
+    ensures { result ≡ Stepped.Blocked what holder hand }
+{
+    Stepped::Blocked { what, holder, hand }
+}
+
+/// It isn't done, and the statement stays in hand.
+fn undone(hand: Hand, fault: StoreFault) -> Stepped
+    ensures { result ≡ Stepped.Undone fault hand }
+{
+    Stepped::Undone { fault, hand }
 }

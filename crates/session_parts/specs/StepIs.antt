@@ -38,6 +38,13 @@ hand_after (stepped.Done reply) = None
 hand_after (stepped.Blocked what holder hand) = Some hand
 hand_after (stepped.Undone fault hand) = Some hand
 
+-- what came of a step of a statement that is stepped where it stands: the answer, and what is left of it there
+abbrev pub stepped_in : Hand → Result Step StoreFault → Stepped
+stepped_in hand (Ok (steps.Moved point)) = stepped.Moved point hand
+stepped_in hand (Ok (steps.Done reply)) = stepped.Done reply
+stepped_in hand (Ok (steps.Blocked what by)) = stepped.Blocked what by hand
+stepped_in hand (Err fault) = stepped.Undone fault hand
+
 -- where the disk tells its contents, and no disk fault was kept or comes, each place that is shown before leads so to one that is shown after
 abbrev pub LeadsOn : {D : Type 0} → (D → Told) → (old new : StoreState D) → (Place → Place → Type 0) → Type 0
 LeadsOn told old new P = Tells told old.pages → old.pages.failed ≡ None → new.pages.failed ≡ None → (p : Place) → ShowsPlace old p → (q : Place) × ShowsPlace new q × P p q

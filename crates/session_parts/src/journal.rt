@@ -4,7 +4,8 @@ ghost use Rattle.std.specs.Prelude.{◌≡◌, ◌+◌, ◌<◌, ◌≤◌, ◌�
 ghost use Rattle.store_layout.specs.StatementRequests.{tagged_entry};
 ghost use Rattle.store_layout.specs.declared.limits.TheConstants.{MAX_ENTRIES};
 
-use block_model::{Entry, NoMemory, Request, Tag};
+use block_model::{NoMemory, Request, Tag, Values};
+use packed_requests::{EntryReader, PackedEntries};
 use std::alloc::Global;
 use std::marker::Model;
 use store_layout::MAX_ENTRIES;
@@ -12,21 +13,21 @@ use store_layout::MAX_ENTRIES;
 /// The requests so far, in their order, and how many more are promised: for each of these there is room.
 #[derive(Drop)]
 pub struct Journal {
-    entries: Vec<Entry>,
+    entries: PackedEntries,
     promised: usize,
 }
 
 impl Model for Journal {
-    ghost use Rattle.std.specs.Prelude.{◌+◌, ◌≤◌, length, vec_capacity};
+    ghost use Rattle.std.specs.Prelude.{◌≤◌};
     ghost use Rattle.session_parts.specs.JournalState.{JournalState, coded_journal};
 
     ghost Value = { JournalState };
 
     ghost coded = { coded_journal };
 
-    ghost view = { λ a. record { entries = a.entries.items; promised = a.promised } };
+    ghost view = { λ a. record { entries = a.entries.entries; promised = a.promised } };
 
-    ghost invariant = { λ a. length a.entries.items + a.promised ≤ vec_capacity a.entries };
+    ghost invariant = { λ a. a.promised ≤ a.entries.room };
 }
 
 impl Journal {
@@ -36,7 +37,7 @@ impl Journal {
         ensures promised { result.promised ≡ 0 }
     {
         Journal {
-            entries: Vec::new(alloc),
+            entries: PackedEntries::new(alloc),
             promised: 0,
         }
     }
@@ -48,11 +49,11 @@ impl Journal {
         self.entries.len()
     }
 
-    /// The requests.
-    pub fn as_slice(&self) -> &[Entry]
-        ensures { result.now ≡ self.now.entries }
+    /// Reads the requests from the first on.
+    pub fn reader(&self) -> EntryReader<'_>
+        ensures { result ≡ self.now.entries }
     {
-        self.entries.as_slice()
+        self.entries.reader()
     }
 
     /// Whether so many more may be entered.
@@ -91,12 +92,17 @@ impl Journal {
         ensures entries { self.new.entries ≡ self.old.entries ++ tagged_entry session table request tag ∷ [] }
         ensures promised { self.new.promised + 1 ≡ self.old.promised }
     {
-        self.entries.push_reserved(Entry {
-            session,
-            table,
-            request,
-            tag,
-        });
+        self.entries.enter(session, table, request, tag);
+        self.promised -= 1;
+    }
+
+    /// Enters a put of these values, one of those that are promised. Takes no memory.
+    pub fn enter_put(&mut self, session: u32, table: u8, values: &Values, tag: Tag)
+        requires { 0 < self.old.promised }
+        ensures entries { self.new.entries ≡ self.old.entries ++ tagged_entry session table (Request.Put values.now) tag ∷ [] }
+        ensures promised { self.new.promised + 1 ≡ self.old.promised }
+    {
+        self.entries.enter_put(session, table, values, tag);
         self.promised -= 1;
     }
 }

@@ -54,6 +54,7 @@ pub use laws_tables::{
 pub use laws_undone::an_undone_step_changes_nothing;
 pub use limits::{DROPPED_A_SESSION, ENTRIES_A_BEGIN, LOCKS_A_SESSION, MAX_LOCKS};
 pub use names::{index_named, lock_waited_for, page_waited_for, spent, table_named};
+pub use packed_requests::EntryReader;
 pub use parts::Parts;
 pub use status_fronts::{
     a_begin_stands, a_start_stands, a_step_within_stands, an_end_stands, any_statuses_stand,

@@ -23,3 +23,4 @@ pub mod Machine
 pub mod Finished
 pub mod Mays
 pub mod Begun
+pub mod InPlace

@@ -28,7 +28,6 @@ use Rattle.bitmap_scan.specs.ScanHands.{IsHand}
 use Rattle.session_parts.specs.declared.faults.StoreFault.{StoreFault}
 use Rattle.session_parts.specs.declared.faults.StoreFault.TheVariants as stops
 use Rattle.session_parts.specs.declared.hand.Hand.{Hand}
-use Rattle.session_parts.specs.declared.hand.Stepped.{Stepped}
 use Rattle.session_parts.specs.declared.hand.Stepped.TheVariants as stepped
 use Rattle.session_parts.specs.declared.parts.Parts.{Parts}
 use Rattle.session_parts.specs.DamagedPages.{NamesAPage, next_names}
@@ -36,9 +35,12 @@ use Rattle.session_parts.specs.HandsInTables.{sight_of}
 use Rattle.session_parts.specs.StoreFaults.{fault_of}
 use Rattle.session_parts.specs.StoreStates.{ShownStore, shown_of, store_of}
 use Rattle.session_scans.specs.declared.looking.Looking.{Looking}
+use Rattle.session_scans.specs.declared.scanning.Scanned.{Scanned}
+use Rattle.session_scans.specs.declared.scanning.Scanned.TheVariants as scanned
 use Rattle.session_scans.specs.LookLaws.{LookLaws}
 use Rattle.session_scans.specs.Looks.{hand_before, scan_hand_of}
 use Rattle.session_scans.specs.ScanSteps.{MayScan, ScanStepsSo, parts_before}
+use Rattle.session_scans.specs.ScansInPlace.{DoesScan, RunsShort}
 use Rattle.session_scans.proofs.Frames.{promised_on}
 use Rattle.session_scans.proofs.Mays.{behind, may_still}
 use Rattle.session_scans.proofs.Short.{is_spent, its_open}
@@ -96,10 +98,6 @@ module _ {D : Type 0} (told : D → Told) (laws : LookLaws) (parts : Parts D) (n
   abbrev was : Hand
   was = hand_before looking scan scan.judging.stage
 
-  as_told : (answer other : Stepped) (new then : Parts D) → answer ≡ other → new ≡ then → ScanStepsSo told parts then n looking scan other → ScanStepsSo told parts new n looking scan answer
-  as_told answer other new then answer_is new_is so =
-      subst (λ (a : Stepped). ScanStepsSo told parts new n looking scan a) (sym answer_is) (subst (λ (x : Parts D). ScanStepsSo told parts x n looking scan other) (sym new_is) so)
-
   -- ---- before the step: what the scan remembers stands
 
   module _ (o : Open) (opened : transaction_of parts.transactions.opens n ≡ Some o) where
@@ -123,12 +121,11 @@ module _ {D : Type 0} (told : D → Told) (laws : LookLaws) (parts : Parts D) (n
     -- ---- it goes on
 
     pub goes_on : (o : Open) → transaction_of parts.transactions.opens n ≡ Some o → (after : FindHand) (point : Point) → DidScan told old pages o scan after (did.Moved point)
-        → (hand : Hand) → hand ≡ scan_hand_of looking after → ScanStepsSo told parts mid n looking scan (stepped.Moved point hand)
-    goes_on o opened after point made hand hand_is =
-        subst (λ (h : Hand). ScanStepsSo told parts mid n looking scan (stepped.Moved point h)) (sym hand_is)
-        (moved_so told laws old pages n looking scan may.fit may.find may.fresh o opened keeps parts.journal refl after point made
+        → ScanStepsSo told parts mid n looking scan (stepped.Moved point (scan_hand_of looking after))
+    goes_on o opened after point made =
+        moved_so told laws old pages n looking scan may.fit may.find may.fresh o opened keeps parts.journal refl after point made
         (promised_on (transaction_of parts.transactions.opens n) (Some was) (Some (scan_hand_of looking after)) parts.journal.promised old.journal.promised parts.journal.promised (scan_share scan.judging.stage)
-        (share_is looking scan scan.judging.stage) (promised_is scan.judging.stage parts.journal.promised may.promised) (ap (λ (k : ℕ). parts.journal.promised + k) (sym (scan_shares looking after)))))
+        (share_is looking scan scan.judging.stage) (promised_is scan.judging.stage parts.journal.promised may.promised) (ap (λ (k : ℕ). parts.journal.promised + k) (sym (scan_shares looking after))))
 
     -- what the look found of its next step
     pub next_then : (after : FindHand) → after ≡ scan → (does : Point → Did) → (Tells told parts.pages → NextIs parts.pages.layout parts.pages.pages scan does) → Tells told pages → NextIs pages.layout pages.pages after does
@@ -140,30 +137,39 @@ module _ {D : Type 0} (told : D → Told) (laws : LookLaws) (parts : Parts D) (n
 
     -- ---- it isn't made
 
-    module _ (after : FindHand) (same : after ≡ scan) (new : Parts D) (answer : Stepped) (fault : StoreFault) (answer_is : answer ≡ stepped.Undone fault (hand_before looking after after.judging.stage))
-        (new_is : new ≡ parts_before after.judging.stage mid) where
-      undone_is : (other : StoreFault) → fault ≡ other → answer ≡ stepped.Undone other was
-      undone_is other is = answer_is ∙ ap (λ (f : StoreFault). stepped.Undone f (hand_before looking after after.judging.stage)) is
-          ∙ ap (λ (x : FindHand). stepped.Undone other (hand_before looking x x.judging.stage)) same
-
-      parts_are : new ≡ parts_before scan.judging.stage mid
-      parts_are = new_is ∙ ap (λ (x : FindHand). parts_before x.judging.stage mid) same
+    module _ (fault : StoreFault) where
+      is_undone : (other : StoreFault) → fault ≡ other → ScanStepsSo told parts (parts_before scan.judging.stage mid) n looking scan (stepped.Undone other was)
+          → ScanStepsSo told parts (parts_before scan.judging.stage mid) n looking scan (stepped.Undone fault was)
+      is_undone other is so = subst (λ (f : StoreFault). ScanStepsSo told parts (parts_before scan.judging.stage mid) n looking scan (stepped.Undone f was)) (sym is) so
 
       -- the pages refuse it
       pub refused_by_pages : NotDamaged → IsHand scan.judging → (error : StoreError) → fault ≡ fault_of error
           → Refused told (Tells told parts.pages → IsDamagedAt parts.pages.layout parts.pages.pages scan.judging.indexes scan.judging.stage) parts.pages pages error → NamesAPage parts.pages.layout error
-          → ScanStepsSo told parts new n looking scan answer
+          → ScanStepsSo told parts (parts_before scan.judging.stage mid) n looking scan (stepped.Undone fault was)
       refused_by_pages law known error is refused names =
           let its : (o : Open) × (transaction_of parts.transactions.opens n ≡ Some o) = its_open told laws old n looking scan may.fit may.find may.fresh ready in
-          as_told answer (stepped.Undone (fault_of error) was) new (parts_before scan.judging.stage mid) (undone_is (fault_of error) is) parts_are
+          is_undone (fault_of error) is
           (undone_so told laws old pages n looking scan may.fit may.find may.fresh its.0 its.1 keeps law may.shown known error refused names)
 
       -- the journal lacks room for what it may enter
-      pub spent_there : MAX_ENTRIES < length parts.journal.entries + 1 → pages.failed ≡ None → fault ≡ stops.Spent (length parts.journal.entries) → ScanStepsSo told parts new n looking scan answer
+      pub spent_there : MAX_ENTRIES < length parts.journal.entries + 1 → pages.failed ≡ None → fault ≡ stops.Spent (length parts.journal.entries)
+          → ScanStepsSo told parts (parts_before scan.judging.stage mid) n looking scan (stepped.Undone fault was)
       spent_there full still is =
           let its_may = may_still told parts pages n looking scan keeps ready may in
-          behind told parts pages n looking scan keeps ready still new answer
-          (is_spent told laws (parts_before scan.judging.stage mid) n looking scan its_may.fit its_may.find its_may.fresh still full new answer (undone_is (stops.Spent (length parts.journal.entries)) is) parts_are)
+          is_undone (stops.Spent (length parts.journal.entries)) is
+          (behind told parts pages n looking scan keeps ready still (parts_before scan.judging.stage mid) (stepped.Undone (stops.Spent (length parts.journal.entries)) was)
+          (is_spent told laws (parts_before scan.judging.stage mid) n looking scan its_may.fit its_may.find its_may.fresh still full (parts_before scan.judging.stage mid)
+          (stepped.Undone (stops.Spent (length parts.journal.entries)) was) refl refl))
+
+    -- ---- memory is short for it
+
+    pub runs_short : (after : FindHand) → after ≡ scan → pages.failed ≡ None → RunsShort told parts mid n looking scan after
+    runs_short after same still = record {
+      same = same;
+      may = may_still told parts pages n looking scan keeps ready may;
+      ready = still;
+      so = λ answer then so. behind told parts pages n looking scan keeps ready still then answer so;
+    }
 
     -- ---- another call makes it
 
@@ -171,5 +177,17 @@ module _ {D : Type 0} (told : D → Told) (laws : LookLaws) (parts : Parts D) (n
       pub may_then : MayScan told mid n looking after
       may_then = subst (λ (x : FindHand). MayScan told mid n looking x) (sym same) (may_still told parts pages n looking scan keeps ready may)
 
-      pub made_behind : pages.failed ≡ None → (new : Parts D) (answer : Stepped) → ScanStepsSo told mid new n looking after answer → ScanStepsSo told parts new n looking scan answer
-      made_behind still new answer so = behind told parts pages n looking scan keeps ready still new answer (subst (λ (x : FindHand). ScanStepsSo told mid new n looking x answer) same so)
+      module _ (still : pages.failed ≡ None) (new : Parts D) (last : FindHand) where
+        does_so : (answer : Scanned) → DoesScan told mid new n looking scan last answer → DoesScan told parts new n looking scan last answer
+        does_so (scanned.Moved point) does = behind told parts pages n looking scan keeps ready still new (stepped.Moved point (scan_hand_of looking last)) does
+        does_so (scanned.Finished point) does = λ answer then finishes. behind told parts pages n looking scan keeps ready still then answer (does answer then finishes)
+        does_so scanned.Short does = record {
+          same = does.same;
+          may = does.may;
+          ready = does.ready;
+          so = λ answer then so. behind told parts pages n looking scan keeps ready still then answer (does.so answer then so);
+        }
+        does_so (scanned.Undone fault) does = (does.0, behind told parts pages n looking scan keeps ready still (parts_before scan.judging.stage new) (stepped.Undone fault was) does.1)
+
+        pub made_behind : (answer : Scanned) → DoesScan told mid new n looking after last answer → DoesScan told parts new n looking scan last answer
+        made_behind answer does = does_so answer (subst (λ (x : FindHand). DoesScan told mid new n looking x last answer) same does)

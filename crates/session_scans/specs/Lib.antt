@@ -3,3 +3,4 @@ pub mod FoundLists
 pub mod ScanSteps
 pub mod Finishes
 pub mod LookLaws
+pub mod ScansInPlace

@@ -6,17 +6,19 @@ ghost use Rattle.heap_rows.specs.Heaps.{slots_a_page};
 ghost use Rattle.tx_table.specs.Durable.{IsBefore};
 ghost use Rattle.bitmap_scan.specs.Finds.{first_find};
 ghost use Rattle.bitmap_scan.specs.ScanHands.{first_hand as judging_first};
+ghost use Rattle.session_parts.specs.StepIs.{stepped_in};
 ghost use Rattle.session_parts.specs.Stepping.{IsFit, IsShown};
 ghost use Rattle.session_parts.specs.UndoneLaws.{StepsSo};
-ghost use Rattle.session_scans.specs.Looks.{first_hand_of, scan_hand_of};
+ghost use Rattle.session_scans.specs.Looks.{IsInScan, first_hand_of};
 
+use crate::keeping::with_hand;
 use crate::looking::{Looking, first_hand, scan_hand};
 use crate::refusing::lacks_memory_at_once;
 use crate::scanning::scan_on;
 use bitmap_scan::Scan;
 use block_model::Query;
 use disk_trait::Disk;
-use session_parts::{Parts, Stepped, fault_of};
+use session_parts::{Hand, Parts, Step, Stepped, StoreFault, fault_of};
 
 /// The first step.
 pub(crate) fn begin<D: Disk + Drop>(
@@ -40,7 +42,11 @@ pub(crate) fn begin<D: Disk + Drop>(
         }
     }
     match scan_for(parts, query) {
-        Ok(scan) => scan_on(parts, session, scan, looking),
+        Ok(scan) => {
+            let mut hand = scan_hand(looking, scan);
+            let answer = scan_on(parts, session, &mut hand, looking);
+            with_hand(hand, answer)
+        }
         Err(query) => lacks_memory_at_once(parts, session, query, looking),
     }
 }
@@ -49,24 +55,20 @@ pub(crate) fn begin<D: Disk + Drop>(
 pub(crate) fn go_on<D: Disk + Drop>(
     parts: &mut Parts<D>,
     session: u32,
-    scan: Scan,
+    hand: &mut Hand,
     looking: Looking,
-) -> Stepped
-    requires fit { IsFit D.told parts.old session (scan_hand_of looking scan) }
-    requires shown { IsShown D.told parts.old session (scan_hand_of looking scan) }
-    ensures so { StepsSo D.told parts.old parts.new session (scan_hand_of looking scan) result }
+) -> Result<Step, StoreFault>
+    requires in_scan { IsInScan looking hand.old }
+    requires fit { IsFit D.told parts.old session hand.old }
+    requires shown { IsShown D.told parts.old session hand.old }
+    ensures so { StepsSo D.told parts.old parts.new session hand.old (stepped_in hand.new result) }
     ensures survives { Survives D.told (IsBefore parts.old.pages) parts.old.pages parts.new.pages }
 {
     match parts.pages.ready() {
         Ok(()) => {}
-        Err(error) => {
-            return Stepped::Undone {
-                fault: fault_of(error),
-                hand: scan_hand(looking, scan),
-            };
-        }
+        Err(error) => return Err(fault_of(error)),
     }
-    scan_on(parts, session, scan, looking)
+    scan_on(parts, session, hand, looking)
 }
 
 /// A scan before its first step, and one entry of the journal promised to it. `Err` is want of memory: the query comes back, and the parts are

@@ -1,20 +1,21 @@
 //! What comes of the last step of a scan.
 
-ghost use Rattle.std.specs.Prelude.{◌≡◌, ◌+◌, ◌<◌, ◌≤◌, IfOk, IsSome, OnErr, length};
+ghost use Rattle.std.specs.Prelude.{◌≡◌, ◌+◌, ◌<◌, ◌≤◌, IfOk, IsSome, Ok, OnErr, length};
 ghost use Rattle.block_model.specs.declared.reply.Point.{Point as AnyPoint};
 ghost use Rattle.snapshot_core.specs.StoredVersions.{transaction_of};
 ghost use Rattle.store_layout.specs.declared.limits.TheConstants.{MAX_ENTRIES};
+ghost use Rattle.session_parts.specs.declared.hand.Stepped.TheVariants as stepped;
+ghost use Rattle.session_parts.specs.StepIs.{stepped_in};
 ghost use Rattle.session_scans.specs.FoundLists.{ListsHits, ListsRows};
 ghost use Rattle.session_scans.specs.Finishes.{EntersLook, Finishes, Releases};
-ghost use Rattle.session_scans.specs.Looks.{first_hand_of};
+ghost use Rattle.session_scans.specs.Looks.{IsInScan, OfScan, first_hand_of};
 
 use crate::lists::{copy_of, hits_of, rows_of, sort_by_id};
-use crate::looking::{Looking, first_hand};
+use crate::looking::{Looking, first_hand, put, taken};
 use crate::refusing::refuse_look;
-use bitmap_scan::Scan;
 use block_model::{NoMemory, Point, Query, Reply, Request, Row, Rows, Spot, Tag};
 use disk_trait::Disk;
-use session_parts::{Hand, Hit, Marking, Parts, Stepped, StoreFault, spent};
+use session_parts::{Hand, Hit, Marking, Parts, Step, StoreFault, spent};
 use std::alloc::Global;
 
 /// The scan has made its last step, at this point: a select tells the rows that it found, and a delete goes on to mark them. Only where the disk
@@ -22,35 +23,41 @@ use std::alloc::Global;
 pub(crate) fn finish<D: Disk + Drop>(
     parts: &mut Parts<D>,
     session: u32,
-    scan: Scan,
+    hand: &mut Hand,
     point: Point,
     looking: Looking,
-) -> Stepped
+) -> Result<Step, StoreFault>
     requires promised { 2 ≤ parts.old.journal.promised }
     requires open { IsSome (transaction_of parts.old.transactions.opens session) }
-    ensures { Finishes parts.old session looking scan.judging.query scan.found point result parts.new }
+    requires in_scan { IsInScan looking hand.old }
+    ensures { OfScan looking hand.old (λ scan. Finishes parts.old session looking scan.judging.query scan.found point (stepped_in hand.new result) parts.new) }
 {
-    let (query, found) = scan.into_parts();
+    let (query, found) = taken(hand).into_parts();
     if !parts.journal.fits(1) {
-        return begin_anew(parts, query, looking);
+        return Err(begin_anew(parts, hand, query, looking));
     }
     match looking {
-        Looking::Select => tell_rows(parts, session, query, found),
-        Looking::Delete => mark_rows(parts, session, query, found, point),
+        Looking::Select => Ok(Step::Done(tell_rows(parts, session, query, found))),
+        Looking::Delete => Ok(mark_rows(parts, session, hand, query, found, point)),
     }
 }
 
 /// The statement is before its first step again, and what the journal promised to its scan isn't needed.
-fn begin_anew<D: Disk + Drop>(parts: &mut Parts<D>, query: Query, looking: Looking) -> Stepped
+fn begin_anew<D: Disk + Drop>(
+    parts: &mut Parts<D>,
+    hand: &mut Hand,
+    query: Query,
+    looking: Looking,
+) -> StoreFault
+    requires taken { hand.old ≡ Hand.Working }
     requires promised { 0 < parts.old.journal.promised }
-    ensures answer { result ≡ Stepped.Undone (StoreFault.Spent (length parts.old.journal.entries)) (first_hand_of looking query) }
+    ensures answer { result ≡ StoreFault.Spent (length parts.old.journal.entries) }
+    ensures hand { hand.new ≡ first_hand_of looking query }
     ensures released { Releases parts.old parts.new }
 {
     parts.journal.release(1);
-    Stepped::Undone {
-        fault: spent(&parts.journal),
-        hand: first_hand(looking, query),
-    }
+    put(hand, first_hand(looking, query));
+    spent(&parts.journal)
 }
 
 /// The look is entered, and the rows are told in order of their ids; unless memory is short for that.
@@ -59,16 +66,16 @@ fn tell_rows<D: Disk + Drop>(
     session: u32,
     query: Query,
     found: Vec<(Row, Spot)>,
-) -> Stepped
+) -> Reply
     requires promised { 2 ≤ parts.old.journal.promised }
     requires open { IsSome (transaction_of parts.old.transactions.opens session) }
     requires room { length parts.old.journal.entries + 1 ≤ MAX_ENTRIES }
-    ensures { (point : AnyPoint) → Finishes parts.old session Looking.Select query found.items point result parts.new }
+    ensures { (point : AnyPoint) → Finishes parts.old session Looking.Select query found.items point (stepped.Done result) parts.new }
 {
     match rows_in_order(parts.alloc, found) {
         Ok(rows) => {
             enter_look(parts, session, query);
-            Stepped::Done(Reply::Found(rows))
+            Reply::Found(rows)
         }
         Err(_) => {
             parts.journal.release(1);
@@ -81,32 +88,35 @@ fn tell_rows<D: Disk + Drop>(
 fn mark_rows<D: Disk + Drop>(
     parts: &mut Parts<D>,
     session: u32,
+    hand: &mut Hand,
     query: Query,
     found: Vec<(Row, Spot)>,
     point: Point,
-) -> Stepped
+) -> Step
+    requires taken { hand.old ≡ Hand.Working }
     requires promised { 2 ≤ parts.old.journal.promised }
     requires open { IsSome (transaction_of parts.old.transactions.opens session) }
     requires room { length parts.old.journal.entries + 1 ≤ MAX_ENTRIES }
-    ensures { Finishes parts.old session Looking.Delete query found.items point result parts.new }
+    ensures { Finishes parts.old session Looking.Delete query found.items point (stepped_in hand.new (Ok result)) parts.new }
 {
     if found.is_empty() {
         enter_look(parts, session, query);
-        return Stepped::Done(Reply::Deleted { count: 0 });
+        return Step::Done(Reply::Deleted { count: 0 });
     }
     match hits_for(parts, &query, found) {
-        Ok((look, hits)) => Stepped::Moved {
-            point,
-            hand: Hand::Marks(Marking {
+        Ok((look, hits)) => {
+            let marking = Marking {
                 query,
                 look: Some(look),
                 hits,
                 next: 0,
-            }),
-        },
+            };
+            put(hand, Hand::Marks(marking));
+            Step::Moved(point)
+        }
         Err(_) => {
             parts.journal.release(1);
-            refuse_look(parts, session, query)
+            Step::Done(refuse_look(parts, session, query))
         }
     }
 }

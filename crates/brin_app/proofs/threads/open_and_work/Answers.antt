@@ -1,4 +1,4 @@
-use Rattle.std.proofs.Common.{◌≡◌, ℕ, arith, subst, sym, ◌∙◌, inr}
+use Rattle.std.proofs.Common.{ℕ, arith, subst, ◌∙◌, inr}
 use Rattle.block_model.specs.Causes.{Rose}
 use Rattle.brin_app.specs.declared.top.Task.TheVariants.{ThreadsStored}
 use Rattle.brin_app.proofs.Doing.{its_layout, its_opening, refused_done}

@@ -1,7 +1,7 @@
-use Rattle.std.proofs.Common.{◌≡◌, ℕ, arith, subst, sym, ◌∙◌, inl, inr}
+use Rattle.std.proofs.Common.{ℕ, arith, subst, sym, ◌∙◌, inl, inr}
 use Rattle.block_model.specs.Causes.{Rose}
 use Rattle.block_model.specs.DatabaseState.{initial_state}
-use Rattle.brin_app.specs.declared.top.Task.TheVariants.{Run, Threads}
+use Rattle.brin_app.specs.declared.top.Task.TheVariants.{Threads}
 use Rattle.brin_app.proofs.Doing.{fresh_image, fresh_start, held, new_done, refused_done, refused_fresh, unfit_done}
 use Rattle.brin_app.proofs.Threading.{as_new, done_as_answered, new_refused, new_worked, not_opened, opened_new, unfit_worked, worked_as_answered}
 use Rattle.brin_app.proofs.threads.run_new_threads.Goals as goal

@@ -1,5 +1,4 @@
 use Rattle.std.proofs.Common.{refl}
-use Rattle.disk_trait.specs.Memory.{told_by_memory}
 use Rattle.brin_app.proofs.Holding.{run_only}
 use Rattle.rerun.proofs.turns.run_over.Goals as goal
 

@@ -81,8 +81,11 @@ enter_row-requires-in-Ok-Finished-clause-promised g c = c.requires.promised
 pub enter_row-requires-in-Ok-Finished-clause-number : goal.enter_row-requires-in-Ok-Finished-clause-number
 enter_row-requires-in-Ok-Finished-clause-number g c = c.requires.number
 
-pub goes_on-requires : goal.goes_on-requires
-goes_on-requires g c = refl
+pub goes_on-requires-clause-spare : goal.goes_on-requires-clause-spare
+goes_on-requires-clause-spare g c = refl
+
+pub goes_on-requires-clause-left : goal.goes_on-requires-clause-left
+goes_on-requires-clause-left g c = c.requires.left
 
 pub unreachable-requires-in-Ok-Blocked : goal.unreachable-requires-in-Ok-Blocked
 unreachable-requires-in-Ok-Blocked g c =

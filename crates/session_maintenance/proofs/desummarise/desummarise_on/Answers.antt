@@ -9,7 +9,6 @@ use Rattle.index_steps.specs.ShownTable.{indexes_of}
 use Rattle.script_semantics.specs.Names.{index_name, table_name}
 use Rattle.summarise_core.specs.Desummarises.{RightAnswers}
 use Rattle.session_parts.specs.declared.hand.Hand.TheVariants as hands
-use Rattle.session_parts.specs.declared.hand.Stepped.{Stepped}
 use Rattle.session_parts.specs.declared.hand.Stepped.TheVariants as stepped
 use Rattle.session_parts.specs.declared.faults.StoreFault.{StoreFault}
 use Rattle.session_parts.specs.DamagedPages.{index_names}
@@ -27,25 +26,25 @@ use Rattle.session_maintenance.proofs.desummarise.desummarise_on.Goals as goal
 pub table_of-table-requires : goal.table_of-table-requires
 table_of-table-requires g c =
     let parts = c.args.parts.now in
-    let fits = fit_of_parts g.D.Disk.told parts c.args.session (hands.Desummarises c.args.desummarise) c.requires.fit in
-    of_same (λ (l : DiskLayout) (i : ℕ). i < length l.schema.indexes) c.layout.result.now parts.pages.layout (sym c.layout.ensures) c.index-index.result c.args.desummarise.index (sym c.index-index.ensures) fits.in_hand.0.index
+    let fits = fit_of_parts g.D.Disk.told parts c.args.session (hands.Desummarises c.args.desummarise.now) c.requires.fit in
+    of_same (λ (l : DiskLayout) (i : ℕ). i < length l.schema.indexes) c.layout.result.now parts.pages.layout (sym c.layout.ensures) c.index-index.result c.args.desummarise.now.index (sym c.index-index.ensures) fits.in_hand.0.index
 
 pub step-requires-clause-of : goal.step-requires-clause-of
-step-requires-clause-of g c = (fit_of_parts g.D.Disk.told c.args.parts.now c.args.session (hands.Desummarises c.args.desummarise) c.requires.fit).in_hand.0
+step-requires-clause-of g c = (fit_of_parts g.D.Disk.told c.args.parts.now c.args.session (hands.Desummarises c.args.desummarise.now) c.requires.fit).in_hand.0
 
 pub step-requires-clause-left : goal.step-requires-clause-left
-step-requires-clause-left g c = (fit_of_parts g.D.Disk.told c.args.parts.now c.args.session (hands.Desummarises c.args.desummarise) c.requires.fit).in_hand.1
+step-requires-clause-left g c = (fit_of_parts g.D.Disk.told c.args.parts.now c.args.session (hands.Desummarises c.args.desummarise.now) c.requires.fit).in_hand.1
 
 pub step-requires-clause-rights : goal.step-requires-clause-rights
 step-requires-clause-rights g c =
-    let as_many = (fit_of_parts g.D.Disk.told c.args.parts.now c.args.session (hands.Desummarises c.args.desummarise) c.requires.fit).rights in
+    let as_many = (fit_of_parts g.D.Disk.told c.args.parts.now c.args.session (hands.Desummarises c.args.desummarise.now) c.requires.fit).rights in
     omega (arith, as_many)
 
 pub step-requires-clause-locks : goal.step-requires-clause-locks
 step-requires-clause-locks g c = λ some.
     let few = c.requires.few in
-    let limit = (fit_of_parts g.D.Disk.told c.args.parts.now c.args.session (hands.Desummarises c.args.desummarise) c.requires.fit).limit in
-    let takes = desummarise_takes c.args.desummarise in
+    let limit = (fit_of_parts g.D.Disk.told c.args.parts.now c.args.session (hands.Desummarises c.args.desummarise.now) c.requires.fit).limit in
+    let takes = desummarise_takes c.args.desummarise.now in
     omega (arith, few, limit, takes)
 
 -- it goes on
@@ -56,9 +55,9 @@ returns-in-Ok-Moved g c =
     let parts = c.args.parts.now in
     let e = c.step.ensures in
     let outcome = c.in-Ok-Moved.ensures.outcome in
-    let fits = fit_of_parts told parts c.args.session (hands.Desummarises c.args.desummarise) c.requires.fit in
-    let below = table_below parts.pages.layout c.layout.result.now c.layout.ensures c.args.desummarise.index c.index-index.result c.index-index.ensures c.table_of-table.result c.table_of-table.ensures.number c.table_of-table.ensures.there in
-    let so = moved told parts c.args.session c.args.desummarise c.requires.fit below c.step.new.pages c.step.new.locks c.step.new.self
+    let fits = fit_of_parts told parts c.args.session (hands.Desummarises c.args.desummarise.now) c.requires.fit in
+    let below = table_below parts.pages.layout c.layout.result.now c.layout.ensures c.args.desummarise.now.index c.index-index.result c.index-index.ensures c.table_of-table.result c.table_of-table.ensures.number c.table_of-table.ensures.there in
+    let so = moved told parts c.args.session c.args.desummarise.now c.requires.fit below c.step.new.pages c.step.new.locks c.step.new.self
     (record { of = e.of; index = e.same_index; block = e.same_block; others = e.others; order = e.order; leaves = e.locks; counts = e.counts })
     c.a_desummarise_steps_in_its_table.ensures.steps c.other_pages_show_alike.ensures c.step.new.rights c.in-Ok-Moved.point (rw c.in-Ok-Moved.field-0-is at c.in-Ok-Moved.ensures.does)
     (rw c.in-Ok-Moved.field-0-is at c.in-Ok-Moved.ensures.stands) (c.in-Ok-Moved.ensures.own fits.own) (rw c.in-Ok-Moved.field-0-is at c.in-Ok-Moved.ensures.right) (outcome.0, outcome.1) in
@@ -69,14 +68,14 @@ returns-in-Ok-Moved g c =
 pub give-requires : goal.give-requires
 give-requires g c =
     let parts = c.args.parts.now in
-    let fits = fit_of_parts g.D.Disk.told parts c.args.session (hands.Desummarises c.args.desummarise) c.requires.fit in
+    let fits = fit_of_parts g.D.Disk.told parts c.args.session (hands.Desummarises c.args.desummarise.now) c.requires.fit in
     let as_many = fits.rights in
     let below = c.table_of-table.ensures.there in
     let same = ap (λ (l : DiskLayout). length l.schema.tables) c.layout.ensures in
     let right = rw c.in-Ok-Finished.field-0-is at c.in-Ok-Finished.ensures.right in
-    let left = right_left c.table_of-table.result c.args.session parts.rights c.step.new.rights c.args.desummarise.stage (did.Finished c.in-Ok-Finished.field-0-0) (omega (arith, as_many, below, same))
-    (subst (λ (t : ℕ). RightAnswers t c.args.session parts.rights c.step.new.rights c.args.desummarise.stage (did.Finished c.in-Ok-Finished.field-0-0))
-    (sym (table_is parts.pages.layout c.layout.result.now c.layout.ensures c.args.desummarise.index c.index-index.result c.index-index.ensures c.table_of-table.result c.table_of-table.ensures.number)) right) in
+    let left = right_left c.table_of-table.result c.args.session parts.rights c.step.new.rights c.args.desummarise.now.stage (did.Finished c.in-Ok-Finished.field-0-0) (omega (arith, as_many, below, same))
+    (subst (λ (t : ℕ). RightAnswers t c.args.session parts.rights c.step.new.rights c.args.desummarise.now.stage (did.Finished c.in-Ok-Finished.field-0-0))
+    (sym (table_is parts.pages.layout c.layout.result.now c.layout.ensures c.args.desummarise.now.index c.index-index.result c.index-index.ensures c.table_of-table.result c.table_of-table.ensures.number)) right) in
     let kept = left.tables in
     omega (arith, as_many, below, same, kept)
 
@@ -84,15 +83,14 @@ pub returns-in-Ok-Finished : goal.returns-in-Ok-Finished
 returns-in-Ok-Finished g c =
     let told = g.D.Disk.told in
     let parts = c.args.parts.now in
-    let hand = hands.Desummarises c.args.desummarise in
+    let hand = hands.Desummarises c.args.desummarise.now in
     let e = c.step.ensures in
     let outcome = c.in-Ok-Finished.ensures.outcome in
     let fits = fit_of_parts told parts c.args.session hand c.requires.fit in
-    let number = table_is parts.pages.layout c.layout.result.now c.layout.ensures c.args.desummarise.index c.index-index.result c.index-index.ensures c.table_of-table.result c.table_of-table.ensures.number in
-    let below = table_below parts.pages.layout c.layout.result.now c.layout.ensures c.args.desummarise.index c.index-index.result c.index-index.ensures c.table_of-table.result c.table_of-table.ensures.number c.table_of-table.ensures.there in
-    let so : StepsSo told parts (with_these parts c.step.new.pages c.step.new.locks c.give.new.self) c.args.session hand (stepped.Done c.told.result) =
-    subst (λ (r : Reply). StepsSo told parts (with_these parts c.step.new.pages c.step.new.locks c.give.new.self) c.args.session hand (stepped.Done r)) (sym c.told.ensures)
-    (done told parts c.args.session c.args.desummarise c.requires.fit below c.step.new.pages c.step.new.locks c.step.new.self
+    let number = table_is parts.pages.layout c.layout.result.now c.layout.ensures c.args.desummarise.now.index c.index-index.result c.index-index.ensures c.table_of-table.result c.table_of-table.ensures.number in
+    let below = table_below parts.pages.layout c.layout.result.now c.layout.ensures c.args.desummarise.now.index c.index-index.result c.index-index.ensures c.table_of-table.result c.table_of-table.ensures.number c.table_of-table.ensures.there in
+    let so = subst (λ (r : Reply). StepsSo told parts (with_these parts c.step.new.pages c.step.new.locks c.give.new.self) c.args.session hand (stepped.Done r)) (sym c.told.ensures)
+    (done told parts c.args.session c.args.desummarise.now c.requires.fit below c.step.new.pages c.step.new.locks c.step.new.self
     (record { of = e.of; index = e.same_index; block = e.same_block; others = e.others; order = e.order; leaves = e.locks; counts = e.counts })
     c.a_desummarise_steps_in_its_table.ensures.steps c.other_pages_show_alike.ensures c.step.new.rights c.give.new.self c.in-Ok-Finished.field-0-0 (rw c.in-Ok-Finished.field-0-is at c.in-Ok-Finished.ensures.does)
     (rw c.in-Ok-Finished.field-0-is at c.in-Ok-Finished.ensures.stands) (c.in-Ok-Finished.ensures.own fits.own) (rw c.in-Ok-Finished.field-0-is at c.in-Ok-Finished.ensures.right) (outcome.0, outcome.1)
@@ -105,29 +103,27 @@ returns-in-Ok-Finished g c =
 pub page_waited_for-what-requires : goal.page_waited_for-what-requires
 page_waited_for-what-requires g c =
     let parts = c.args.parts.now in
-    let fits = fit_of_parts g.D.Disk.told parts c.args.session (hands.Desummarises c.args.desummarise) c.requires.fit in
+    let fits = fit_of_parts g.D.Disk.told parts c.args.session (hands.Desummarises c.args.desummarise.now) c.requires.fit in
     of_same (λ (l : DiskLayout) (i : ℕ). i < length l.schema.indexes) c.layout-in-Ok-Blocked.result.now parts.pages.layout (sym (c.layout-in-Ok-Blocked.ensures ∙ c.step.ensures.others.leaves.layout))
-    c.index-index.result c.args.desummarise.index (sym c.index-index.ensures) fits.in_hand.0.index
+    c.index-index.result c.args.desummarise.now.index (sym c.index-index.ensures) fits.in_hand.0.index
 
 pub returns-in-Ok-Blocked : goal.returns-in-Ok-Blocked
 returns-in-Ok-Blocked g c =
     let told = g.D.Disk.told in
     let parts = c.args.parts.now in
-    let hand = hands.Desummarises c.args.desummarise in
+    let hand = hands.Desummarises c.args.desummarise.now in
     let e = c.step.ensures in
     let outcome = c.in-Ok-Blocked.ensures.outcome in
     let fits = fit_of_parts told parts c.args.session hand c.requires.fit in
-    let below = table_below parts.pages.layout c.layout.result.now c.layout.ensures c.args.desummarise.index c.index-index.result c.index-index.ensures c.table_of-table.result c.table_of-table.ensures.number c.table_of-table.ensures.there in
+    let below = table_below parts.pages.layout c.layout.result.now c.layout.ensures c.args.desummarise.now.index c.index-index.result c.index-index.ensures c.table_of-table.result c.table_of-table.ensures.number c.table_of-table.ensures.there in
     let what = c.page_waited_for-what.result in
-    let so : StepsSo told parts (with_these parts c.step.new.pages c.step.new.locks c.step.new.rights) c.args.session hand c.waits.result =
-    subst (λ (a : Stepped). StepsSo told parts (with_these parts c.step.new.pages c.step.new.locks c.step.new.rights) c.args.session hand a) (sym c.waits.ensures)
-    (waits_there told parts c.args.session c.args.desummarise c.requires.fit below c.step.new.pages c.step.new.locks c.step.new.self
+    let so = waits_there told parts c.args.session c.args.desummarise.now c.requires.fit below c.step.new.pages c.step.new.locks c.step.new.self
     (record { of = e.of; index = e.same_index; block = e.same_block; others = e.others; order = e.order; leaves = e.locks; counts = e.counts })
     c.a_desummarise_steps_in_its_table.ensures.steps c.other_pages_show_alike.ensures c.step.new.rights c.in-Ok-Blocked.held (rw c.in-Ok-Blocked.field-0-is at c.in-Ok-Blocked.ensures.does)
     (rw c.in-Ok-Blocked.field-0-is at c.in-Ok-Blocked.ensures.stands) (rw c.in-Ok-Blocked.field-0-is at c.in-Ok-Blocked.ensures.blocked) (c.in-Ok-Blocked.ensures.own fits.own)
     (rw c.in-Ok-Blocked.field-0-is at c.in-Ok-Blocked.ensures.right) (outcome.0, outcome.1) what
     (of_same (λ (l : DiskLayout) (i : ℕ). (table at : ℕ) → slice_get (indexes_of l table) at ≡ Some i → what ≡ whats.Page (index_name l table at) c.in-Ok-Blocked.held.page.block)
-    parts.pages.layout c.layout-in-Ok-Blocked.result.now (c.layout-in-Ok-Blocked.ensures ∙ e.others.leaves.layout) c.args.desummarise.index c.index-index.result c.index-index.ensures c.page_waited_for-what.ensures.among)) in
+    parts.pages.layout c.layout-in-Ok-Blocked.result.now (c.layout-in-Ok-Blocked.ensures ∙ e.others.leaves.layout) c.args.desummarise.now.index c.index-index.result c.index-index.ensures c.page_waited_for-what.ensures.among) in
     record { steps = so.steps; fit = so.fit; others = so.others; stays = so.stays; cause = so.cause; survives = e.survives }
 
 pub lock_waited_for-what-requires : goal.lock_waited_for-what-requires
@@ -138,22 +134,20 @@ pub returns-in-Ok-NoRight : goal.returns-in-Ok-NoRight
 returns-in-Ok-NoRight g c =
     let told = g.D.Disk.told in
     let parts = c.args.parts.now in
-    let hand = hands.Desummarises c.args.desummarise in
+    let hand = hands.Desummarises c.args.desummarise.now in
     let e = c.step.ensures in
     let outcome = c.in-Ok-NoRight.ensures.outcome in
     let fits = fit_of_parts told parts c.args.session hand c.requires.fit in
-    let number = table_is parts.pages.layout c.layout.result.now c.layout.ensures c.args.desummarise.index c.index-index.result c.index-index.ensures c.table_of-table.result c.table_of-table.ensures.number in
-    let below = table_below parts.pages.layout c.layout.result.now c.layout.ensures c.args.desummarise.index c.index-index.result c.index-index.ensures c.table_of-table.result c.table_of-table.ensures.number c.table_of-table.ensures.there in
+    let number = table_is parts.pages.layout c.layout.result.now c.layout.ensures c.args.desummarise.now.index c.index-index.result c.index-index.ensures c.table_of-table.result c.table_of-table.ensures.number in
+    let below = table_below parts.pages.layout c.layout.result.now c.layout.ensures c.args.desummarise.now.index c.index-index.result c.index-index.ensures c.table_of-table.result c.table_of-table.ensures.number c.table_of-table.ensures.there in
     let what = c.lock_waited_for-what.result in
-    let so : StepsSo told parts (with_these parts c.step.new.pages c.step.new.locks c.step.new.rights) c.args.session hand c.waits-in-Ok-NoRight.result =
-    subst (λ (a : Stepped). StepsSo told parts (with_these parts c.step.new.pages c.step.new.locks c.step.new.rights) c.args.session hand a) (sym c.waits-in-Ok-NoRight.ensures)
-    (lacks_right told parts c.args.session c.args.desummarise c.requires.fit below c.step.new.pages c.step.new.locks c.step.new.self
+    let so = lacks_right told parts c.args.session c.args.desummarise.now c.requires.fit below c.step.new.pages c.step.new.locks c.step.new.self
     (record { of = e.of; index = e.same_index; block = e.same_block; others = e.others; order = e.order; leaves = e.locks; counts = e.counts })
     c.a_desummarise_steps_in_its_table.ensures.steps c.other_pages_show_alike.ensures c.step.new.rights c.in-Ok-NoRight.by (rw c.in-Ok-NoRight.field-0-is at c.in-Ok-NoRight.ensures.does)
     (rw c.in-Ok-NoRight.field-0-is at c.in-Ok-NoRight.ensures.stands) (rw c.in-Ok-NoRight.field-0-is at c.in-Ok-NoRight.ensures.no_right) (c.in-Ok-NoRight.ensures.own fits.own)
     (rw c.in-Ok-NoRight.field-0-is at c.in-Ok-NoRight.ensures.right) (outcome.0, outcome.1) what
     (subst (λ (t : ℕ). what ≡ whats.Work (table_name parts.pages.layout t)) number
-    (subst (λ (l : DiskLayout). what ≡ whats.Work (table_name l c.table_of-table.result)) (c.layout-in-Ok-NoRight.ensures ∙ e.others.leaves.layout) c.lock_waited_for-what.ensures))) in
+    (subst (λ (l : DiskLayout). what ≡ whats.Work (table_name l c.table_of-table.result)) (c.layout-in-Ok-NoRight.ensures ∙ e.others.leaves.layout) c.lock_waited_for-what.ensures)) in
     record { steps = so.steps; fit = so.fit; others = so.others; stays = so.stays; cause = so.cause; survives = e.survives }
 
 -- the pages refuse it
@@ -162,19 +156,16 @@ pub returns-in-Err-Store : goal.returns-in-Err-Store
 returns-in-Err-Store g c =
     let told = g.D.Disk.told in
     let parts = c.args.parts.now in
-    let hand = hands.Desummarises c.args.desummarise in
+    let hand = hands.Desummarises c.args.desummarise.now in
     let e = c.step.ensures in
-    let below = table_below parts.pages.layout c.layout.result.now c.layout.ensures c.args.desummarise.index c.index-index.result c.index-index.ensures c.table_of-table.result c.table_of-table.ensures.number c.table_of-table.ensures.there in
-    let is : c.undone.result ≡ stepped.Undone (fault_of c.in-Err-Store.error) (hands.Desummarises c.step.new.self) =
-    c.undone.ensures ∙ ap (λ (f : StoreFault). stepped.Undone f (hands.Desummarises c.step.new.self)) c.fault_of.ensures in
-    let so : StepsSo told parts (with_these parts c.step.new.pages c.drop_all.new.self c.step.new.rights) c.args.session hand c.undone.result =
-    subst (λ (a : Stepped). StepsSo told parts (with_these parts c.step.new.pages c.drop_all.new.self c.step.new.rights) c.args.session hand a) (sym is)
+    let below = table_below parts.pages.layout c.layout.result.now c.layout.ensures c.args.desummarise.now.index c.index-index.result c.index-index.ensures c.table_of-table.result c.table_of-table.ensures.number c.table_of-table.ensures.there in
+    let so = subst (λ (f : StoreFault). StepsSo told parts (with_these parts c.step.new.pages c.drop_all.new.self c.step.new.rights) c.args.session hand (stepped.Undone f (hands.Desummarises c.step.new.self))) (sym c.fault_of.ensures)
     (subst (λ (r : List (Option ℕ)). StepsSo told parts (with_these parts c.step.new.pages c.drop_all.new.self r) c.args.session hand (stepped.Undone (fault_of c.in-Err-Store.error) (hands.Desummarises c.step.new.self)))
     (sym c.in-Err-Store.ensures.rights)
-    (refused told parts c.args.session c.args.desummarise c.requires.fit below c.requires.shown c.a_kept_table_takes_a_desummarise.ensures c.step.new.pages c.step.new.locks c.drop_all.new.self c.step.new.self
+    (refused told parts c.args.session c.args.desummarise.now c.requires.fit below c.requires.shown c.a_kept_table_takes_a_desummarise.ensures c.step.new.pages c.step.new.locks c.drop_all.new.self c.step.new.self
     (record { of = e.of; index = e.same_index; block = e.same_block; others = e.others; order = e.order; leaves = e.locks; counts = e.counts })
     c.in-Err-Store.ensures.stays c.drop_all.ensures.limit c.drop_all.ensures.none (λ m other. c.drop_all.ensures.counts.others m other) c.in-Err-Store.error (rw c.in-Err-Store.field-0-is at c.in-Err-Store.ensures.outcome)
-    (index_names parts.pages.layout c.args.desummarise.index c.in-Err-Store.error (rw c.in-Err-Store.field-0-is at c.in-Err-Store.ensures.at)))) in
+    (index_names parts.pages.layout c.args.desummarise.now.index c.in-Err-Store.error (rw c.in-Err-Store.field-0-is at c.in-Err-Store.ensures.at)))) in
     record { steps = so.steps; fit = so.fit; others = so.others; stays = so.stays; cause = so.cause; survives = e.survives }
 
 -- it lacks neither a page nor memory

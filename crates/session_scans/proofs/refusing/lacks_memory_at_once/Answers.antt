@@ -24,5 +24,5 @@ returns-clause-so g c =
     let parts = c.args.parts.now in
     let scan = before_first g.D.Disk.told parts c.args.session c.args.looking c.args.query c.requires.fit in
     short_refused g.D.Disk.told c.laws_of_looks.ensures parts c.args.session c.args.looking scan c.requires.fit (is_find g.D.Disk.told parts c.args.session c.args.looking c.args.query c.requires.fit)
-    (λ is. record { read = refl; next = refl; found = refl; last = refl }) c.requires.ready c.refuse_look.new.parts c.refuse_look.result c.refuse_look.ensures.answer c.refuse_look.ensures.failed c.refuse_look.ensures.entries
+    (λ is. record { read = refl; next = refl; found = refl; last = refl }) c.requires.ready c.refuse_look.new.parts (stepped.Done c.refuse_look.result) (ap stepped.Done c.refuse_look.ensures.answer) c.refuse_look.ensures.failed c.refuse_look.ensures.entries
     c.refuse_look.ensures.rest (c.fits.ensures.0 c.if-not-fits.false) 0 (parts.journal.promised + 1) (first_shares c.args.looking c.args.query) (omega arith) (omega (arith, c.refuse_look.ensures.promised))

@@ -1,46 +1,61 @@
-use Rattle.std.proofs.Common.{◌+◌, ◌<◌, ◌≤◌, length, sym, ◌∙◌, arith}
-use Rattle.std.proofs.lemmas.Bool.{false≢true}
-use Rattle.page_map.specs.Keeps.{Tells}
-use Rattle.store_layout.specs.declared.limits.TheConstants.{MAX_ENTRIES}
-use Rattle.page_locks.specs.declared.did.Did.TheVariants as did
-use Rattle.tx_table.proofs.Parts.{before_then}
-use Rattle.bitmap_scan.specs.ScanAnswers.{IsDamagedAt}
-use Rattle.session_scans.proofs.Machine.{made_behind, may_then, names_there, next_then, refused_by_pages, refused_read, spent_there}
+use Rattle.std.proofs.Common.{sym, ap, subst}
+use Rattle.page_store.specs.Survives.{Survives}
+use Rattle.page_map.specs.PageMap.{View}
+use Rattle.tx_table.specs.Durable.{IsBefore}
+use Rattle.session_parts.specs.declared.parts.Parts.{Parts}
+use Rattle.session_parts.specs.StepIs.{stepped_in}
+use Rattle.session_scans.proofs.Finished.{finished_pages}
+use Rattle.session_scans.proofs.InPlace.{finished_in, may_still_in, moved_in, short_in, still_in, still_ready, undone_in}
 use Rattle.session_scans.proofs.scanning.scan_on.Goals as goal
 
-pub step_on-requires-in-Ok-false-clause-may : goal.step_on-requires-in-Ok-false-clause-may
-step_on-requires-in-Ok-false-clause-may g c =
-    may_then g.D.Disk.told c.laws_of_looks.ensures c.args.parts.now c.args.session c.args.looking c.args.scan c.requires.may c.requires.ready c.peek.new.pages c.peek.ensures.kept c.peek.new.self c.peek.ensures.same
+pub finish-requires-clause-in_scan : goal.finish-requires-clause-in_scan
+finish-requires-clause-in_scan g c =
+    still_in g.D.Disk.told c.args.parts.now c.step_in.new.parts c.args.session c.args.looking c.args.hand.now c.step_in.new.hand c.step_in.result c.step_in.ensures.so c.requires.in_scan
 
-pub step_on-requires-in-Ok-false-clause-ahead : goal.step_on-requires-in-Ok-false-clause-ahead
-step_on-requires-in-Ok-false-clause-ahead g c = λ full.
-    next_then g.D.Disk.told c.laws_of_looks.ensures c.args.parts.now c.args.session c.args.looking c.args.scan c.requires.may c.requires.ready c.peek.new.pages c.peek.ensures.kept c.peek.new.self c.peek.ensures.same did.Moved
-    (c.in-Ok-false.ensures.goes c.in-Ok-false.field-0-test)
+pub lacks_memory-requires-clause-in_scan : goal.lacks_memory-requires-clause-in_scan
+lacks_memory-requires-clause-in_scan g c =
+    still_in g.D.Disk.told c.args.parts.now c.step_in.new.parts c.args.session c.args.looking c.args.hand.now c.step_in.new.hand c.step_in.result c.step_in.ensures.so c.requires.in_scan
 
-pub returns-in-Ok-true-clause-so : goal.returns-in-Ok-true-clause-so
-returns-in-Ok-true-clause-so g c =
-    let parts = c.args.parts.now in
-    let within-not = λ (within : length parts.journal.entries + 1 ≤ MAX_ENTRIES). false≢true (sym c.if-fits.false ∙ c.fits.ensures.1 within) in
-    let full : MAX_ENTRIES < length parts.journal.entries + 1 = omega (arith, within-not) in
-    spent_there g.D.Disk.told c.laws_of_looks.ensures parts c.args.session c.args.looking c.args.scan c.requires.may c.requires.ready c.peek.new.pages c.peek.ensures.kept c.peek.new.self c.peek.ensures.same
-    c.undone.new.parts c.undone.result c.spent-fault.result c.undone.ensures.answer c.undone.ensures.parts full c.in-Ok-true.ensures.outcome.1 c.spent-fault.ensures
+pub lacks_memory-requires-clause-may : goal.lacks_memory-requires-clause-may
+lacks_memory-requires-clause-may g c =
+    may_still_in g.D.Disk.told c.args.parts.now c.step_in.new.parts c.args.session c.args.looking c.args.hand.now c.step_in.new.hand c.step_in.result c.step_in.ensures.so c.in-Short.is c.requires.in_scan
 
-pub returns-in-Ok-false-clause-so : goal.returns-in-Ok-false-clause-so
-returns-in-Ok-false-clause-so g c =
-    made_behind g.D.Disk.told c.laws_of_looks.ensures c.args.parts.now c.args.session c.args.looking c.args.scan c.requires.may c.requires.ready c.peek.new.pages c.peek.ensures.kept c.peek.new.self c.peek.ensures.same
-    c.in-Ok-false.ensures.outcome.1 c.step_on-in-Ok-false.new.parts c.step_on-in-Ok-false.result c.step_on-in-Ok-false.ensures.so
+pub lacks_memory-requires-clause-ready : goal.lacks_memory-requires-clause-ready
+lacks_memory-requires-clause-ready g c =
+    still_ready g.D.Disk.told c.args.parts.now c.step_in.new.parts c.args.session c.args.looking c.args.hand.now c.step_in.new.hand c.step_in.result c.step_in.ensures.so c.in-Short.is c.requires.in_scan
 
-pub returns-in-Ok-false-clause-survives : goal.returns-in-Ok-false-clause-survives
-returns-in-Ok-false-clause-survives g c =
-    before_then g.D.Disk.told c.args.parts.now.pages c.peek.new.pages c.step_on-in-Ok-false.new.parts.pages c.peek.ensures.kept c.peek.ensures.survives c.step_on-in-Ok-false.ensures.survives
+pub put_back-requires-clause-in_scan : goal.put_back-requires-clause-in_scan
+put_back-requires-clause-in_scan g c =
+    still_in g.D.Disk.told c.args.parts.now c.step_in.new.parts c.args.session c.args.looking c.args.hand.now c.step_in.new.hand c.step_in.result c.step_in.ensures.so c.requires.in_scan
 
-pub returns-in-Err-Store-clause-so : goal.returns-in-Err-Store-clause-so
-returns-in-Err-Store-clause-so g c =
-    let told = g.D.Disk.told in
-    let parts = c.args.parts.now in
-    let scan = c.args.scan in
-    let damaged = Tells told parts.pages → IsDamagedAt parts.pages.layout parts.pages.pages scan.judging.indexes scan.judging.stage in
-    refused_by_pages told c.laws_of_looks.ensures parts c.args.session c.args.looking scan c.requires.may c.requires.ready c.peek.new.pages c.peek.ensures.kept c.peek.new.self c.peek.ensures.same
-    c.undone-in-Err-Store.new.parts c.undone-in-Err-Store.result c.fault_of.result c.undone-in-Err-Store.ensures.answer c.undone-in-Err-Store.ensures.parts c.a_kept_table_is_scanned.ensures c.known.ensures.hand
-    c.in-Err-Store.error c.fault_of.ensures (refused_read told damaged parts.pages c.peek.new.pages c.in-Err-Store.error c.in-Err-Store.field-0 c.in-Err-Store.field-0-is c.in-Err-Store.ensures.outcome)
-    (names_there parts.pages.layout scan scan.next c.in-Err-Store.error c.in-Err-Store.field-0 c.in-Err-Store.field-0-is c.in-Err-Store.ensures.names)
+pub returns-in-Moved-clause-so : goal.returns-in-Moved-clause-so
+returns-in-Moved-clause-so g c =
+    moved_in g.D.Disk.told c.args.parts.now c.step_in.new.parts c.args.session c.args.looking c.args.hand.now c.step_in.new.hand c.step_in.result c.step_in.ensures.so c.in-Moved.point c.in-Moved.is
+
+pub returns-in-Finished-clause-so : goal.returns-in-Finished-clause-so
+returns-in-Finished-clause-so g c =
+    finished_in g.D.Disk.told c.args.parts.now c.step_in.new.parts c.args.session c.args.looking c.args.hand.now c.step_in.new.hand c.step_in.result c.step_in.ensures.so c.in-Finished.point c.in-Finished.is
+    c.finish.new.parts (stepped_in c.finish.new.hand c.finish.result) c.finish.ensures
+
+pub returns-in-Finished-clause-survives : goal.returns-in-Finished-clause-survives
+returns-in-Finished-clause-survives g c =
+    let it = c.step_in.ensures.so c.requires.in_scan.0 c.requires.in_scan.1 in
+    subst (λ (v : View g.row.D.Denot). Survives g.D.Disk.told (IsBefore c.args.parts.now.pages) c.args.parts.now.pages v)
+    (sym (finished_pages c.step_in.new.parts c.args.session c.args.looking it.0.judging.query it.0.found c.in-Finished.point (stepped_in c.finish.new.hand c.finish.result) c.finish.new.parts (c.finish.ensures it.0 it.1)))
+    c.step_in.ensures.survives
+
+pub returns-in-Short-clause-so : goal.returns-in-Short-clause-so
+returns-in-Short-clause-so g c =
+    short_in g.D.Disk.told c.args.parts.now c.step_in.new.parts c.args.session c.args.looking c.args.hand.now c.step_in.new.hand c.step_in.result c.step_in.ensures.so c.in-Short.is
+    c.lacks_memory.new.parts (stepped_in c.lacks_memory.new.hand c.lacks_memory.result) c.lacks_memory.ensures.so
+
+pub returns-in-Undone-clause-so : goal.returns-in-Undone-clause-so
+returns-in-Undone-clause-so g c =
+    undone_in g.D.Disk.told c.args.parts.now c.step_in.new.parts c.args.session c.args.looking c.args.hand.now c.step_in.new.hand c.step_in.result c.step_in.ensures.so c.in-Undone.fault c.in-Undone.is
+    c.put_back.new.parts c.put_back.new.hand c.put_back.ensures.hand c.put_back.ensures.parts
+
+pub returns-in-Undone-clause-survives : goal.returns-in-Undone-clause-survives
+returns-in-Undone-clause-survives g c =
+    let it = c.step_in.ensures.so c.requires.in_scan.0 c.requires.in_scan.1 in
+    subst (λ (v : View g.row.D.Denot). Survives g.D.Disk.told (IsBefore c.args.parts.now.pages) c.args.parts.now.pages v)
+    (sym (ap (λ (p : Parts g.row.D.Denot). p.pages) (c.put_back.ensures.parts it.0 it.1))) c.step_in.ensures.survives

@@ -8,6 +8,7 @@ use Rattle.tx_table.proofs.Parts.{before_then}
 use Rattle.session_parts.specs.declared.hand.Hand.TheVariants as hands
 use Rattle.session_parts.specs.declared.hand.Hit.{Hit}
 use Rattle.session_parts.specs.declared.parts.Parts.{Parts}
+use Rattle.session_parts.specs.StepIs.{stepped_in}
 use Rattle.session_parts.specs.StoreFaults.{fault_of}
 use Rattle.session_parts.proofs.Undone.{fit_of_parts}
 use Rattle.session_transactions.proofs.Behind.{behind, in_use, over_still, still_in_use}
@@ -16,7 +17,7 @@ use Rattle.session_transactions.proofs.marks.mark.Goals as goal
 
 pub hit_conflicts-requires-clause-used : goal.hit_conflicts-requires-clause-used
 hit_conflicts-requires-clause-used g c = λ tells.
-    in_use g.D.Disk.told c.laws_of_marks.ensures.sessions c.laws_of_marks.ensures.copies c.args.parts.now c.args.session c.args.marking c.next_hit-hit.result c.requires.fit c.requires.shown c.in-Ok.ensures.outcome.0
+    in_use g.D.Disk.told c.laws_of_marks.ensures.sessions c.laws_of_marks.ensures.copies c.args.parts.now c.args.session c.args.marking.now c.next_hit-hit.result c.requires.fit c.requires.shown c.in-Ok.ensures.outcome.0
     c.next_hit-hit.ensures tells
 
 pub mark_hit-requires-clause-used : goal.mark_hit-requires-clause-used
@@ -26,15 +27,15 @@ mark_hit-requires-clause-used g c = λ tells.
     let pages = c.hit_conflicts.new.pages in
     let keeps = c.hit_conflicts.ensures.kept in
     let before = sym keeps.leaves.tells ∙ tells in
-    subst (λ (x : Option Hit). IfSome x (λ (hit : Hit). IsInUse pages.layout pages.pages c.args.marking.query.table hit.spot)) (sym c.next_hit-hit.ensures)
-    (still_in_use told old pages c.args.session c.args.marking keeps c.args.marking.query.table c.next_hit-hit.result
-    (in_use told c.laws_of_marks.ensures.sessions c.laws_of_marks.ensures.copies old c.args.session c.args.marking c.next_hit-hit.result c.requires.fit c.requires.shown c.in-Ok.ensures.outcome.0 c.next_hit-hit.ensures before)
+    subst (λ (x : Option Hit). IfSome x (λ (hit : Hit). IsInUse pages.layout pages.pages c.args.marking.now.query.table hit.spot)) (sym c.next_hit-hit.ensures)
+    (still_in_use told old pages c.args.session c.args.marking.now keeps c.args.marking.now.query.table c.next_hit-hit.result
+    (in_use told c.laws_of_marks.ensures.sessions c.laws_of_marks.ensures.copies old c.args.session c.args.marking.now c.next_hit-hit.result c.requires.fit c.requires.shown c.in-Ok.ensures.outcome.0 c.next_hit-hit.ensures before)
     before)
 
 pub returns-in-Ok-true : goal.returns-in-Ok-true
 returns-in-Ok-true g c =
     let made = c.refuse.ensures in
-    let r = behind g.D.Disk.told c.args.parts.now c.hit_conflicts.new.pages c.args.session c.args.marking c.hit_conflicts.ensures.kept c.refuse.new.parts c.refuse.result c.in-Ok.ensures.outcome.0 c.in-Ok-true.ensures.outcome.1
+    let r = behind g.D.Disk.told c.args.parts.now c.hit_conflicts.new.pages c.args.session c.args.marking.now c.hit_conflicts.ensures.kept c.refuse.new.parts (stepped_in (hands.Marks c.refuse.new.marking) c.refuse.result) c.in-Ok.ensures.outcome.0 c.in-Ok-true.ensures.outcome.1
     (record { steps = made.steps; fit = made.fit; others = made.others; stays = made.stays; cause = made.cause }) in
     record {
       steps = r.steps;
@@ -48,7 +49,7 @@ returns-in-Ok-true g c =
 pub returns-in-Ok-false : goal.returns-in-Ok-false
 returns-in-Ok-false g c =
     let made = c.mark_hit.ensures in
-    let r = behind g.D.Disk.told c.args.parts.now c.hit_conflicts.new.pages c.args.session c.args.marking c.hit_conflicts.ensures.kept c.mark_hit.new.parts c.mark_hit.result c.in-Ok.ensures.outcome.0 c.in-Ok-false.ensures.outcome.1
+    let r = behind g.D.Disk.told c.args.parts.now c.hit_conflicts.new.pages c.args.session c.args.marking.now c.hit_conflicts.ensures.kept c.mark_hit.new.parts (stepped_in (hands.Marks c.mark_hit.new.marking) c.mark_hit.result) c.in-Ok.ensures.outcome.0 c.in-Ok-false.ensures.outcome.1
     (record { steps = made.steps; fit = made.fit; others = made.others; stays = made.stays; cause = made.cause }) in
     record {
       steps = r.steps;
@@ -65,8 +66,8 @@ returns-in-Err-hit_conflicts-clause-steps g c =
     let old : Parts _ = c.args.parts.now in
     let new : Parts _ = record old { pages = c.hit_conflicts.new.pages } in
     let keeps = c.hit_conflicts.ensures.kept in
-    (refused_by told old new c.args.session (hands.Marks c.args.marking) c.in-Err-hit_conflicts.error c.fault_of-in-Err-hit_conflicts.result c.requires.fit
-    (over_still told old.transactions.tx old.pages c.hit_conflicts.new.pages (fit_of_parts told old c.args.session (hands.Marks c.args.marking) c.requires.fit).over keeps) keeps.leaves
+    (refused_by told old new c.args.session (hands.Marks c.args.marking.now) c.in-Err-hit_conflicts.error c.fault_of-in-Err-hit_conflicts.result c.requires.fit
+    (over_still told old.transactions.tx old.pages c.hit_conflicts.new.pages (fit_of_parts told old c.args.session (hands.Marks c.args.marking.now) c.requires.fit).over keeps) keeps.leaves
     (record { transactions = refl; locks = refl; rights = refl; journal = refl; queue = refl; dropped = refl }) c.in-Err-hit_conflicts.ensures.outcome c.in-Err-hit_conflicts.ensures.names c.fault_of-in-Err-hit_conflicts.ensures).steps
 
 pub returns-in-Err-hit_conflicts-clause-fit : goal.returns-in-Err-hit_conflicts-clause-fit
@@ -75,8 +76,8 @@ returns-in-Err-hit_conflicts-clause-fit g c =
     let old : Parts _ = c.args.parts.now in
     let new : Parts _ = record old { pages = c.hit_conflicts.new.pages } in
     let keeps = c.hit_conflicts.ensures.kept in
-    (refused_by told old new c.args.session (hands.Marks c.args.marking) c.in-Err-hit_conflicts.error (fault_of c.in-Err-hit_conflicts.error) c.requires.fit
-    (over_still told old.transactions.tx old.pages c.hit_conflicts.new.pages (fit_of_parts told old c.args.session (hands.Marks c.args.marking) c.requires.fit).over keeps) keeps.leaves
+    (refused_by told old new c.args.session (hands.Marks c.args.marking.now) c.in-Err-hit_conflicts.error (fault_of c.in-Err-hit_conflicts.error) c.requires.fit
+    (over_still told old.transactions.tx old.pages c.hit_conflicts.new.pages (fit_of_parts told old c.args.session (hands.Marks c.args.marking.now) c.requires.fit).over keeps) keeps.leaves
     (record { transactions = refl; locks = refl; rights = refl; journal = refl; queue = refl; dropped = refl }) c.in-Err-hit_conflicts.ensures.outcome c.in-Err-hit_conflicts.ensures.names refl).fit
 
 pub returns-in-Err-hit_conflicts-clause-cause : goal.returns-in-Err-hit_conflicts-clause-cause
@@ -85,6 +86,6 @@ returns-in-Err-hit_conflicts-clause-cause g c =
     let old : Parts _ = c.args.parts.now in
     let new : Parts _ = record old { pages = c.hit_conflicts.new.pages } in
     let keeps = c.hit_conflicts.ensures.kept in
-    (refused_by told old new c.args.session (hands.Marks c.args.marking) c.in-Err-hit_conflicts.error c.fault_of-in-Err-hit_conflicts.result c.requires.fit
-    (over_still told old.transactions.tx old.pages c.hit_conflicts.new.pages (fit_of_parts told old c.args.session (hands.Marks c.args.marking) c.requires.fit).over keeps) keeps.leaves
+    (refused_by told old new c.args.session (hands.Marks c.args.marking.now) c.in-Err-hit_conflicts.error c.fault_of-in-Err-hit_conflicts.result c.requires.fit
+    (over_still told old.transactions.tx old.pages c.hit_conflicts.new.pages (fit_of_parts told old c.args.session (hands.Marks c.args.marking.now) c.requires.fit).over keeps) keeps.leaves
     (record { transactions = refl; locks = refl; rights = refl; journal = refl; queue = refl; dropped = refl }) c.in-Err-hit_conflicts.ensures.outcome c.in-Err-hit_conflicts.ensures.names c.fault_of-in-Err-hit_conflicts.ensures).cause

@@ -1,15 +1,18 @@
-use Rattle.std.proofs.Common.{set, Option, IfSome, IsSome, Result, refl, sym, ap, subst, ◌∙◌, arith}
+use Rattle.std.proofs.Common.{◌≡◌, ◌<◌, length, set, Option, Some, IfSome, IsSome, Result, refl, sym, ap, subst, ◌∙◌, arith}
 use Rattle.brin_insert.specs.declared.insert.Insert.{Insert}
 use Rattle.brin_insert.specs.Inserts.{IsInsertFor}
 use Rattle.session_parts.specs.declared.faults.Step.{Step}
 use Rattle.session_parts.specs.declared.faults.StoreFault.{StoreFault}
 use Rattle.session_parts.specs.declared.hand.Hand.{Hand}
 use Rattle.session_parts.specs.StepIs.{answer_of, hand_after}
+use Rattle.session_parts.specs.Stepping.{IsFit, IsShown}
 use Rattle.session_parts.specs.StoreStates.{StoreState, hand_at, hand_in, store_of, with_hand}
 use Rattle.session_core.specs.declared.sessions.Session.{Session}
 use Rattle.session_core.specs.SessionLists.{hands_of, names_of, spares_of}
+use Rattle.session_inserts.specs.Settling.{SettlesSo}
 use Rattle.session_starts.specs.Stops.{StopsSo}
 use Rattle.session_core.proofs.Kept.{few_each, kept_as, none_beyond, session_below}
+use Rattle.session_core.proofs.InHand.{at_some, for_some, in_some}
 use Rattle.session_core.proofs.Lists.{hand_here, hands_changed, in_list, names_kept, spare_here, spares_changed}
 use Rattle.session_core.proofs.Stepping.{is_step, kept_behind, step_as}
 use Rattle.session_core.proofs.store.Store.step_ready.Goals as goal
@@ -24,8 +27,8 @@ few_locks_are_held-requires-clause-few g c =
     let items = c.self.inside.sessions.items in
     few_each g.D.Disk.told c.laws_of_sessions.ensures c.self.inside.parts (names_of items) (hands_of items) (spares_of items) c.self.invariant
 
-pub taken-hand-requires : goal.taken-hand-requires
-taken-hand-requires g c =
+pub step_of-requires-clause-hand : goal.step_of-requires-clause-hand
+step_of-requires-clause-hand g c =
     let items = c.self.inside.sessions.items in
     let some : IsSome (hand_in (hands_of items) c.args.session) = subst (λ (s : StoreState _). IsSome (hand_at s c.args.session)) (sym c.self.view_is) c.requires.hand in
     subst (λ (h : Option Hand). IsSome h) (hand_here items c.args.session c.index_mut-own.result.now c.index_mut-own.ensures.value (in_list items c.args.session some)) some
@@ -35,20 +38,20 @@ step_of-requires-clause-fit g c =
     let items = c.self.inside.sessions.items in
     let n = c.args.session in
     let some : IsSome (hand_in (hands_of items) n) = subst (λ (s : StoreState _). IsSome (hand_at s n)) (sym c.self.view_is) c.requires.hand in
-    let was = hand_here items n c.index_mut-own.result.now c.index_mut-own.ensures.value (in_list items n some) ∙ c.taken-hand.ensures.was in
-    let there = session_below g.D.Disk.told c.laws_of_sessions.ensures c.self.inside.parts (names_of items) (hands_of items) (spares_of items) c.self.invariant n c.taken-hand.result was in
-    (names_of items, hands_of items, was, c.self.invariant.fits n (omega (arith, there, c.self.invariant.few_sessions)))
+    let here = hand_here items n c.index_mut-own.result.now c.index_mut-own.ensures.value (in_list items n some) in
+    let there : (was : Hand) → c.index_mut-own.result.now.hand ≡ Some was → n < length (names_of items) =
+    λ was is. session_below g.D.Disk.told c.laws_of_sessions.ensures c.self.inside.parts (names_of items) (hands_of items) (spares_of items) c.self.invariant n was (here ∙ is) in
+    for_some (λ was. IsFit g.D.Disk.told c.self.inside.parts n was) c.index_mut-own.result.now.hand
+    (λ was is. (names_of items, hands_of items, here ∙ is, c.self.invariant.fits n (omega (arith, there was is, c.self.invariant.few_sessions))))
 
 pub step_of-requires-clause-shown : goal.step_of-requires-clause-shown
 step_of-requires-clause-shown g c =
     let items = c.self.inside.sessions.items in
     let n = c.args.session in
     let some : IsSome (hand_in (hands_of items) n) = subst (λ (s : StoreState _). IsSome (hand_at s n)) (sym c.self.view_is) c.requires.hand in
-    let was = hand_here items n c.index_mut-own.result.now c.index_mut-own.ensures.value (in_list items n some) ∙ c.taken-hand.ensures.was in
-    λ tells ready. (names_of items, hands_of items, was, c.self.invariant.shown tells ready)
-
-pub step_of-requires-clause-left : goal.step_of-requires-clause-left
-step_of-requires-clause-left g c = c.taken-hand.ensures.empty
+    let here = hand_here items n c.index_mut-own.result.now c.index_mut-own.ensures.value (in_list items n some) in
+    for_some (λ was. IsShown g.D.Disk.told c.self.inside.parts n was) c.index_mut-own.result.now.hand
+    (λ was is tells ready. (names_of items, hands_of items, here ∙ is, c.self.invariant.shown tells ready))
 
 pub step_of-requires-clause-spare : goal.step_of-requires-clause-spare
 step_of-requires-clause-spare g c =
@@ -63,15 +66,17 @@ invariant_of-self g c =
     let items = c.self.inside.sessions.items in
     let n = c.args.session in
     let own = c.index_mut-own.result.now in
-    let now : Session = record own { hand = c.step_of.new.left; spare = c.step_of.new.spare } in
-    let made = c.step_of.ensures.so in
+    let now : Session = record own { hand = c.step_of.new.hand; spare = c.step_of.new.spare } in
     let some : IsSome (hand_in (hands_of items) n) = subst (λ (s : StoreState _). IsSome (hand_at s n)) (sym c.self.view_is) c.requires.hand in
-    let was = hand_here items n own c.index_mut-own.ensures.value (in_list items n some) ∙ c.taken-hand.ensures.was in
+    let here = hand_here items n own c.index_mut-own.ensures.value (in_list items n some) in
+    let hand = in_some own.hand (subst (λ (h : Option Hand). IsSome h) here some) in
+    let was = here ∙ hand.1 in
+    let made = at_some (λ was. SettlesSo g.D.Disk.told c.self.inside.parts c.step_of.new.parts n was c.step_of.new.hand c.step_of.result) own.hand hand.0 hand.1 c.step_of.ensures.so in
     let names = names_kept items n own now c.index_mut-own.ensures.value refl in
     let hands = hands_changed items n now ∙ ap (λ (h : Option Hand). set (hands_of items) n h) made.left_is in
     kept_as g.D.Disk.told c.step_of.new.parts (names_of items) (names_of (set items n now)) (with_hand (hands_of items) n (hand_after made.stepped)) (hands_of (set items n now))
     (set (spares_of items) n now.spare) (spares_of (set items n now)) names hands (spares_changed items n now)
-    (kept_behind g.D.Disk.told c.laws_of_sessions.ensures c.self.inside.parts (names_of items) (hands_of items) (spares_of items) c.self.invariant c.step_of.new.parts n c.taken-hand.result
+    (kept_behind g.D.Disk.told c.laws_of_sessions.ensures c.self.inside.parts (names_of items) (hands_of items) (spares_of items) c.self.invariant c.step_of.new.parts n hand.0
     was made.stepped made.so now.spare c.step_of.ensures.spare)
 
 pub returns : goal.returns
@@ -79,16 +84,19 @@ returns g c =
     let items = c.self.inside.sessions.items in
     let n = c.args.session in
     let own = c.index_mut-own.result.now in
-    let now : Session = record own { hand = c.step_of.new.left; spare = c.step_of.new.spare } in
-    let made = c.step_of.ensures.so in
+    let now : Session = record own { hand = c.step_of.new.hand; spare = c.step_of.new.spare } in
     let some : IsSome (hand_in (hands_of items) n) = subst (λ (s : StoreState _). IsSome (hand_at s n)) (sym c.self.view_is) c.requires.hand in
-    let was = hand_here items n own c.index_mut-own.ensures.value (in_list items n some) ∙ c.taken-hand.ensures.was in
+    let here = hand_here items n own c.index_mut-own.ensures.value (in_list items n some) in
+    let hand = in_some own.hand (subst (λ (h : Option Hand). IsSome h) here some) in
+    let was = here ∙ hand.1 in
+    let made = at_some (λ was. SettlesSo g.D.Disk.told c.self.inside.parts c.step_of.new.parts n was c.step_of.new.hand c.step_of.result) own.hand hand.0 hand.1 c.step_of.ensures.so in
     let names = names_kept items n own now c.index_mut-own.ensures.value refl in
     let hands = hands_changed items n now ∙ ap (λ (h : Option Hand). set (hands_of items) n h) made.left_is in
-    let stops = subst (λ (answer : Result Step StoreFault). StopsSo g.D.Disk.told c.self.inside.parts.transactions n c.self.inside.parts.pages c.step_of.new.parts.pages c.taken-hand.result answer) made.answer_is c.step_of.ensures.survives in
+    let stops = subst (λ (answer : Result Step StoreFault). StopsSo g.D.Disk.told c.self.inside.parts.transactions n c.self.inside.parts.pages c.step_of.new.parts.pages hand.0 answer) made.answer_is
+    (at_some (λ was. StopsSo g.D.Disk.told c.self.inside.parts.transactions n c.self.inside.parts.pages c.step_of.new.parts.pages was c.step_of.result) own.hand hand.0 hand.1 c.step_of.ensures.survives) in
     let step = step_as g.D.Disk.told c.args.self.now (store_of c.self.inside.parts (names_of items) (hands_of items)) c.step_of.new.parts (names_of items) (names_of (set items n now))
     (with_hand (hands_of items) n (hand_after made.stepped)) (hands_of (set items n now)) n (answer_of made.stepped) c.step_of.result c.self.view_is names hands made.answer_is
-    (is_step g.D.Disk.told c.laws_of_sessions.ensures c.self.inside.parts (names_of items) (hands_of items) (spares_of items) c.self.invariant c.step_of.new.parts n c.taken-hand.result
+    (is_step g.D.Disk.told c.laws_of_sessions.ensures c.self.inside.parts (names_of items) (hands_of items) (spares_of items) c.self.invariant c.step_of.new.parts n hand.0
     was made.stepped made.so stops) in
     record {
       steps = step.steps;
