@@ -1,6 +1,6 @@
 //! Where bytes go.
 
-ghost use Rattle.std.specs.Prelude.{◌≡◌, ℕ, List, ◌<◌, ◌≤◌, length, IfOk, OnOk, OnErr};
+ghost use Rattle.std.specs.Prelude.{◌≡◌, ℕ, List, ◌<◌, ◌≤◌, length, take, IfOk, OnOk, OnErr};
 ghost use Rattle.std.specs.declared.option.Option.{Option};
 ghost use Rattle.std.specs.Io.KnownBytes.{WriteAppends, Appends};
 ghost use Rattle.block_model.specs.Causes.{HasCause};
@@ -74,7 +74,10 @@ impl<W: Write> Sink for WriterSink<W> {
     }
 }
 
-/// Writes all of the bytes, or a front of them and then a fault. Of no bytes it makes no call of the sink.
+/// The greatest number of bytes that one call of a sink is given.
+const PIECE: usize = 65_536;
+
+/// Writes all of the bytes, in pieces of up to 64 KiB, or a front of them and then a fault. Of no bytes it makes no call of the sink.
 pub fn write_all<K: Sink>(sink: &mut K, bytes: &[u8]) -> Result<(), SinkFault>
     ensures all { OnOk result (Appends (K.taken sink.old) (K.taken sink.new) bytes.now) }
     ensures part { OnErr result (AppendsPart (K.taken sink.old) (K.taken sink.new) bytes.now) }
@@ -83,7 +86,16 @@ pub fn write_all<K: Sink>(sink: &mut K, bytes: &[u8]) -> Result<(), SinkFault>
 {
     let mut at = 0;
     while at < bytes.len() {
-        at += sink.write(&bytes[at..])?;
+        at += sink.write(piece(&bytes[at..]))?;
     }
     Ok(())
+}
+
+/// The bytes, or their first 64 KiB.
+fn piece(bytes: &[u8]) -> &[u8]
+    ensures front { result.now ≡ take (length result.now) bytes.now }
+    ensures within { length result.now ≤ length bytes.now }
+    ensures some { 0 < length bytes.now → 0 < length result.now }
+{
+    &bytes[..bytes.len().min(PIECE)]
 }
