@@ -1,4 +1,4 @@
-use Rattle.std.proofs.Common.{◌≡◌, Bool, cond, None, sym, ap, ◌∙◌}
+use Rattle.std.proofs.Common.{Bool, cond, None, sym, ap, ◌∙◌}
 use Rattle.query_words.specs.LineParts.{words_left}
 use Rattle.query_words.specs.Parsed.{said_of}
 use Rattle.query_words.specs.Syntax.{stop_of}
