@@ -2,8 +2,6 @@
 use Rattle.std.specs.Prelude.{Bool, true, ◌&&◌, List}
 use Rattle.block_model.specs.declared.schema.Schema.{Schema}
 use Rattle.store_layout.specs.StatementFits.{IsStatementFor}
-use Rattle.store_layout.specs.declared.statement.Statement.{Statement}
-use Rattle.store_layout.specs.declared.statement.Statement.TheVariants as statements
 use Rattle.query_words.specs.declared.verb.Verb.{Verb}
 use Rattle.query_words.specs.declared.verb.Verb.TheVariants as verbs
 use Rattle.query_words.specs.Verbs.{has_verb, statement_verb}

@@ -9,10 +9,10 @@ ghost use Rattle.query_words.specs.Parsed.{said_of};
 ghost use Rattle.query_words.specs.SmallSchemas.{IsSmallSchema};
 ghost use Rattle.query_words.specs.Syntax.{stop_of};
 
-use crate::order::read_order;
+use crate::order::{read_insert, read_order};
 use crate::syntax::{is_comment, stop_of};
 use crate::{ANSWERED, MAX_LINE, Rest, Verb, next_word};
-use block_model::{Name, Refusal, Schema};
+use block_model::{Name, Refusal, Schema, Values};
 use std::alloc::Global;
 use store_layout::{Layout, Statement};
 use thiserror::Error;
@@ -100,8 +100,33 @@ pub fn read_line_in(
         return Err(LineFault::Syntax { at: MAX_LINE });
     }
     let rest = Rest { bytes: line, at: 0 };
-    let read = read_words(alloc, language, rest, layout.schema(), line.len());
-    match stop_if(read.is_err(), language, rest, line.len()) {
+    let schema = layout.schema();
+    let mut values = Values::new();
+    if let Some((session, table)) = read_insert(language, rest, schema, line.len(), &mut values) {
+        return Ok(Line::Say {
+            session,
+            order: Order::Whole(Statement::Insert { table, values }),
+        });
+    }
+    read_any(alloc, language, rest, schema, line.len())
+}
+
+/// The line that the words are, or the fault of the first word that has one. It stands apart from the inserts, which don't
+/// pay for the room of its statements.
+#[inline(never)]
+fn read_any(
+    alloc: Global,
+    language: &[Verb],
+    rest: Rest<'_>,
+    schema: &Schema,
+    line_len: usize,
+) -> Result<Line, LineFault>
+    requires { IsSmallSchema schema.now }
+    ensures reads { ReadsAs result (line_judged schema.now line_len (stop_of language.now line_len (words_left rest.entry)) (said_of language.now (words_left rest.entry))) }
+    ensures once { IfOk result (λ read. ReadsOnce (Ok read) (stop_of language.now line_len (words_left rest.entry)) (line_judged schema.now line_len None (said_of language.now (words_left rest.entry)))) }
+{
+    let read = read_words(alloc, language, rest, schema, line_len);
+    match stop_if(read.is_err(), language, rest, line_len) {
         Some(at) => Err(LineFault::Syntax { at }),
         None => read,
     }

@@ -1,20 +1,22 @@
 //! What the words behind a session's name mean where tables are declared.
 
-ghost use Rattle.std.specs.Prelude.{ℕ, Option, Result, Ok};
+ghost use Rattle.std.specs.Prelude.{◌≡◌, ℕ, Option, None, Result, Ok, [], IfSome};
 ghost use Rattle.query_words.specs.LineParts.{words_left};
-ghost use Rattle.query_words.specs.Lines.{ReadsOnce};
-ghost use Rattle.query_words.specs.Parsed.{order_behind, order_of_words, insert_of_words, statement_of_words};
+ghost use Rattle.query_words.specs.Lines.{ReadsOnce, line_judged};
+ghost use Rattle.query_words.specs.Parsed.{order_behind, order_of_words, said_of, statement_of_words};
 ghost use Rattle.query_words.specs.SmallSchemas.{IsSmallSchema};
 ghost use Rattle.query_words.specs.Statements.{made_of, order_judged, statement_judged};
-ghost use Rattle.query_words.specs.Syntax.{after_verb, stop_from, stop_after};
+ghost use Rattle.query_words.specs.Syntax.{after_verb, stop_from, stop_after, stop_of};
 ghost use Rattle.query_words.specs.declared.syntax.Expected.TheVariants as expected;
 ghost use Rattle.query_words.specs.declared.line.Line.TheVariants as lines;
 ghost use Rattle.query_words.specs.declared.line.Order.TheVariants as orders;
 ghost use Rattle.query_words.specs.declared.line.LineFault.{LineFault as OneFault};
 ghost use Rattle.store_layout.specs.declared.statement.Statement.{Statement as OneStatement};
+ghost use Rattle.store_layout.specs.declared.statement.Statement.TheVariants as asked;
 
 use crate::line::{Line, LineFault, Order};
 use crate::statement::{read_end, read_row, read_statement};
+use crate::syntax::is_comment;
 use crate::{Rest, Verb, next_word, read_verb};
 use block_model::{Name, Schema, Values};
 use std::alloc::Global;
@@ -38,51 +40,37 @@ pub fn read_order(
     let Some(verb) = read_verb(language, word.text) else {
         return Err(LineFault::Syntax { at: word.at });
     };
-    match verb {
-        Verb::Insert => read_insert(session, rest, schema, line_len),
-        _ => read_say(alloc, language, session, verb, rest, schema, line_len),
-    }
-}
-
-/// The line of an insert. It holds its values, and is written once, where it is answered.
-#[inline(always)]
-fn read_insert(
-    session: Name,
-    rest: Rest<'_>,
-    schema: &Schema,
-    line_len: usize,
-) -> Result<Line, LineFault>
-    requires { IsSmallSchema schema.now }
-    ensures { ReadsOnce result (stop_after line_len expected.InsertTable (words_left rest.entry)) (made_of (λ statement. lines.Say session (orders.Whole statement)) (statement_judged schema.now line_len (insert_of_words (words_left rest.entry)))) }
-{
-    let mut values = Values::new();
-    let table = match read_row(rest, schema, line_len, &mut values) {
-        Ok(table) => table,
-        Err(fault) => return Err(fault),
-    };
-    Ok(Line::Say {
-        session,
-        order: Order::Whole(Statement::Insert { table, values }),
-    })
-}
-
-/// The line of any verb. It stands apart from the inserts, which don't pay for the room of its statements.
-#[inline(never)]
-fn read_say(
-    alloc: Global,
-    language: &[Verb],
-    session: Name,
-    verb: Verb,
-    rest: Rest<'_>,
-    schema: &Schema,
-    line_len: usize,
-) -> Result<Line, LineFault>
-    requires { IsSmallSchema schema.now }
-    ensures { ReadsOnce result (stop_from language.now line_len (after_verb verb) (words_left rest.entry)) (made_of (λ order. lines.Say session order) (order_judged schema.now line_len (order_behind language.now verb (words_left rest.entry)))) }
-{
     match read_behind(alloc, language, verb, rest, schema, line_len) {
         Ok(order) => Ok(Line::Say { session, order }),
         Err(fault) => Err(fault),
+    }
+}
+
+/// The session and the table of an insert without fault; its values come to those that are handed in, where none stand yet.
+/// None for any other line.
+pub fn read_insert(
+    language: &[Verb],
+    rest: Rest<'_>,
+    schema: &Schema,
+    line_len: usize,
+    values: &mut Values,
+) -> Option<(Name, u8)>
+    requires schema { IsSmallSchema schema.now }
+    requires empty { values.old ≡ [] }
+    ensures { IfSome result (λ p. ReadsOnce (Ok (lines.Say p.0 (orders.Whole (asked.Insert p.1 values.new)))) (stop_of language.now line_len (words_left rest.entry)) (line_judged schema.now line_len None (said_of language.now (words_left rest.entry)))) }
+{
+    let (word, behind) = next_word(rest)?;
+    if is_comment(word.text) {
+        return None;
+    }
+    let session = Name::new(word.text)?;
+    let (verb, row) = next_word(behind)?;
+    let Some(Verb::Insert) = read_verb(language, verb.text) else {
+        return None;
+    };
+    match read_row(row, schema, line_len, values) {
+        Ok(table) => Some((session, table)),
+        Err(_) => None,
     }
 }
 

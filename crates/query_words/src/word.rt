@@ -27,5 +27,21 @@ pub use next::next_word;
 pub fn is_word(word: &[u8], expected: &[u8]) -> bool
     ensures { result ≡ bytes_eq word.now expected.now }
 {
-    word == expected
+    if word.len() != expected.len() {
+        return false;
+    }
+    has_bytes(word, expected)
+}
+
+/// Whether the word has these bytes, of which there are as many.
+fn has_bytes(word: &[u8], expected: &[u8]) -> bool
+    requires { length word.now ≡ length expected.now }
+    ensures { result ≡ bytes_eq word.now expected.now }
+{
+    'bytes: for (i, b) in word.iter().enumerate() {
+        if *b != expected[i] {
+            return false;
+        }
+    }
+    true
 }

@@ -1,13 +1,17 @@
 //! Texts of numbers, and lines that end in them.
 #![tactic(auto, using(value_text::specs::Appended::longer_before))]
 
-ghost use Rattle.std.specs.Prelude.{◌≡◌, ◌++◌, OnOk, decimal, codes};
+ghost use Rattle.std.specs.Prelude.{◌≡◌, ◌+◌, ◌<◌, ◌≤◌, ◌++◌, ◌∷◌, OnOk, decimal, codes, drop, length};
 ghost use Rattle.value_text.specs.Appended.{IsLonger};
+ghost use Rattle.reply_texts.specs.declared.text.TheConstants.{ID_LINE};
 ghost use Rattle.reply_texts.specs.Texts.{id_text, count_text};
 
 use block_model::{NoMemory, RowId};
-use itoa::Buffer;
+use itoa::{Buffer, write_digits};
 use value_text::append;
+
+/// How long the numbers of a row, the point between them and a line feed may be.
+pub const ID_LINE: usize = 42;
 
 /// Appends the numbers of a row.
 pub fn add_id(out: &mut Vec<u8>, id: &RowId) -> Result<(), NoMemory>
@@ -34,9 +38,41 @@ pub fn add_row_id(out: &mut Vec<u8>, name: &[u8], words: &[u8], id: &RowId) -> R
     ensures longer { IsLonger out.old.items out.new.items }
 {
     add_words(out, name, words)?;
-    add_id(out, id)?;
-    append(out, b"\n")?;
+    add_id_line(out, id)?;
     Ok(())
+}
+
+/// Appends the numbers of a row and a line feed, in one piece.
+fn add_id_line(out: &mut Vec<u8>, id: &RowId) -> Result<(), NoMemory>
+    ensures ok { OnOk result (out.new.items ≡ out.old.items ++ (id_text id.now ++ codes "\n")) }
+    ensures longer { IsLonger out.old.items out.new.items }
+{
+    let mut line = [0; ID_LINE];
+    let from = write_id_line(&mut line, id);
+    append(out, &line[from..])
+}
+
+/// Writes the numbers of a row and a line feed at the end of the bytes, and answers where they begin.
+fn write_id_line(line: &mut [u8], id: &RowId) -> usize
+    requires { length line.old ≡ ID_LINE }
+    ensures within { result ≤ length line.new }
+    ensures text { drop result line.new ≡ id_text id.now ++ codes "\n" }
+{
+    let feed = put_before(line, ID_LINE, b'\n');
+    let k = write_digits(u64::from(id.k), line, feed);
+    let point = put_before(line, k, b'.');
+    write_digits(id.t, line, point)
+}
+
+/// Puts a byte in front of those from `end` on, and answers where it stands.
+fn put_before(line: &mut [u8], end: usize, byte: u8) -> usize
+    requires some { 0 < end }
+    requires within { end ≤ length line.old }
+    ensures start { result + 1 ≡ end }
+    ensures text { drop result line.new ≡ byte ∷ drop end line.old }
+{
+    line[end - 1] = byte;
+    end - 1
 }
 
 /// Appends a line that ends in a number.
