@@ -23,7 +23,9 @@ use Rattle.page_locks.specs.LockHolders.{holder}
 use Rattle.heap_rows.specs.Heaps.{slots_a_page}
 use Rattle.index_contents.specs.IndexContents.{contents}
 use Rattle.index_steps.specs.IndexTuples.{TakesValues, index_at, shape_of}
+use Rattle.index_steps.specs.LockLaws.{takes_none}
 use Rattle.index_steps.specs.MoveEnds.{IsMoving}
+use Rattle.index_steps.proofs.Onward.{fault_too}
 use Rattle.index_steps.specs.SwapAnswers.{LeavesLocks, TakesAtMost}
 use Rattle.range_tuple.specs.TupleBytes.{tuple_bytes}
 use Rattle.brin_insert.specs.declared.stage.Stage.{Stage}
@@ -36,8 +38,8 @@ use Rattle.brin_insert.specs.StepAnswers.{DamageAt}
 use Rattle.brin_insert.proofs.InTable.{blocked, finished, moved, row_stepped, stepped_here}
 use Rattle.brin_insert.proofs.Numbers.{number_within}
 use Rattle.brin_insert.specs.InsertLocks.{held_by, stage_at, stage_of, taken_by}
-use Rattle.brin_insert.proofs.OwnLocks.{given_there, no_more, no_stage_drops, none_held, own_complete, own_there, stage_there, taken_there}
-use Rattle.brin_insert.proofs.Outcomes.{heap_names, index_full, index_names, index_next, index_others, machine_for}
+use Rattle.brin_insert.proofs.OwnLocks.{given_there, no_stage_drops, none_held, own_complete, own_there, stage_there, taken_there}
+use Rattle.brin_insert.proofs.Outcomes.{heap_names, index_full, index_names, index_next, index_others}
 use Rattle.brin_insert.proofs.Ordered.{keeps_by_heap, keeps_by_index}
 use Rattle.brin_insert.proofs.Placed.{first_free, first_within, not_first, not_within, placed_first, placed_still, waits_later, waits_not}
 use Rattle.brin_insert.proofs.Reaching.{left_by}
@@ -322,7 +324,7 @@ returns-in-Err-step-clause-outcome g c =
     let x = c.in-Some.spot in
     let e = c.index_mut-work.result.now in
     let made = (goal.at.returns-in-Err-step-clause-outcome g c).After-step in
-    machine_for g.D.Disk.told (Tells g.D.Disk.told store → DamageAt (shape_of store.layout e.index) (contents store.layout store.pages e.index) c.range_in-range.result e.stage) (Untold g.D.Disk.told store) store c.step.new.pages c.in-Err-step.fault
+    fault_too Did Did g.D.Disk.told (Tells g.D.Disk.told store → DamageAt (shape_of store.layout e.index) (contents store.layout store.pages e.index) c.range_in-range.result e.stage) (Untold g.D.Disk.told store) store c.step.new.pages c.in-Err-step.fault
     (λ cause tells. c.a_kept_table_is_read.ensures.undamaged store.layout store.pages c.args.locks.now c.args.actor old.row.table old.at e.index x.block x.slot old.row e.stage old.copied (tuple_bytes e.widened) (there g made)
     (kept_at store.layout store.pages c.args.locks.now c.args.actor old x e e.stage c.in-Some.is (got g made) c.requires.plain refl (c.requires.kept tells))
     (subst (λ (m : ℕ). DamageAt (shape_of store.layout e.index) (contents store.layout store.pages e.index) m e.stage) (ranged g made) (cause tells)))
@@ -365,10 +367,10 @@ step-requires-clause-locks g c = λ y is.
     c.requires.locks y (stage_there c.args.self.now.place c.args.self.now.works.items c.args.self.now.at c.in-Some.spot c.index_mut-work.result.now c.in-Some.is (is_there g (goal.at.step-requires-clause-locks g c).After-index_mut-work) ∙ ap Some is)
 
 pub returns-in-Ok-clause-counts : goal.returns-in-Ok-clause-counts
-returns-in-Ok-clause-counts g c = no_more (taken_by (stage_of c.args.self.now)) c.args.locks.now c.args.actor
+returns-in-Ok-clause-counts g c = takes_none (taken_by (stage_of c.args.self.now)) c.args.locks.now c.args.actor
 
 pub returns-in-Err-clause-counts : goal.returns-in-Err-clause-counts
-returns-in-Err-clause-counts g c = no_more (taken_by (stage_of c.args.self.now)) c.args.locks.now c.args.actor
+returns-in-Err-clause-counts g c = takes_none (taken_by (stage_of c.args.self.now)) c.args.locks.now c.args.actor
 
 pub returns-in-Ok-clause-given : goal.returns-in-Ok-clause-given
 returns-in-Ok-clause-given g c = λ y is. absurd (no_stage_drops c.args.self.now y c.in-None.is is)
