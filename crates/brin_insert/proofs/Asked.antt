@@ -11,7 +11,7 @@ use Rattle.index_contents.specs.IndexContents.{contents}
 use Rattle.index_steps.specs.IndexTuples.{index_at}
 use Rattle.brin_insert.specs.InsertHands.{InsertHand}
 use Rattle.brin_insert.specs.AskedFor.{AreRequestsOf, AsksBy, AsksHere, HasOne, InVain, IsAsked, IsRequestOf, JoinsQueue, NoRequests, OneMoreRequest}
-use Rattle.brin_insert.proofs.Turning.{pick_same}
+use Rattle.coverage.proofs.Views.{pick_same}
 
 as_long : (layout : DiskLayout) (requests : List (ℕ × ℕ)) (asked : List Asked) → AreRequestsOf layout requests asked → length requests ≡ length asked
 as_long layout _ _ NoRequests = refl

@@ -8,7 +8,7 @@ use Rattle.coverage.specs.TableCovered.{IsTableKept}
 use Rattle.coverage.specs.TableSteps.{TableStep, TableRun, TableDone, TableNext}
 use Rattle.brin_insert.specs.InsertAnswers.{InsertGoesTo, InsertWaitsFor}
 use Rattle.brin_insert.specs.InsertCalls.{InsertCalls, LastCall, OneMoreCall}
-use Rattle.brin_insert.proofs.Turning.{pick_same}
+use Rattle.coverage.proofs.Views.{pick_same}
 
 -- what the laws of tables say of runs, and of an insert that has begun
 abbrev pub RunsKeep : Type 0

@@ -16,15 +16,11 @@ use Rattle.index_steps.specs.IndexTuples.{IndexShape, seen}
 use Rattle.index_steps.specs.Readings.{IsReadAs, ShowsGone, ShowsTuple}
 use Rattle.index_steps.specs.ShownIndex.{Shows, shown_part}
 use Rattle.index_steps.specs.SwapAnswers.{view_after}
+use Rattle.index_steps.proofs.Views.{seen_bytes}
 use Rattle.brin_insert.specs.declared.stage.Stage.TheVariants as stages
 use Rattle.brin_insert.specs.InsertSteps.{Stepped}
 use Rattle.brin_insert.proofs.Stepping.{copies, gone, maps, no_entry, unchanged}
 use Rattle.brin_insert.proofs.Swaps.{at_stage}
-
--- a tuple that is seen has its bytes
-seen_bytes : (shape : IndexShape) (bytes : List ℕ) → (seen shape bytes).bytes ≡ bytes
-unfolding seen
-seen_bytes shape bytes = refl
 
 -- what the actor reads of the index stays
 abbrev Reads : IndexShape → (c d : IndexContents) (lock : ℕ → Option ℕ) (s : ℕ) → Type 0

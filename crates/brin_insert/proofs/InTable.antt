@@ -43,7 +43,8 @@ use Rattle.index_steps.specs.ShownTable.{indexes_of, shown_table}
 use Rattle.brin_insert.specs.TableSteps.{ShownDoes, StepsInIndex, Stores, task_after}
 use Rattle.brin_insert.proofs.Reaching.{reaches}
 use Rattle.brin_insert.proofs.Tasks.{number_there, task_asks, task_is}
-use Rattle.brin_insert.proofs.Turning.{goes_by, pick_other, pick_same, stays_in}
+use Rattle.coverage.proofs.Views.{pick_other, pick_same}
+use Rattle.brin_insert.proofs.Turning.{goes_by, stays_in}
 
 -- what the law of an insert's steps says
 abbrev pub StepsInTable : Type 0

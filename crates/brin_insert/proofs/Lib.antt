@@ -1,5 +1,6 @@
 pub mod Stepping
 pub mod Swaps
+pub mod Called
 pub mod Copies
 pub mod Tables
 pub mod Waiting

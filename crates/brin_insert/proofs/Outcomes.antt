@@ -34,17 +34,6 @@ use Rattle.index_steps.specs.ShownRows.{shown_by}
 use Rattle.brin_insert.specs.StepAnswers.{StepFull}
 use Rattle.brin_insert.proofs.Tasks.{task_is}
 
--- an error for one cause is one for another
-refused_for : {D : Type 0} (told : D → Told) (Cause Other : Type 0) (old new : View D) (error : StoreError) → (Cause → Other) → Refused told Cause old new error → Refused told Other old new error
-refused_for told Cause Other old new errors.Disk weaker refused = refused
-refused_for told Cause Other old new (errors.Reopen faults) weaker refused = refused
-refused_for told Cause Other old new (errors.Damaged at) weaker (was, now, more, cause) = (was, now, more, weaker cause)
-
-pub machine_for : {D : Type 0} (told : D → Told) (Cause Other : Type 0) (old new : View D) (fault : MachineFault) → (Cause → Other) → MachineOutcome {T = Did} told Cause old new (Err fault) → MachineOutcome {T = Did} told Other old new (Err fault)
-machine_for told Cause Other old new (faults.Full relation number) weaker outcome = outcome
-machine_for told Cause Other old new (faults.Store error) weaker outcome = refused_for told Cause Other old new error weaker outcome
-machine_for told Cause Other old new faults.Memory weaker outcome = outcome
-
 -- the relation of its next step, by where it stands
 pub index_next : (layout : DiskLayout) (insert : Insert) (x : Spot) (hand : InsertHand) → insert.place ≡ Some x → work_of insert ≡ Some hand → relation_at layout insert ≡ relation_of layout hand.index
 index_next layout insert x hand placed got =

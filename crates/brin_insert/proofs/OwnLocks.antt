@@ -2,11 +2,10 @@
 use Rattle.std.proofs.Common.{◌≡◌, ℕ, ◌≤◌, List, Option, None, Some, refl, sym, ap, subst, ◌∙◌, arith}
 use Rattle.std.specs.Prelude.{slice_get}
 use Rattle.std.proofs.lemmas.Option.{none-some, same_Some}
-use Rattle.block_model.specs.declared.place.Place.{Place}
 use Rattle.block_model.specs.declared.place.Spot.{Spot}
 use Rattle.page_locks.specs.LockCounts.{locks_of}
 use Rattle.page_locks.specs.LockHolders.{LockState}
-use Rattle.index_steps.specs.SwapAnswers.{LeavesLocks, TakesAtMost}
+use Rattle.index_steps.specs.SwapAnswers.{TakesAtMost}
 use Rattle.brin_insert.specs.declared.insert.Insert.{Insert}
 use Rattle.brin_insert.specs.declared.stage.Stage.{Stage}
 use Rattle.brin_insert.specs.declared.stage.Stage.TheVariants as stages
@@ -14,36 +13,6 @@ use Rattle.brin_insert.specs.InsertHands.{InsertHand}
 use Rattle.brin_insert.specs.InsertLocks.{held_by, stage_at, stage_of, taken_by}
 use Rattle.brin_insert.specs.Inserts.{work_of}
 use Rattle.brin_insert.specs.StageLocks.{held_at, taken_at}
-
--- locks that no call changes
-pub no_more : (n : ℕ) (locks : LockState) (s : ℕ) → TakesAtMost n locks locks s
-no_more n locks s = record { limit = refl; adds = record { own = omega arith; others = λ a other. refl; all = omega arith } }
-
-pub same_locks : (relation s : ℕ) (h : Place → Option ℕ) → LeavesLocks h h relation s
-same_locks relation s h = record { elsewhere = λ page other none. refl; others = λ page n other. (λ is. is, λ is. is) }
-
--- none was its own, and none is
-pub none_own : (old new : LockState) (s m : ℕ) → new ≡ old → locks_of old s ≡ 0 → locks_of new s ≤ m
-none_own old new s m same none =
-    let is : locks_of new s ≡ locks_of old s = ap (λ (l : LockState). locks_of l s) same in
-    omega (arith, is, none)
-
--- at a stage at which it has none
-pub none_at : (locks : LockState) (s m : ℕ) (stage : Stage) → held_at stage ≡ 0 → locks_of locks s ≤ held_at stage → locks_of locks s ≤ m
-none_at locks s m stage none few = omega (arith, none, few)
-
--- a stage that isn't the drop of a tuple
-pub map_is_no_drop : (x : Spot) → stages.Map ≡ stages.Drop x → ⊥
-map_is_no_drop x e = cc
-
-pub copy_is_no_drop : (x y : Spot) → stages.Copy x ≡ stages.Drop y → ⊥
-copy_is_no_drop x y e = cc
-
-pub swap_is_no_drop : (x y : Spot) → stages.Swap x ≡ stages.Drop y → ⊥
-swap_is_no_drop x y e = cc
-
-pub set_is_no_drop : (x y z : Spot) → stages.Set x y ≡ stages.Drop z → ⊥
-set_is_no_drop x y z e = cc
 
 -- the stage of an insert that is at an index
 pub stage_there : (place : Option Spot) (works : List InsertHand) (at : ℕ) (x : Spot) (hand : InsertHand) → place ≡ Some x → slice_get works at ≡ Some hand → stage_at place (slice_get works at) ≡ Some hand.stage

@@ -9,17 +9,8 @@ use Rattle.coverage.specs.Machines.{ShownIndex, ShownTable, Unseen, table_state,
 use Rattle.coverage.specs.Table.{Asks, Task, Resting, Reaches, Inserts, pick}
 use Rattle.coverage.specs.TableCovered.{IsTableKept}
 use Rattle.coverage.specs.TableSteps.{Onward, Stays, ToAsk, ToIndex, Inserted, Settles, GoesOn}
+use Rattle.coverage.proofs.Views.{pick_other, pick_same}
 use Rattle.brin_insert.specs.InsertAnswers.{AccountsCome, DoesWith, InsertGoesTo}
-
-pub pick_same : (i : ℕ) → {A : Type 0} → (a b : A) → pick i i a b ≡ a
-pick_same zero a b = refl
-pick_same (suc i) a b = pick_same i a b
-
-pub pick_other : (i j : ℕ) → {A : Type 0} → (a b : A) → i ≢ j → pick i j a b ≡ b
-pick_other zero zero a b apart = absurd (apart refl)
-pick_other zero (suc j) a b apart = refl
-pick_other (suc i) zero a b apart = refl
-pick_other (suc i) (suc j) a b apart = pick_other i j a b (λ e. apart (ap suc e))
 
 -- a row at block and slot asks in an index that is shown so
 abbrev pub AsksShown : ShownIndex → (b k : ℕ) → Type 0

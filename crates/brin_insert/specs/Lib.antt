@@ -1,5 +1,6 @@
 pub mod InsertHands
 pub mod InsertSteps
+pub mod InsertCalled
 pub mod StepAnswers
 pub mod TableSteps
 pub mod RowSteps

@@ -24,3 +24,16 @@ on_err_too (Err error) follows holds = follows holds
 pub on_ok_too : {T E P Q : Type 0} (result : Result T E) → (P → Q) → OnOk result P → OnOk result Q
 on_ok_too (Ok value) follows holds = follows holds
 on_ok_too (Err error) follows holds = holds
+
+-- one that holds in any case
+pub ok_all : {T E : Type 0} (P : T → Type 0) (result : Result T E) → ((value : T) → P value) → IfOk result P
+ok_all P (Ok value) all = all value
+ok_all P (Err error) all = tt
+
+pub on_ok_of : {T E P : Type 0} (result : Result T E) → P → OnOk result P
+on_ok_of (Ok value) holds = holds
+on_ok_of (Err error) holds = tt
+
+pub on_err_of : {T E P : Type 0} (result : Result T E) → P → OnErr result P
+on_err_of (Ok value) holds = tt
+on_err_of (Err error) holds = holds

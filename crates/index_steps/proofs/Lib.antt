@@ -33,4 +33,6 @@ pub mod Kept
 pub mod Standing
 pub mod Unnamed
 pub mod Found
+pub mod MoveSteps
+pub mod OnlyReading
 pub use Rattle.index_contents.proofs.Relations

@@ -101,11 +101,14 @@ refused_too told Cause Other old new errors.Disk follows refused = refused
 refused_too told Cause Other old new (errors.Reopen faults) follows refused = refused
 refused_too told Cause Other old new (errors.Damaged at) follows (was, now, more, because) = (was, now, more, follows because)
 
-machine_too : {D T : Type 0} (told : D → Told) (Cause Other : Type 0) (old new : View D) (result : Result T MachineFault) → (Cause → Other) → MachineOutcome told Cause old new result → MachineOutcome told Other old new result
+pub fault_too : {D : Type 0} (T U : Type 0) (told : D → Told) (Cause Other : Type 0) (old new : View D) (fault : MachineFault) → (Cause → Other) → MachineOutcome {T = T} told Cause old new (Err fault) → MachineOutcome {T = U} told Other old new (Err fault)
+fault_too T U told Cause Other old new (faults.Full relation number) follows done = done
+fault_too T U told Cause Other old new (faults.Store error) follows refused = refused_too told Cause Other old new error follows refused
+fault_too T U told Cause Other old new faults.Memory follows never = absurd never
+
+pub machine_too : {D T : Type 0} (told : D → Told) (Cause Other : Type 0) (old new : View D) (result : Result T MachineFault) → (Cause → Other) → MachineOutcome told Cause old new result → MachineOutcome told Other old new result
 machine_too told Cause Other old new (Ok value) follows done = done
-machine_too told Cause Other old new (Err (faults.Full relation number)) follows done = done
-machine_too told Cause Other old new (Err (faults.Store error)) follows refused = refused_too told Cause Other old new error follows refused
-machine_too told Cause Other old new (Err faults.Memory) follows never = never
+machine_too {T = T} told Cause Other old new (Err fault) follows done = fault_too T T told Cause Other old new fault follows done
 
 pub called_too : {D : Type 0} (told : D → Told) (actor : ℕ) (Cause Other : Type 0) (hand : GrowthHand) (moved : List ℕ) (old new : View D) (before after : LockState) (result : Result (Stage × Did) MachineFault) → (Cause → Other)
     → Called told actor Cause hand moved old new before after result → Called told actor Other hand moved old new before after result

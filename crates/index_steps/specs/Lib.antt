@@ -4,8 +4,10 @@ pub mod Readings
 pub mod DamagedPages
 pub mod SwapAnswers
 pub mod MoveEnds
+pub mod Moves
 pub mod PlaceAnswers
 pub mod StepAnswers
+pub mod OnlyReads
 pub mod ShownTable
 pub mod ShownRows
 pub mod LockLaws

@@ -18,6 +18,7 @@ mod judging;
 mod laws;
 mod map_page_laws;
 mod moved;
+mod moves;
 mod moving;
 mod moving_off;
 mod next;
@@ -44,6 +45,7 @@ pub use map_page_laws::{
     a_page_in_order_is_not_damaged, a_page_of_a_state_is_not_damaged,
     an_uncounted_map_page_is_left_over,
 };
+pub use moves::{Move, MoveStep, step_move};
 pub use moving::{drop_moved, name_moved};
 pub use next::{NextPage, PageState, next_page};
 pub use placing::{Placed, name_new, put_new};

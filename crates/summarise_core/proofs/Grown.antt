@@ -1,10 +1,12 @@
 -- a step of the map's growth, as a step of the summarise for whose range the map grows
-use Rattle.std.proofs.Common.{◌≡◌, ℕ, refl, sym, ap, subst, ◌∙◌, arith}
+use Rattle.std.proofs.Common.{◌≡◌, ℕ, ◌≤◌, refl, sym, ap, subst, ◌∙◌, arith}
+use Rattle.std.specs.Prelude.{IfOk, OnOk, Result, Ok, Err}
 use Rattle.disk_trait.specs.Told.{Told}
 use Rattle.store_layout.specs.DiskLayout.{DiskLayout}
 use Rattle.page_locks.specs.declared.did.Did.{Did}
 use Rattle.page_locks.specs.declared.did.Did.TheVariants as did
 use Rattle.page_locks.specs.LockHolders.{LockState}
+use Rattle.page_map.specs.declared.faults.MachineFault.{MachineFault}
 use Rattle.page_map.specs.PageMap.{PageMap, View, block_at}
 use Rattle.coverage.specs.IndexView.{IndexView, Pages}
 use Rattle.coverage.specs.Statements.{Vacant}
@@ -17,11 +19,12 @@ use Rattle.index_steps.specs.declared.growth_stage.Stage.{Stage as GrowthStage}
 use Rattle.index_steps.specs.declared.growth_stage.Stage.TheVariants as growth
 use Rattle.index_steps.specs.GrowthHands.{GrowthHand, RestsAt as GrowthRests}
 use Rattle.index_steps.specs.GrowthSteps.{GrowthAt, IsNeeded, StandsAfter as GrowthStands, StepFull as GrowthFull, Stepped as GrowthStepped, phase_of as growth_phase}
-use Rattle.index_steps.specs.StageLocks.{Gives}
+use Rattle.index_steps.specs.StageLocks.{Gives, held_at as held_to_grow}
+use Rattle.summarise_core.specs.declared.range_stage.Stage.{Stage}
 use Rattle.summarise_core.specs.declared.range_stage.Stage.TheVariants as stages
 use Rattle.summarise_core.specs.Growths.{onward}
 use Rattle.summarise_core.specs.ShownHeap.{Heap}
-use Rattle.summarise_core.specs.StageLocks.{EndsMove}
+use Rattle.summarise_core.specs.StageLocks.{EndsMove, held_at}
 use Rattle.summarise_core.specs.SummariseHands.{SummariseHand}
 use Rattle.summarise_core.specs.SummariseSteps.{RestsBlocked, StandsAfter, StepFull, Stepped}
 use Rattle.summarise_core.proofs.Stepped.{at_hand}
@@ -129,3 +132,8 @@ rests_there before after rests = at_stage before.stage rests
     at_stage growth.Count is = ap (λ (h : GrowthHand). h.stage) is
     at_stage (growth.Set range from to) is = ap (λ (h : GrowthHand). h.stage) is
     at_stage (growth.Drop range from) is = ap (λ (h : GrowthHand). h.stage) is
+
+-- it stays where the placeholder is to be put, with no more locks than there
+pub own_to_place : (result : Result (Stage × Did) MachineFault) (at to : GrowthStage) (n m : ℕ) → IfOk result (λ o. o.0 ≡ stages.Place) → OnOk result (n ≤ held_to_grow at → m ≤ held_to_grow to) → IfOk result (λ o. n ≤ held_to_grow at → m ≤ held_at to o.0)
+own_to_place (Ok o) at to n m stays own = λ few. subst (λ (stage : Stage). m ≤ held_at to stage) (sym stays) (own few)
+own_to_place (Err fault) at to n m stays own = tt

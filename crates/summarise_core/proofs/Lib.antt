@@ -8,10 +8,10 @@ pub mod KeptTable
 pub mod Seen
 pub mod Stepping
 pub mod Stepped
+pub mod Called
 pub mod Passing
 pub mod Adding
 pub mod Kept
-pub mod Faults
 pub mod Declared
 pub mod Exact
 pub mod Locking

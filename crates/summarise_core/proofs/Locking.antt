@@ -1,6 +1,5 @@
 -- the locks of a step, and what it rests on where it is blocked
 use Rattle.std.proofs.Common.{◌≡◌, ℕ, ◌+◌, ◌≤◌, true, refl, sym, subst, arith}
-use Rattle.std.proofs.lemmas.Bool.{false≢true}
 use Rattle.block_model.specs.declared.place.Place.{Place}
 use Rattle.page_locks.specs.declared.did.Did.{Did}
 use Rattle.page_locks.specs.declared.did.Did.TheVariants as did
@@ -17,38 +16,9 @@ use Rattle.index_steps.specs.declared.growth_stage.Stage.{Stage as GrowthStage}
 use Rattle.index_steps.specs.declared.growth_stage.Stage.TheVariants as growth
 use Rattle.summarise_core.specs.declared.range_stage.Stage.{Stage}
 use Rattle.summarise_core.specs.declared.range_stage.Stage.TheVariants as stages
-use Rattle.summarise_core.specs.StageLocks.{GivesAt, held_at}
+use Rattle.summarise_core.specs.StageLocks.{held_at}
 use Rattle.summarise_core.specs.SummariseHands.{GrowsToPlace, SummariseHand}
-use Rattle.summarise_core.specs.SummariseSteps.{RestsBlocked, only_reads}
-
--- a step that only reads has no locks and gives none
-pub reads_hold_none : (at : GrowthStage) (stage : Stage) → only_reads stage ≡ true → held_at at stage ≡ 0
-reads_hold_none at stages.Map reads = refl
-reads_hold_none at (stages.Tuple x) reads = refl
-reads_hold_none at stages.Place reads = absurd (false≢true reads)
-reads_hold_none at (stages.Name x) reads = absurd (false≢true reads)
-reads_hold_none at stages.Extent reads = refl
-reads_hold_none at stages.Pass reads = refl
-reads_hold_none at (stages.Copy x) reads = refl
-reads_hold_none at (stages.Swap x) reads = refl
-reads_hold_none at (stages.Set x y) reads = absurd (false≢true reads)
-reads_hold_none at (stages.Drop x) reads = absurd (false≢true reads)
-reads_hold_none at stages.Had reads = refl
-reads_hold_none at stages.Made reads = refl
-
-pub reads_give_none : (at : GrowthStage) (stage : Stage) → only_reads stage ≡ true → GivesAt at stage → ⊥
-reads_give_none at stages.Map reads gives = gives
-reads_give_none at (stages.Tuple x) reads gives = gives
-reads_give_none at stages.Place reads gives = absurd (false≢true reads)
-reads_give_none at (stages.Name x) reads gives = absurd (false≢true reads)
-reads_give_none at stages.Extent reads gives = gives
-reads_give_none at stages.Pass reads gives = gives
-reads_give_none at (stages.Copy x) reads gives = gives
-reads_give_none at (stages.Swap x) reads gives = gives
-reads_give_none at (stages.Set x y) reads gives = gives
-reads_give_none at (stages.Drop x) reads gives = absurd (false≢true reads)
-reads_give_none at stages.Had reads gives = gives
-reads_give_none at stages.Made reads gives = gives
+use Rattle.summarise_core.specs.SummariseSteps.{RestsBlocked}
 
 -- so many locks more than none
 pub few_more : (n held some : ℕ) (old new : LockState) (s : ℕ) → TakesAtMost n old new s → locks_of old s ≤ held → held + n ≤ some → locks_of new s ≤ some
@@ -89,21 +59,6 @@ grows_nowhere at (stages.Set x y) rests = rests
 grows_nowhere at (stages.Drop x) rests = rests
 grows_nowhere at stages.Had rests = rests
 grows_nowhere at stages.Made rests = rests
-
--- a step that only reads begins with no growth under way
-pub reads_at_rest : (at : GrowthStage) (stage : Stage) → only_reads stage ≡ true → GrowsToPlace at stage → at ≡ growth.Judge
-reads_at_rest at stages.Map reads grows = grows
-reads_at_rest at (stages.Tuple x) reads grows = grows
-reads_at_rest at stages.Place reads grows = absurd (false≢true reads)
-reads_at_rest at (stages.Name x) reads grows = grows
-reads_at_rest at stages.Extent reads grows = grows
-reads_at_rest at stages.Pass reads grows = grows
-reads_at_rest at (stages.Copy x) reads grows = grows
-reads_at_rest at (stages.Swap x) reads grows = grows
-reads_at_rest at (stages.Set x y) reads grows = grows
-reads_at_rest at (stages.Drop x) reads grows = grows
-reads_at_rest at stages.Had reads grows = grows
-reads_at_rest at stages.Made reads grows = grows
 
 -- so many locks are at most more
 pub few_taken : (n some : ℕ) (old new : LockState) (s : ℕ) → n ≤ some → TakesAtMost n old new s → TakesAtMost some old new s

@@ -13,10 +13,7 @@ use Rattle.index_contents.specs.IndexContents.{IndexContents}
 use Rattle.index_steps.specs.IndexTuples.{IndexShape, changed_as, classes_of, contents_of, final_union, is_placeholder, seen, united_as}
 use Rattle.index_steps.specs.Readings.{IsReadAs}
 use Rattle.index_steps.specs.ShownIndex.{Shows}
-
-pub seen_bytes : (shape : IndexShape) (bytes : List ℕ) → (seen shape bytes).bytes ≡ bytes
-unfolding seen
-seen_bytes shape bytes = refl
+use Rattle.index_steps.proofs.Views.{seen_bytes}
 
 -- a tuple that is read is a placeholder where it says so
 pub seen_sort : (shape : IndexShape) (bytes : List ℕ) (t : Tuple) → IsReadAs shape bytes t → (seen shape bytes).placeholder ≡ t.placeholder

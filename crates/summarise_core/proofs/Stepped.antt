@@ -16,7 +16,14 @@ use Rattle.index_contents.specs.IndexContents.{IndexContents}
 use Rattle.index_steps.specs.declared.placing.Placed.{Placed}
 use Rattle.index_steps.specs.declared.placing.Placed.TheVariants as placed
 use Rattle.index_steps.specs.declared.swapping.Swapped.TheVariants as swaps
-use Rattle.index_steps.specs.declared.swapping.Swapped.{Swapped}
+use Rattle.index_steps.specs.declared.moves.Move.{Move}
+use Rattle.index_steps.specs.declared.moves.Move.TheVariants as moves
+use Rattle.index_steps.specs.declared.moves.MoveStep.{MoveStep}
+use Rattle.index_steps.specs.declared.moves.MoveStep.TheVariants as steps
+use Rattle.index_steps.specs.Moves.{Comes, MoveMakes}
+use Rattle.summarise_core.specs.declared.work.Work.{Work}
+use Rattle.summarise_core.specs.SummariseCalled.{after_move, stage_of_move}
+use Rattle.summarise_core.specs.Works.{hand_of}
 use Rattle.index_steps.specs.IndexTuples.{IndexShape, classes_of, final_union, seen}
 use Rattle.index_steps.specs.MoveEnds.{DropsIn, SetsIn}
 use Rattle.index_steps.specs.PlaceAnswers.{NamesIn, PlaceMakes}
@@ -30,7 +37,7 @@ use Rattle.summarise_core.specs.ShownHeap.{Heap, ShowsHeap}
 use Rattle.summarise_core.specs.SummariseHands.{SummariseHand}
 use Rattle.summarise_core.specs.SummariseSteps.{Stepped, SummariseAt}
 use Rattle.summarise_core.proofs.Seen.{empty_there, seen_sort, united_there}
-use Rattle.summarise_core.proofs.Stepping.{again, copies, drops, found, gone, is_final, look_gone, looks, looks_again, moves, names, no_entry, passes, puts_new, reads_extent, sets, swaps as swaps_in}
+use Rattle.summarise_core.proofs.Stepping.{again, copies, drops, found, gone, is_final, look_gone, looks, looks_again, moves as moves_on, names, no_entry, passes, puts_new, reads_extent, sets, swaps as swaps_in}
 
 -- a summarise at a range
 abbrev pub at_hand : IndexContents → (ℕ → Option ℕ) → SummariseHand → SummariseAt
@@ -229,7 +236,7 @@ module _ (shape : IndexShape) (heap : Heap) (s range : ℕ) (c d : IndexContents
         (
             λ w shows rows its knows pages.
             let made = makes w shows knows.1.0.0 in
-            (w.unnamed, (λ x is. is), moves s range w (shown_part shape d locked w.unnamed) hand.extent hand.next (seen shape (tuple_bytes hand.running)) x y (seen shape copied) (seen shape (tuple_bytes united)) pages.3 made.0 made.1 made.2)),
+            (w.unnamed, (λ x is. is), moves_on s range w (shown_part shape d locked w.unnamed) hand.extent hand.next (seen shape (tuple_bytes hand.running)) x y (seen shape copied) (seen shape (tuple_bytes united)) pages.3 made.0 made.1 made.2)),
         refl,
       ),
       tt,
@@ -256,18 +263,23 @@ is_set shape heap s range c d lock hand x y named = (
   tt,
 )
 
--- a swap, or a put, of these bytes is one of those that they are
-pub swapped_as : (shape : IndexShape) (s range : ℕ) (c d : IndexContents) (lock locked : ℕ → Option ℕ) (x : Spot) (one copied other widened : List ℕ) (swapped : Swapped) → one ≡ copied → other ≡ widened
-    → SwapMakes shape c d lock locked s range x (seen shape one) (seen shape other) swapped → SwapMakes shape c d lock locked s range x (seen shape copied) (seen shape widened) swapped
-swapped_as shape s range c d lock locked x one copied other widened swapped first second makes =
-    subst (λ (b : List ℕ). SwapMakes shape c d lock locked s range x (seen shape b) (seen shape widened) swapped) first
-    (subst (λ (b : List ℕ). SwapMakes shape c d lock locked s range x (seen shape one) (seen shape b) swapped) second makes)
+-- each step of the move
+pub step_by : (shape : IndexShape) (heap : Heap) (s range : ℕ) (c d : IndexContents) (lock locked : ℕ → Option ℕ) (work : Work) (move : Move) (step : MoveStep) → Comes move step
+    → MoveMakes shape c d lock locked s range (seen shape work.copied) (seen shape (tuple_bytes work.united)) move step
+    → Stepped shape heap s range (at_hand c lock (hand_of (stage_of_move move) work)) (at_hand d locked (hand_of (after_move move step).0 work)) (after_move move step).1
+step_by shape heap s range c d lock locked work (moves.Swap x) steps.InPlace comes makes = in_place shape heap s range c d lock locked (hand_of (stages.Swap x) work) x work.copied work.united makes
+step_by shape heap s range c d lock locked work (moves.Swap x) steps.Differs comes makes = lost shape heap s range c d lock locked (hand_of (stages.Swap x) work) x work.copied work.united makes
+step_by shape heap s range c d lock locked work (moves.Swap x) (steps.Waits held) comes makes = waits_to_swap shape heap s range c d lock locked (hand_of (stages.Swap x) work) x work.copied work.united held makes
+step_by shape heap s range c d lock locked work (moves.Swap x) (steps.Put from y) comes makes =
+    subst (λ (z : Spot). Stepped shape heap s range (at_hand c lock (hand_of (stages.Swap x) work)) (at_hand d locked (hand_of (stages.Set z y) work)) (did.Moved points.Put)) (sym comes)
+    (put_elsewhere shape heap s range c d lock locked (hand_of (stages.Swap x) work) x work.copied work.united y makes)
+step_by shape heap s range c d lock locked work (moves.Set x y) (steps.Named from) comes makes =
+    subst (λ (z : Spot). Stepped shape heap s range (at_hand c lock (hand_of (stages.Set x y) work)) (at_hand d locked (hand_of (stages.Drop z) work)) (did.Moved points.Set)) (sym comes)
+    (subst (λ (l : ℕ → Option ℕ). Stepped shape heap s range (at_hand c lock (hand_of (stages.Set x y) work)) (at_hand d l (hand_of (stages.Drop x) work)) (did.Moved points.Set)) (sym makes.0) (is_set shape heap s range c d lock (hand_of (stages.Set x y) work) x y makes.1))
+step_by shape heap s range c d lock locked work (moves.Drop x) steps.Dropped comes makes = is_dropped shape heap s range c d lock locked (hand_of (stages.Drop x) work) x makes
+step_by shape heap s range c d lock locked work move step comes makes = absurd comes
 
+-- a put of these bytes is one of those that they are
 pub placed_as : (shape : IndexShape) (s range : ℕ) (c d : IndexContents) (lock locked : ℕ → Option ℕ) (one bytes : List ℕ) (made : Placed) → one ≡ bytes
     → PlaceMakes shape c d lock locked s range (seen shape one) made → PlaceMakes shape c d lock locked s range (seen shape bytes) made
 placed_as shape s range c d lock locked one bytes made is makes = subst (λ (b : List ℕ). PlaceMakes shape c d lock locked s range (seen shape b) made) is makes
-
-pub verdict_as : (shape : IndexShape) (w : IndexView) (s range : ℕ) (x : Spot) (one copied other widened : List ℕ) (verdict : Verdict) → one ≡ copied → other ≡ widened → SwapVerdict w s range x (seen shape one) (seen shape other) verdict
-    → SwapVerdict w s range x (seen shape copied) (seen shape widened) verdict
-verdict_as shape w s range x one copied other widened verdict first second is =
-    subst (λ (b : List ℕ). SwapVerdict w s range x (seen shape b) (seen shape widened) verdict) first (subst (λ (b : List ℕ). SwapVerdict w s range x (seen shape one) (seen shape b) verdict) second is)

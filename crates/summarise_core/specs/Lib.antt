@@ -4,6 +4,7 @@ pub mod SummariseCalls
 pub mod SummariseHands
 pub mod ShownHeap
 pub mod SummariseSteps
+pub mod SummariseCalled
 pub mod StepCauses
 pub mod BlockRows
 pub mod Works

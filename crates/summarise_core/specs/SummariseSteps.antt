@@ -95,15 +95,6 @@ abbrev pub RestsBlocked : (old new : SummariseHand) → Did → Type 0
 RestsBlocked old new (did.Blocked held) = RestsAt old.stage old new
 RestsBlocked old new done = Unit {0}
 
--- the next step at the stage only reads pages
-abbrev pub only_reads : Stage → Bool
-only_reads stages.Map = true
-only_reads (stages.Tuple x) = true
-only_reads stages.Extent = true
-only_reads stages.Pass = true
-only_reads (stages.Copy x) = true
-only_reads stage = false
-
 -- how many final tuples the map came to name by it at this range
 abbrev pub made_at : Stage → ℕ
 made_at (stages.Drop x) = 1

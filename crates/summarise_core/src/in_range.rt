@@ -15,10 +15,11 @@ ghost use Rattle.index_contents.specs.IndexContents.{contents, relation_of};
 ghost use Rattle.index_contents.specs.IndexChanges.{LeavesOthers};
 ghost use Rattle.index_contents.specs.KeepsOrder.{KeepsOrder};
 ghost use Rattle.index_steps.specs.IndexTuples.{IndexShape, classes_of, shape_of};
-ghost use Rattle.index_steps.specs.MoveEnds.{IsMoving};
+ghost use Rattle.index_steps.specs.Moves.{IsMoveReady, taken_to_move};
+ghost use Rattle.index_steps.specs.OnlyReads.{OnlyReads};
 ghost use Rattle.index_steps.specs.PlaceAnswers.{IsPlacing};
 ghost use Rattle.index_steps.specs.Readings.{IsMisnamed, IsMisread};
-ghost use Rattle.index_steps.specs.StepAnswers.{BlockedWell, IsOfStore, NeverBlocked};
+ghost use Rattle.index_steps.specs.StepAnswers.{BlockedWell, IsOfStore};
 ghost use Rattle.index_steps.specs.SwapAnswers.{FaultNamesPageOf, LeavesLocks, MachineOutcome, SaysFullIn, StaysWhereFull, TakesAtMost};
 ghost use Rattle.range_tuple.specs.ExactTuples.{with_rows};
 ghost use Rattle.index_steps.specs.declared.growth_stage.Stage.{Stage as GrowthStage};
@@ -27,18 +28,22 @@ ghost use Rattle.summarise_core.specs.ExactSummaries.{HasPassed, IsExactAt, rows
 ghost use Rattle.summarise_core.specs.ShownHeap.{Heap, heap_of};
 ghost use Rattle.summarise_core.specs.StepCauses.{FaultNamesHeapPage};
 ghost use Rattle.summarise_core.specs.StageLocks.{held_at};
-ghost use Rattle.summarise_core.specs.SummariseHands.{SummariseHand, table_of};
+ghost use Rattle.summarise_core.specs.declared.work.Work.{Work as AnyWork};
+ghost use Rattle.summarise_core.specs.SummariseCalled.{Called, after_move, stage_of_move};
+ghost use Rattle.summarise_core.specs.SummariseHands.{IsHandOf, SummariseHand, table_of};
 ghost use Rattle.summarise_core.specs.SummariseSteps.{RestsBlocked, StandsAfter, StepFull, StepsAt, summarise_at};
+ghost use Rattle.summarise_core.specs.Works.{hand_of};
 
 use crate::range_stage::Stage;
 use crate::rows::{add_rows, blocks_a_range, first_block, lesser, rows_are_taken, table_of};
+use crate::work::Work;
 use block_model::{Point, Spot};
 use disk_trait::Disk;
 use heap_rows::{PageRows, blocks, rows_of};
 use index_steps::{
-    Placed, Scratch, Swapped, Within, a_row_is_added_to_what_is_seen, an_index_that_stays_is_read,
-    copy_tuple, drop_moved, map_page_of, name_moved, name_new, page_at, put_new, read_map, spell,
-    swap, tuples_of_an_index_need_one_room,
+    Move, MoveStep, Placed, Scratch, Within, a_row_is_added_to_what_is_seen,
+    an_index_that_stays_is_read, copy_tuple, map_page_of, name_new, page_at, put_new, read_map,
+    spell, step_move, tuples_of_an_index_need_one_room,
 };
 use page_locks::{Did, Locks};
 use page_map::{MachineFault, StoreError};
@@ -55,15 +60,9 @@ pub(crate) fn look<D: Disk + Drop>(
     ensures stepped { IfOk result (λ o. Tells D.told pages.old → (locks : LockState) (heap : Heap) (hand : SummariseHand) → hand.growth.stage ≡ growth.Judge → StepsAt pages.old.layout pages.old.pages pages.new.pages locks locks at heap (record hand { stage = Stage.Map }) (record hand { stage = o.0; copied = copied.new }) o.1) }
     ensures exact { IfOk result (λ o. (shape : IndexShape) (heap : Heap) (hand : SummariseHand) → IsExactAt shape heap at.range (record hand { stage = Stage.Map }) Stage.Map → IsExactAt shape heap at.range (record hand { stage = o.0; copied = copied.new }) o.0) }
     ensures stands { IfOk result (λ o. (growth : GrowthStage) → StandsAfter growth Stage.Map o.0 o.1) }
-    ensures kept { Keeps D.told pages.old pages.new }
-    ensures survives { Survives D.told (λ passed. passed ≡ pages.old.pages) pages.old pages.new }
-    ensures never_blocked { IfOk result (λ o. NeverBlocked o.1) }
-    ensures of_store { IfErr result IsOfStore }
     ensures undamaged { OnOk result (Tells D.told pages.old → IsMisnamed (contents pages.old.layout pages.old.pages at.index) at.range → ⊥) }
-    ensures at { IfErr result (FaultNamesPageOf pages.old.layout at.index) }
-    ensures outcome { MachineOutcome D.told (Tells D.told pages.old → IsMisnamed (contents pages.old.layout pages.old.pages at.index) at.range) pages.old pages.new result }
+    ensures reads { OnlyReads D.told (FaultNamesPageOf pages.old.layout at.index) (Tells D.told pages.old → IsMisnamed (contents pages.old.layout pages.old.pages at.index) at.range) pages.old pages.new result }
 {
-    an_index_that_stays_is_read();
     match read_map(pages, at.index, at.range, copied) {
         Ok(Some(spot)) => Ok((Stage::Tuple(spot), Did::Moved(Point::Map))),
         Ok(None) => Ok((Stage::Place, Did::Moved(Point::Map))),
@@ -86,15 +85,9 @@ pub(crate) fn take_up<D: Disk + Drop>(
     ensures exact { IfOk result (λ o. (shape : IndexShape) (heap : Heap) (hand : SummariseHand) → IsExactAt shape heap at.range (record hand { stage = Stage.Tuple spot }) (Stage.Tuple spot) → IsExactAt shape heap at.range (record hand { stage = o.0; copied = copied.new; united = united.new }) o.0) }
     ensures stands { IfOk result (λ o. (growth : GrowthStage) → StandsAfter growth (Stage.Tuple spot) o.0 o.1) }
     ensures same_index { parts_of united.new.columns ≡ parts_of united.old.columns }
-    ensures kept { Keeps D.told pages.old pages.new }
-    ensures survives { Survives D.told (λ passed. passed ≡ pages.old.pages) pages.old pages.new }
-    ensures never_blocked { IfOk result (λ o. NeverBlocked o.1) }
-    ensures of_store { IfErr result IsOfStore }
     ensures undamaged { OnOk result (Tells D.told pages.old → IsMisread (shape_of pages.old.layout at.index) (contents pages.old.layout pages.old.pages at.index) at.range spot → ⊥) }
-    ensures at { IfErr result (FaultNamesPageOf pages.old.layout at.index) }
-    ensures outcome { MachineOutcome D.told (Tells D.told pages.old → IsMisread (shape_of pages.old.layout at.index) (contents pages.old.layout pages.old.pages at.index) at.range spot) pages.old pages.new result }
+    ensures reads { OnlyReads D.told (FaultNamesPageOf pages.old.layout at.index) (Tells D.told pages.old → IsMisread (shape_of pages.old.layout at.index) (contents pages.old.layout pages.old.pages at.index) at.range spot) pages.old pages.new result }
 {
-    an_index_that_stays_is_read();
     match copy_tuple(pages, at.index, at.range, spot, copied, united) {
         Ok(true) => {}
         Ok(false) => return Ok((Stage::Map, Did::Moved(Point::Tuple))),
@@ -157,21 +150,7 @@ pub(crate) fn name<D: Disk + Drop>(
 ) -> Result<(Stage, Did), MachineFault>
     requires index { at.index < length pages.old.layout.schema.indexes }
     requires placing { Tells D.told pages.old → IsPlacing (shape_of pages.old.layout at.index) (contents pages.old.layout pages.old.pages at.index) at.range to }
-    ensures stepped { IfOk result (λ o. Tells D.told pages.old → (heap : Heap) (hand : SummariseHand) → StepsAt pages.old.layout pages.old.pages pages.new.pages locks.old locks.new at heap (record hand { stage = Stage.Name to }) (record hand { stage = o.0 }) o.1) }
-    ensures exact { IfOk result (λ o. (shape : IndexShape) (heap : Heap) (hand : SummariseHand) → IsExactAt shape heap at.range (record hand { stage = Stage.Name to }) (Stage.Name to) → IsExactAt shape heap at.range (record hand { stage = o.0 }) o.0) }
-    ensures stands { IfOk result (λ o. (growth : GrowthStage) → StandsAfter growth (Stage.Name to) o.0 o.1) }
-    ensures others { LeavesOthers D.told at.index pages.old pages.new }
-    ensures order { KeepsOrder D.told at.index pages.old pages.new }
-    ensures locks { LeavesLocks (holder locks.old) (holder locks.new) (relation_of pages.old.layout at.index) at.actor }
-    ensures counts { TakesAtMost 0 locks.old locks.new at.actor }
-    ensures given { OnOk result (locks_of locks.new at.actor ≡ 0) }
-    ensures own { IfOk result (λ o. (growth : GrowthStage) → locks_of locks.old at.actor ≤ held_at growth (Stage.Name to) → locks_of locks.new at.actor ≤ held_at growth o.0) }
-    ensures kept { OnErr result (Keeps D.told pages.old pages.new) }
-    ensures survives { Survives D.told (λ passed. passed ≡ pages.old.pages) pages.old pages.new }
-    ensures never_blocked { IfOk result (λ o. NeverBlocked o.1) }
-    ensures of_store { IfErr result IsOfStore }
-    ensures at { IfErr result (FaultNamesPageOf pages.old.layout at.index) }
-    ensures outcome { MachineOutcome D.told (Untold D.told pages.old) pages.old pages.new result }
+    ensures { (work : AnyWork) → IsHandOf pages.old.layout at.index (hand_of (Stage.Name to) work) → work.growth.stage ≡ growth.Judge → Called D.told at (Stage.Name to) work work pages.old pages.new locks.old locks.new result }
 {
     match name_new(pages, locks, at, to) {
         Ok(()) => Ok((Stage::Extent, Did::Moved(Point::Set))),
@@ -259,15 +238,9 @@ pub(crate) fn look_again<D: Disk + Drop>(
     ensures stepped { IfOk result (λ o. Tells D.told pages.old → (locks : LockState) (heap : Heap) (hand : SummariseHand) → hand.extent ≤ hand.next → StepsAt pages.old.layout pages.old.pages pages.new.pages locks locks at heap (record hand { stage = Stage.Pass }) (record hand { stage = o.0; copied = copied.new }) o.1) }
     ensures exact { IfOk result (λ o. (shape : IndexShape) (heap : Heap) (hand : SummariseHand) → hand.extent ≤ hand.next → IsExactAt shape heap at.range (record hand { stage = Stage.Pass }) Stage.Pass → IsExactAt shape heap at.range (record hand { stage = o.0; copied = copied.new }) o.0) }
     ensures stands { IfOk result (λ o. (growth : GrowthStage) → StandsAfter growth Stage.Pass o.0 o.1) }
-    ensures kept { Keeps D.told pages.old pages.new }
-    ensures survives { Survives D.told (λ passed. passed ≡ pages.old.pages) pages.old pages.new }
-    ensures never_blocked { IfOk result (λ o. NeverBlocked o.1) }
-    ensures of_store { IfErr result IsOfStore }
     ensures undamaged { OnOk result (Tells D.told pages.old → (IsMisnamed (contents pages.old.layout pages.old.pages at.index) at.range ⊎ ((contents pages.old.layout pages.old.pages at.index).entry at.range ≡ None)) → ⊥) }
-    ensures at { IfErr result (FaultNamesPageOf pages.old.layout at.index) }
-    ensures outcome { MachineOutcome D.told (Tells D.told pages.old → IsMisnamed (contents pages.old.layout pages.old.pages at.index) at.range ⊎ ((contents pages.old.layout pages.old.pages at.index).entry at.range ≡ None)) pages.old pages.new result }
+    ensures reads { OnlyReads D.told (FaultNamesPageOf pages.old.layout at.index) (Tells D.told pages.old → IsMisnamed (contents pages.old.layout pages.old.pages at.index) at.range ⊎ ((contents pages.old.layout pages.old.pages at.index).entry at.range ≡ None)) pages.old pages.new result }
 {
-    an_index_that_stays_is_read();
     match read_map(pages, at.index, at.range, copied) {
         Ok(Some(spot)) => Ok((Stage::Copy(spot), Did::Moved(Point::Map))),
         Ok(None) => Err(MachineFault::Store(StoreError::Damaged {
@@ -294,15 +267,9 @@ pub(crate) fn unite<D: Disk + Drop>(
     ensures exact { IfOk result (λ o. (heap : Heap) (hand : SummariseHand) → IsExactAt (shape_of pages.old.layout at.index) heap at.range (record hand { stage = Stage.Copy spot; running = running.now }) (Stage.Copy spot) → IsExactAt (shape_of pages.old.layout at.index) heap at.range (record hand { stage = o.0; copied = copied.new; running = running.now; united = united.new }) o.0) }
     ensures stands { IfOk result (λ o. (growth : GrowthStage) → StandsAfter growth (Stage.Copy spot) o.0 o.1) }
     ensures same_index { parts_of united.new.columns ≡ parts_of united.old.columns }
-    ensures kept { Keeps D.told pages.old pages.new }
-    ensures survives { Survives D.told (λ passed. passed ≡ pages.old.pages) pages.old pages.new }
-    ensures never_blocked { IfOk result (λ o. NeverBlocked o.1) }
-    ensures of_store { IfErr result IsOfStore }
     ensures undamaged { OnOk result (Tells D.told pages.old → IsMisread (shape_of pages.old.layout at.index) (contents pages.old.layout pages.old.pages at.index) at.range spot → ⊥) }
-    ensures at { IfErr result (FaultNamesPageOf pages.old.layout at.index) }
-    ensures outcome { MachineOutcome D.told (Tells D.told pages.old → IsMisread (shape_of pages.old.layout at.index) (contents pages.old.layout pages.old.pages at.index) at.range spot) pages.old pages.new result }
+    ensures reads { OnlyReads D.told (FaultNamesPageOf pages.old.layout at.index) (Tells D.told pages.old → IsMisread (shape_of pages.old.layout at.index) (contents pages.old.layout pages.old.pages at.index) at.range spot) pages.old pages.new result }
 {
-    an_index_that_stays_is_read();
     match copy_tuple(pages, at.index, at.range, spot, copied, united) {
         Ok(true) => {}
         Ok(false) => return Ok((Stage::Pass, Did::Moved(Point::Copy))),
@@ -315,101 +282,52 @@ pub(crate) fn unite<D: Disk + Drop>(
     Ok((Stage::Swap(spot), Did::Moved(Point::Copy)))
 }
 
-/// Has the final tuple take the place of the placeholder that was copied at the spot, or puts it on another page.
-pub(crate) fn swap_in<D: Disk + Drop>(
+/// Has the final tuple take the place of the placeholder that was copied, or puts it on another page; then the map names it there, and the
+/// placeholder goes.
+pub(crate) fn move_in<D: Disk + Drop>(
     pages: &mut PageStore<D>,
     locks: &mut Locks,
     at: Within,
-    spot: Spot,
-    copied: &Scratch,
-    united: &RangeTuple,
+    step: Move,
+    work: &Work,
     room: &mut [u8],
 ) -> Result<(Stage, Did), MachineFault>
     requires index { at.index < length pages.old.layout.schema.indexes }
-    requires room { tuple_room united.now.columns ≤ length room.old }
-    requires locks { count_of locks.old + 3 ≤ locks.old.limit }
-    ensures stepped { IfOk result (λ o. Tells D.told pages.old → (heap : Heap) (hand : SummariseHand) → StepsAt pages.old.layout pages.old.pages pages.new.pages locks.old locks.new at heap (record hand { stage = Stage.Swap spot; copied = copied.now; united = united.now }) (record hand { stage = o.0; copied = copied.now; united = united.now }) o.1) }
-    ensures exact { IfOk result (λ o. (shape : IndexShape) (heap : Heap) (hand : SummariseHand) → IsExactAt shape heap at.range (record hand { stage = Stage.Swap spot; copied = copied.now; united = united.now }) (Stage.Swap spot) → IsExactAt shape heap at.range (record hand { stage = o.0; copied = copied.now; united = united.now }) o.0) }
-    ensures rests { IfOk result (λ o. (hand : SummariseHand) → RestsBlocked (record hand { stage = Stage.Swap spot }) (record hand { stage = o.0 }) o.1) }
-    ensures stands { IfOk result (λ o. (growth : GrowthStage) → StandsAfter growth (Stage.Swap spot) o.0 o.1) }
+    requires of { IsHandOf pages.old.layout at.index (hand_of (stage_of_move step) work.now) }
+    requires rests { work.now.growth.stage ≡ growth.Judge }
+    requires room { tuple_room work.now.united.columns ≤ length room.old }
+    requires locks { 0 < taken_to_move step → count_of locks.old + 3 ≤ locks.old.limit }
+    requires ready { Tells D.told pages.old → IsMoveReady (shape_of pages.old.layout at.index) (contents pages.old.layout pages.old.pages at.index) at.range step }
+    ensures called { Called D.told at (stage_of_move step) work.now work.now pages.old pages.new locks.old locks.new result }
     ensures same_room { length room.new ≡ length room.old }
-    ensures blocked { IfOk result (λ o. BlockedWell D.told at.index at.actor pages.old pages.new locks.old locks.new o.1) }
-    ensures full { IfErr result (SaysFullIn pages.old.layout at.index (λ number. Tells D.told pages.old → (hand : SummariseHand) → StepFull (shape_of pages.old.layout at.index) at.actor at.range (summarise_at pages.old.layout pages.old.pages locks.old at.index (record hand { stage = Stage.Swap spot; copied = copied.now; united = united.now })) number)) }
-    ensures at_full { IfErr result (StaysWhereFull locks.old locks.new) }
-    ensures others { LeavesOthers D.told at.index pages.old pages.new }
-    ensures order { KeepsOrder D.told at.index pages.old pages.new }
-    ensures locks { LeavesLocks (holder locks.old) (holder locks.new) (relation_of pages.old.layout at.index) at.actor }
-    ensures counts { TakesAtMost 3 locks.old locks.new at.actor }
-    ensures own { IfOk result (λ o. (growth : GrowthStage) → locks_of locks.old at.actor ≤ held_at growth (Stage.Swap spot) → locks_of locks.new at.actor ≤ held_at growth o.0) }
-    ensures kept { OnErr result (Keeps D.told pages.old pages.new) }
-    ensures survives { Survives D.told (λ passed. passed ≡ pages.old.pages) pages.old pages.new }
-    ensures at { IfErr result (FaultNamesPageOf pages.old.layout at.index) }
-    ensures outcome { MachineOutcome D.told (Untold D.told pages.old) pages.old pages.new result }
 {
-    let size = spell(united, room);
-    match swap(pages, locks, at, spot, copied.bytes(), &room[..size]) {
-        Ok(Swapped::InPlace) => Ok((Stage::Made, Did::Finished(Point::Swap))),
-        Ok(Swapped::Differs) => Ok((Stage::Pass, Did::Moved(Point::Again))),
-        Ok(Swapped::Waits(held)) => Ok((Stage::Swap(spot), Did::Blocked(held))),
-        Ok(Swapped::Moves(to)) => Ok((Stage::Set(spot, to), Did::Moved(Point::Put))),
+    match step_move(pages, locks, at, step, &work.copied, &work.united, room) {
+        Ok(made) => Ok(after_move(step, made)),
         Err(fault) => Err(fault),
     }
 }
 
-/// Has the map name the final tuple, which was put at `to`.
-pub(crate) fn set_in<D: Disk + Drop>(
-    pages: &mut PageStore<D>,
-    at: Within,
-    from: Spot,
-    to: Spot,
-) -> Result<(Stage, Did), MachineFault>
-    requires index { at.index < length pages.old.layout.schema.indexes }
-    requires moving { Tells D.told pages.old → IsMoving (shape_of pages.old.layout at.index) (contents pages.old.layout pages.old.pages at.index) at.range from to }
-    ensures stepped { IfOk result (λ o. Tells D.told pages.old → (locks : LockState) (heap : Heap) (hand : SummariseHand) → StepsAt pages.old.layout pages.old.pages pages.new.pages locks locks at heap (record hand { stage = Stage.Set from to }) (record hand { stage = o.0 }) o.1) }
-    ensures exact { IfOk result (λ o. (shape : IndexShape) (heap : Heap) (hand : SummariseHand) → IsExactAt shape heap at.range (record hand { stage = Stage.Set from to }) (Stage.Set from to) → IsExactAt shape heap at.range (record hand { stage = o.0 }) o.0) }
-    ensures stands { IfOk result (λ o. (growth : GrowthStage) → StandsAfter growth (Stage.Set from to) o.0 o.1) }
-    ensures own { IfOk result (λ o. (growth : GrowthStage) → held_at growth (Stage.Set from to) ≤ held_at growth o.0) }
-    ensures others { LeavesOthers D.told at.index pages.old pages.new }
-    ensures order { KeepsOrder D.told at.index pages.old pages.new }
-    ensures kept { OnErr result (Keeps D.told pages.old pages.new) }
-    ensures survives { Survives D.told (λ passed. passed ≡ pages.old.pages) pages.old pages.new }
-    ensures never_blocked { IfOk result (λ o. NeverBlocked o.1) }
-    ensures of_store { IfErr result IsOfStore }
-    ensures at { IfErr result (FaultNamesPageOf pages.old.layout at.index) }
-    ensures outcome { MachineOutcome D.told (Untold D.told pages.old) pages.old pages.new result }
+/// What comes of a step of the move.
+fn after_move(step: Move, made: MoveStep) -> (Stage, Did)
+    ensures { result ≡ after_move step made }
 {
-    match name_moved(pages, at, from, to) {
-        Ok(()) => Ok((Stage::Drop(from), Did::Moved(Point::Set))),
-        Err(error) => Err(MachineFault::Store(error)),
+    match made {
+        MoveStep::InPlace => (Stage::Made, Did::Finished(Point::Swap)),
+        MoveStep::Differs => (Stage::Pass, Did::Moved(Point::Again)),
+        MoveStep::Waits(held) => (stage_of_move(step), Did::Blocked(held)),
+        MoveStep::Put(from, to) => (Stage::Set(from, to), Did::Moved(Point::Put)),
+        MoveStep::Named(from) => (Stage::Drop(from), Did::Moved(Point::Set)),
+        MoveStep::Dropped => (Stage::Made, Did::Finished(Point::Drop)),
     }
 }
 
-/// Drops the placeholder, and gives the locks.
-pub(crate) fn drop_in<D: Disk + Drop>(
-    pages: &mut PageStore<D>,
-    locks: &mut Locks,
-    at: Within,
-    from: Spot,
-) -> Result<(Stage, Did), MachineFault>
-    requires index { at.index < length pages.old.layout.schema.indexes }
-    ensures stepped { IfOk result (λ o. Tells D.told pages.old → (heap : Heap) (hand : SummariseHand) → StepsAt pages.old.layout pages.old.pages pages.new.pages locks.old locks.new at heap (record hand { stage = Stage.Drop from }) (record hand { stage = o.0 }) o.1) }
-    ensures exact { IfOk result (λ o. (shape : IndexShape) (heap : Heap) (hand : SummariseHand) → IsExactAt shape heap at.range (record hand { stage = Stage.Drop from }) (Stage.Drop from) → IsExactAt shape heap at.range (record hand { stage = o.0 }) o.0) }
-    ensures stands { IfOk result (λ o. (growth : GrowthStage) → StandsAfter growth (Stage.Drop from) o.0 o.1) }
-    ensures others { LeavesOthers D.told at.index pages.old pages.new }
-    ensures order { KeepsOrder D.told at.index pages.old pages.new }
-    ensures locks { LeavesLocks (holder locks.old) (holder locks.new) (relation_of pages.old.layout at.index) at.actor }
-    ensures counts { TakesAtMost 0 locks.old locks.new at.actor }
-    ensures given { OnOk result (locks_of locks.new at.actor ≡ 0) }
-    ensures own { IfOk result (λ o. (growth : GrowthStage) → locks_of locks.old at.actor ≤ held_at growth (Stage.Drop from) → locks_of locks.new at.actor ≤ held_at growth o.0) }
-    ensures kept { OnErr result (Keeps D.told pages.old pages.new) }
-    ensures survives { Survives D.told (λ passed. passed ≡ pages.old.pages) pages.old pages.new }
-    ensures never_blocked { IfOk result (λ o. NeverBlocked o.1) }
-    ensures of_store { IfErr result IsOfStore }
-    ensures at { IfErr result (FaultNamesPageOf pages.old.layout at.index) }
-    ensures outcome { MachineOutcome D.told (Untold D.told pages.old) pages.old pages.new result }
+/// The stage at which a step of the move is next.
+fn stage_of_move(step: Move) -> Stage
+    ensures { result ≡ stage_of_move step }
 {
-    match drop_moved(pages, locks, at, from) {
-        Ok(()) => Ok((Stage::Made, Did::Finished(Point::Drop))),
-        Err(error) => Err(MachineFault::Store(error)),
+    match step {
+        Move::Swap(spot) => Stage::Swap(spot),
+        Move::Set(from, to) => Stage::Set(from, to),
+        Move::Drop(from) => Stage::Drop(from),
     }
 }

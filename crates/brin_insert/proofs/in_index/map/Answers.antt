@@ -1,9 +1,9 @@
 use Rattle.std.proofs.Common.{◌≡◌, refl, ap, ◌∙◌}
-use Rattle.page_map.specs.PageMap.{PageMap}
 use Rattle.range_tuple.specs.TupleBytes.{tuple_bytes}
 use Rattle.index_contents.specs.IndexContents.{contents}
 use Rattle.index_steps.specs.IndexTuples.{shape_of}
 use Rattle.index_steps.specs.ShownIndex.{lock_in}
+use Rattle.index_steps.proofs.OnlyReading.{still_read}
 use Rattle.brin_insert.proofs.Copies.{named, unnamed}
 use Rattle.brin_insert.proofs.in_index.map.Goals as goal
 
@@ -12,11 +12,8 @@ returns-in-Ok-Some-clause-stepped g c = λ tells locks before old new r.
     let store = c.args.pages.now in
     let at = c.args.at in
     let shape = shape_of store.layout at.index in
-    let was = contents store.layout store.pages at.index in
-    let is = contents store.layout c.read_map.new.pages.pages at.index in
     let lock = lock_in store.layout locks at.index in
-    let same : is ≡ was = ap (λ (pages : PageMap). contents store.layout pages at.index) (c.read_map.ensures.kept.pages tells) in
-    named shape at.actor at.range r was is lock before (tuple_bytes old) (λ w shows none. c.an_index_that_stays_is_read.ensures shape was is lock lock w at.actor shows same refl none)
+    named shape at.actor at.range r (contents store.layout store.pages at.index) (contents store.layout c.read_map.new.pages.pages at.index) lock before (tuple_bytes old) (still_read g.D.Disk.told store c.read_map.new.pages c.read_map.ensures.kept tells at.index at.actor lock)
     c.read_map.new.copied (tuple_bytes new) c.in-Ok-Some.spot (c.in-Ok-Some.ensures.entry tells ∙ c.in-Ok-Some.field-0-is)
 
 pub returns-in-Ok-None-clause-stepped : goal.returns-in-Ok-None-clause-stepped
@@ -24,9 +21,6 @@ returns-in-Ok-None-clause-stepped g c = λ tells locks before old new r.
     let store = c.args.pages.now in
     let at = c.args.at in
     let shape = shape_of store.layout at.index in
-    let was = contents store.layout store.pages at.index in
-    let is = contents store.layout c.read_map.new.pages.pages at.index in
     let lock = lock_in store.layout locks at.index in
-    let same : is ≡ was = ap (λ (pages : PageMap). contents store.layout pages at.index) (c.read_map.ensures.kept.pages tells) in
-    unnamed shape at.actor at.range r was is lock before (tuple_bytes old) (λ w shows none. c.an_index_that_stays_is_read.ensures shape was is lock lock w at.actor shows same refl none)
+    unnamed shape at.actor at.range r (contents store.layout store.pages at.index) (contents store.layout c.read_map.new.pages.pages at.index) lock before (tuple_bytes old) (still_read g.D.Disk.told store c.read_map.new.pages c.read_map.ensures.kept tells at.index at.actor lock)
     c.read_map.new.copied (tuple_bytes new) (c.in-Ok-None.ensures.entry tells ∙ c.in-Ok-None.field-0-is)

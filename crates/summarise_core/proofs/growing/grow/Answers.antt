@@ -1,4 +1,4 @@
-use Rattle.std.proofs.Common.{ℕ, sym, subst}
+use Rattle.std.proofs.Common.{ℕ, refl, sym, subst}
 use Rattle.page_locks.specs.declared.did.Did.{Did}
 use Rattle.page_locks.specs.LockHolders.{holder}
 use Rattle.page_map.specs.Keeps.{Tells}
@@ -10,10 +10,10 @@ use Rattle.index_steps.specs.StepAnswers.{BlockedWell}
 use Rattle.index_steps.specs.SwapAnswers.{FaultNamesPageOf, LeavesLocks, SaysFullIn}
 use Rattle.index_steps.specs.GrowthSteps.{StepFull as GrowthFull}
 use Rattle.index_steps.specs.StepCauses.{DamageAt as DamageToGrow, IsReady as IsReadyToGrow}
+use Rattle.index_steps.proofs.Onward.{full_too}
 use Rattle.summarise_core.specs.declared.range_stage.Stage.TheVariants as stages
 use Rattle.summarise_core.specs.Growths.{onward}
 use Rattle.summarise_core.specs.SummariseSteps.{RestsBlocked, StandsAfter, StepsAt}
-use Rattle.summarise_core.proofs.Faults.{full_too}
 use Rattle.summarise_core.proofs.Grown.{blocked_on, ends_give, full_to_grow, growth_in, grown, rests_on, same_index, stands_on}
 use Rattle.summarise_core.proofs.growing.grow.Goals as goal
 
@@ -74,7 +74,7 @@ returns-in-Err-clause-full g c =
     let store = c.args.pages.now in
     let at = c.args.at in
     let was = c.args.growth.now in
-    full_too store.layout at.index _ _ c.in-Err.fault
+    full_too store.layout store.layout at.index _ _ c.in-Err.fault refl
     (λ number full tells hand.
     full_to_grow store.layout store.pages store.pages c.args.locks.now c.args.locks.now at.index at.actor at.range was was c.requires.of (c.requires.needed tells) number (full tells) hand)
     (subst (λ (i : ℕ). SaysFullIn store.layout i (λ number. Tells g.D.Disk.told store → GrowthFull (shape_of store.layout i) at.actor (growth_in store.layout store.pages c.args.locks.now i was) number) c.in-Err.fault) c.requires.of c.in-Err.ensures.full)

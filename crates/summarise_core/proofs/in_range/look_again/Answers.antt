@@ -1,8 +1,8 @@
 use Rattle.std.proofs.Common.{◌≡◌, refl, ap, ◌∙◌}
-use Rattle.page_map.specs.PageMap.{PageMap}
 use Rattle.index_contents.specs.IndexContents.{contents}
 use Rattle.index_steps.specs.IndexTuples.{shape_of}
 use Rattle.index_steps.specs.ShownIndex.{lock_in}
+use Rattle.index_steps.proofs.OnlyReading.{still_read}
 use Rattle.summarise_core.proofs.Stepped.{is_named_again}
 use Rattle.summarise_core.proofs.in_range.look_again.Goals as goal
 
@@ -11,11 +11,8 @@ returns-in-Ok-Some-clause-stepped g c = λ tells locks heap hand all.
     let store = c.args.pages.now in
     let at = c.args.at in
     let shape = shape_of store.layout at.index in
-    let was = contents store.layout store.pages at.index in
-    let is = contents store.layout c.read_map.new.pages.pages at.index in
     let lock = lock_in store.layout locks at.index in
-    let same : is ≡ was = ap (λ (pages : PageMap). contents store.layout pages at.index) (c.read_map.ensures.kept.pages tells) in
-    is_named_again shape heap at.actor at.range was is lock hand (λ w shows none. c.an_index_that_stays_is_read.ensures shape was is lock lock w at.actor shows same refl none)
+    is_named_again shape heap at.actor at.range (contents store.layout store.pages at.index) (contents store.layout c.read_map.new.pages.pages at.index) lock hand (still_read g.D.Disk.told store c.read_map.new.pages c.read_map.ensures.kept tells at.index at.actor lock)
     c.read_map.new.copied c.in-Ok-Some.spot all (c.in-Ok-Some.ensures.entry tells ∙ c.in-Ok-Some.field-0-is)
 
 pub returns-in-Ok-Some-clause-exact : goal.returns-in-Ok-Some-clause-exact

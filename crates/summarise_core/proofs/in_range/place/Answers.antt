@@ -6,8 +6,8 @@ use Rattle.index_contents.specs.IndexContents.{contents}
 use Rattle.index_steps.specs.declared.placing.Placed.TheVariants as placed
 use Rattle.index_steps.specs.IndexTuples.{seen, shape_of}
 use Rattle.index_steps.specs.ShownIndex.{lock_in}
+use Rattle.index_steps.proofs.Onward.{full_too}
 use Rattle.summarise_core.specs.ShownHeap.{Heap}
-use Rattle.summarise_core.proofs.Faults.{full_too}
 use Rattle.summarise_core.proofs.Stepped.{full_to_put, is_put, placed_as, waits_to_put}
 use Rattle.summarise_core.proofs.Locking.{as_few, few_more}
 use Rattle.summarise_core.proofs.in_range.place.Goals as goal
@@ -48,7 +48,7 @@ returns-in-Err-clause-full g c =
     let lock = lock_in store.layout c.args.locks.now at.index in
     let locked = lock_in store.layout c.put_new.new.locks at.index in
     let no_heap : Heap = record { pages_per_range = 0; table = 0; blocks = [] } in
-    full_too store.layout at.index _ _ c.in-Err.fault
+    full_too store.layout store.layout at.index _ _ c.in-Err.fault refl
     (λ number full tells hand rests w shows.
     full_to_put shape no_heap at.actor at.range was is lock locked hand c.args.united.now c.restart.new.self c.requires.tuple c.restart.ensures.restarted rests (c.requires.ready tells) w number shows
     (subst (λ (b : List ℕ). PutVerdict w at.actor at.range (length (seen shape b).bytes) (Full number)) c.spell-size.ensures.bytes (full tells w shows)))

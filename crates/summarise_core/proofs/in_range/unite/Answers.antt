@@ -1,7 +1,6 @@
 use Rattle.std.proofs.Common.{◌≡◌, ℕ, List, refl, ap, subst, ◌∙◌}
 use Rattle.std.specs.Prelude.{Some, false}
 use Rattle.opclass_any.specs.declared.classes.AnyClass.{AnyClass}
-use Rattle.page_map.specs.PageMap.{PageMap}
 use Rattle.range_tuple.specs.TupleBytes.{tuple_bytes}
 use Rattle.range_tuple.specs.TupleReading.{tuple_in}
 use Rattle.range_tuple.specs.Tuples.{Tuple}
@@ -9,6 +8,7 @@ use Rattle.index_contents.specs.IndexContents.{contents}
 use Rattle.index_steps.specs.IndexTuples.{shape_of}
 use Rattle.index_steps.specs.Readings.{IsReadAs}
 use Rattle.index_steps.specs.ShownIndex.{lock_in}
+use Rattle.index_steps.proofs.OnlyReading.{still_read}
 use Rattle.summarise_core.proofs.Stepped.{has_left, is_united}
 use Rattle.summarise_core.proofs.in_range.unite.Goals as goal
 
@@ -17,11 +17,8 @@ returns-in-Ok-false-clause-stepped g c = λ tells locks heap hand.
     let store = c.args.pages.now in
     let at = c.args.at in
     let shape = shape_of store.layout at.index in
-    let was = contents store.layout store.pages at.index in
-    let is = contents store.layout c.copy_tuple.new.pages.pages at.index in
     let lock = lock_in store.layout locks at.index in
-    let same : is ≡ was = ap (λ (pages : PageMap). contents store.layout pages at.index) (c.copy_tuple.ensures.kept.pages tells) in
-    has_left shape heap at.actor at.range was is lock (record hand { running = c.args.running.now }) (λ w shows none. c.an_index_that_stays_is_read.ensures shape was is lock lock w at.actor shows same refl none)
+    has_left shape heap at.actor at.range (contents store.layout store.pages at.index) (contents store.layout c.copy_tuple.new.pages.pages at.index) lock (record hand { running = c.args.running.now }) (still_read g.D.Disk.told store c.copy_tuple.new.pages c.copy_tuple.ensures.kept tells at.index at.actor lock)
     c.copy_tuple.new.copied c.copy_tuple.new.tuple c.args.spot (c.in-Ok-false.ensures.gone c.in-Ok-false.field-0-test tells)
 
 pub returns-clause-stepped : goal.returns-clause-stepped
@@ -29,16 +26,13 @@ returns-clause-stepped g c = λ tells locks heap hand.
     let store = c.args.pages.now in
     let at = c.args.at in
     let shape = shape_of store.layout at.index in
-    let was = contents store.layout store.pages at.index in
-    let is = contents store.layout c.copy_tuple.new.pages.pages at.index in
     let lock = lock_in store.layout locks at.index in
     let running = c.args.running.now in
-    let same : is ≡ was = ap (λ (pages : PageMap). contents store.layout pages at.index) (c.copy_tuple.ensures.kept.pages tells) in
     let reads : IsReadAs shape (tuple_bytes running) running = record {
       spelt = refl;
       read = subst (λ (parts : List (ℕ × AnyClass)). tuple_in parts (tuple_bytes running) ≡ Some running) c.requires.running (c.one_tuple.ensures.read running c.known.ensures.tuple refl);
     } in
-    is_united shape heap at.actor at.range was is lock hand (λ w shows none. c.an_index_that_stays_is_read.ensures shape was is lock lock w at.actor shows same refl none)
+    is_united shape heap at.actor at.range (contents store.layout store.pages at.index) (contents store.layout c.copy_tuple.new.pages.pages at.index) lock hand (still_read g.D.Disk.told store c.copy_tuple.new.pages c.copy_tuple.ensures.kept tells at.index at.actor lock)
     c.copy_tuple.new.copied c.copy_tuple.new.tuple c.settle.new.self running c.args.spot (c.in-Ok-true.ensures.there c.in-Ok-true.field-0-test tells) (c.in-Ok-true.ensures.read c.in-Ok-true.field-0-test) reads
     (c.settle.ensures ∙ ap (λ (t : Tuple). record t { placeholder = false }) c.unite.ensures.widened)
 

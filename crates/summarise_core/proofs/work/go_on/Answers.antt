@@ -5,7 +5,7 @@ use Rattle.summarise_core.specs.ShownHeap.{heap_of}
 use Rattle.summarise_core.specs.Works.{hand_of}
 use Rattle.index_steps.specs.IndexTuples.{shape_of}
 use Rattle.summarise_core.proofs.Exact.{passes_exact}
-use Rattle.summarise_core.proofs.Faults.{fault_for}
+use Rattle.index_steps.proofs.Onward.{fault_too}
 use Rattle.std.proofs.Common.{inl, inr, arith}
 use Rattle.summarise_core.proofs.work.go_on.Goals as goal
 
@@ -26,20 +26,23 @@ returns-in-Ok-pass-clause-exact g c = λ tells blocks has so_far.
     let work = c.args.work.now in
     passes_exact (shape_of old.layout c.args.at.index) (heap_of old.layout c.args.at.index blocks) c.args.at.range work.extent work.next work.running c.pass.new.running c.if-work.false (c.in-Ok-pass.ensures.exact tells blocks has) so_far
 
-pub returns-in-Err-clause-at : goal.returns-in-Err-clause-at
-returns-in-Err-clause-at g c = inl c.in-Err.ensures.at
-
-pub returns-in-Err-pass-clause-at : goal.returns-in-Err-pass-clause-at
-returns-in-Err-pass-clause-at g c = inr c.in-Err-pass.ensures.at
-
 pub returns-in-Ok-clause-undamaged : goal.returns-in-Ok-clause-undamaged
 returns-in-Ok-clause-undamaged g c = λ tells damage. c.in-Ok.ensures.undamaged tells damage.1
 
 pub returns-in-Ok-pass-clause-undamaged : goal.returns-in-Ok-pass-clause-undamaged
 returns-in-Ok-pass-clause-undamaged g c = λ tells damage. absurd (omega (arith, damage.0, c.if-work.false))
 
-pub returns-in-Err-clause-outcome : goal.returns-in-Err-clause-outcome
-returns-in-Err-clause-outcome g c = fault_for (Stage × Did) (Stage × Did) g.D.Disk.told _ _ c.args.pages.now c.look_again.new.pages c.in-Err.fault (λ cause tells. (c.if-work.true, cause tells)) c.in-Err.ensures.outcome
+pub returns-in-Err-clause-reads : goal.returns-in-Err-clause-reads
+returns-in-Err-clause-reads g c =
+    let made = c.in-Err.ensures.reads in
+    record { kept = made.kept; survives = made.survives; never_blocked = tt; of_store = made.of_store; names = inl made.names; outcome = fault_too (Stage × Did) (Stage × Did) g.D.Disk.told _ _ c.args.pages.now c.look_again.new.pages c.in-Err.fault (λ cause tells. (c.if-work.true, cause tells)) made.outcome }
 
-pub returns-in-Err-pass-clause-outcome : goal.returns-in-Err-pass-clause-outcome
-returns-in-Err-pass-clause-outcome g c = fault_for Unit (Stage × Did) g.D.Disk.told _ _ c.args.pages.now c.pass.new.pages c.in-Err-pass.fault (λ cause tells. absurd (cause tells)) c.in-Err-pass.ensures.outcome
+pub returns-in-Err-pass-clause-reads : goal.returns-in-Err-pass-clause-reads
+returns-in-Err-pass-clause-reads g c = record {
+  kept = c.pass.ensures.kept;
+  survives = c.pass.ensures.survives;
+  never_blocked = tt;
+  of_store = c.in-Err-pass.ensures.of_store;
+  names = inr c.in-Err-pass.ensures.at;
+  outcome = fault_too Unit (Stage × Did) g.D.Disk.told _ _ c.args.pages.now c.pass.new.pages c.in-Err-pass.fault (λ cause tells. absurd (cause tells)) c.in-Err-pass.ensures.outcome;
+}

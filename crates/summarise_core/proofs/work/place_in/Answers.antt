@@ -1,5 +1,6 @@
+use Rattle.std.proofs.Common.{◌≡◌, ℕ, ◌+◌, ◌≤◌, ◌<◌, refl, sym, subst, ◌∙◌, arith}
+use Rattle.std.specs.Prelude.{IfOk}
 use Rattle.page_locks.specs.declared.did.Did.{Did}
-use Rattle.std.proofs.Common.{◌+◌, ◌≤◌, ◌<◌, sym, subst, arith}
 use Rattle.page_locks.specs.LockCounts.{locks_of}
 use Rattle.page_locks.specs.LockHolders.{count_of}
 use Rattle.index_contents.specs.IndexContents.{contents}
@@ -7,100 +8,92 @@ use Rattle.index_steps.specs.IndexTuples.{shape_of}
 use Rattle.index_steps.specs.SwapAnswers.{TakesAtMost}
 use Rattle.index_steps.specs.declared.growth_stage.Stage.{Stage as GrowthStage}
 use Rattle.index_steps.specs.GrowthSteps.{IsNeeded}
+use Rattle.index_steps.proofs.Arms.{err_too, ok_all, ok_too, on_err_of, on_err_too, on_ok_of, on_ok_too}
+use Rattle.index_steps.proofs.Onward.{full_too, machine_too}
 use Rattle.summarise_core.specs.declared.range_stage.Stage.{Stage}
 use Rattle.summarise_core.specs.declared.range_stage.Stage.TheVariants as stages
+use Rattle.summarise_core.specs.declared.work.Work.{Work}
 use Rattle.summarise_core.specs.ShownHeap.{heap_of}
 use Rattle.summarise_core.specs.ExactSummaries.{IsExactAt}
 use Rattle.summarise_core.specs.StageLocks.{EndsMove, held_at, taken_at}
 use Rattle.summarise_core.specs.SummariseHands.{GrowsToPlace}
 use Rattle.summarise_core.specs.SummariseSteps.{StandsAfter}
 use Rattle.summarise_core.specs.Works.{hand_of}
-use Rattle.summarise_core.proofs.Faults.{fault_for, full_too}
-use Rattle.summarise_core.proofs.Grown.{rests_there}
+use Rattle.summarise_core.proofs.Grown.{own_to_place, rests_there}
 use Rattle.summarise_core.proofs.Locking.{few_taken, grows_nowhere}
 use Rattle.summarise_core.proofs.work.place_in.Goals as goal
 
-pub returns-in-Ok-clause-stepped : goal.returns-in-Ok-clause-stepped
-returns-in-Ok-clause-stepped g c = λ tells blocks has. c.in-Ok.ensures.stepped tells (heap_of c.args.pages.now.layout c.args.at.index blocks) (hand_of stages.Place c.args.work.now)
-
-pub returns-in-Ok-place-clause-stepped : goal.returns-in-Ok-place-clause-stepped
-returns-in-Ok-place-clause-stepped g c = λ tells blocks has.
-    c.in-Ok-place.ensures.stepped tells (heap_of c.args.pages.now.layout c.args.at.index blocks) (hand_of stages.Place c.args.work.now) (c.grows.ensures.rests c.if-grows.false)
-
-pub returns-in-Ok-clause-rests : goal.returns-in-Ok-clause-rests
-returns-in-Ok-clause-rests g c = c.in-Ok.ensures.rests (hand_of stages.Place c.args.work.now)
-
-pub returns-in-Ok-place-clause-rests : goal.returns-in-Ok-place-clause-rests
-returns-in-Ok-place-clause-rests g c = c.in-Ok-place.ensures.rests (hand_of stages.Place c.args.work.now)
-
 -- the growth's step stays where the placeholder is to be put
-pub returns-in-Ok-clause-exact : goal.returns-in-Ok-clause-exact
-returns-in-Ok-clause-exact g c = λ tells blocks has exact.
+pub returns-then-grows-clause-called : goal.returns-then-grows-clause-called
+returns-then-grows-clause-called g c =
     let old = c.args.pages.now in
-    subst (λ (stage : Stage). IsExactAt (shape_of old.layout c.args.at.index) (heap_of old.layout c.args.at.index blocks) c.args.at.range (hand_of stage (record c.args.work.now { growth = c.grow.new.growth })) stage) (sym c.in-Ok.ensures.stays) tt
-
-pub returns-in-Ok-place-clause-exact : goal.returns-in-Ok-place-clause-exact
-returns-in-Ok-place-clause-exact g c = λ tells blocks has exact.
-    let old = c.args.pages.now in
-    c.in-Ok-place.ensures.exact (shape_of old.layout c.args.at.index) (heap_of old.layout c.args.at.index blocks) (hand_of stages.Place c.args.work.now) exact
-
-pub returns-in-Ok-clause-grows : goal.returns-in-Ok-clause-grows
-returns-in-Ok-clause-grows g c = subst (λ (stage : Stage). GrowsToPlace c.grow.new.growth.stage stage) (sym c.in-Ok.ensures.stays) tt
-
-pub returns-in-Ok-place-clause-grows : goal.returns-in-Ok-place-clause-grows
-returns-in-Ok-place-clause-grows g c = grows_nowhere c.args.work.now.growth.stage c.in-Ok-place.done.0 (c.grows.ensures.rests c.if-grows.false)
-
-pub returns-in-Ok-place-clause-stands : goal.returns-in-Ok-place-clause-stands
-returns-in-Ok-place-clause-stands g c =
-    subst (λ (stage : GrowthStage). StandsAfter stage stages.Place c.in-Ok-place.done.0 c.in-Ok-place.done.1) (sym (c.grows.ensures.rests c.if-grows.false)) c.in-Ok-place.ensures.stands
-
-pub returns-in-Ok-clause-own : goal.returns-in-Ok-clause-own
-returns-in-Ok-clause-own g c = λ few. subst (λ (stage : Stage). locks_of c.grow.new.locks c.args.at.actor ≤ held_at c.grow.new.growth.stage stage) (sym c.in-Ok.ensures.stays) (c.in-Ok.ensures.own few)
-
-pub returns-in-Ok-place-clause-own : goal.returns-in-Ok-place-clause-own
-returns-in-Ok-place-clause-own g c =
-    subst (λ (stage : GrowthStage). locks_of c.args.locks.now c.args.at.actor ≤ held_at stage stages.Place → locks_of c.place.new.locks c.args.at.actor ≤ held_at stage c.in-Ok-place.done.0) (sym (c.grows.ensures.rests c.if-grows.false))
-    c.in-Ok-place.ensures.own
+    let at = c.args.at in
+    let was = c.args.work.now in
+    let is : Work = record was { growth = c.grow.new.growth } in
+    let of = c.requires.of in
+    let made = c.grow.ensures in
+    let result = c.grow.result in
+    record {
+      stepped = ok_too _ _ result (λ o steps tells blocks has. steps tells (heap_of old.layout at.index blocks) (hand_of stages.Place was)) made.stepped;
+      exact = ok_too _ _ result (λ o stays tells blocks has exact. subst (λ (stage : Stage). IsExactAt (shape_of old.layout at.index) (heap_of old.layout at.index blocks) at.range (hand_of stage is) stage) (sym stays) tt) made.stays;
+      stands = made.stands;
+      rests = ok_too _ _ result (λ o rests. rests (hand_of stages.Place was)) made.rests;
+      of = record { running = of.running; united = of.united; room = of.room; extent = of.extent; growth = made.same_index ∙ of.growth };
+      grows = ok_too _ _ result (λ o stays. subst (λ (stage : Stage). GrowsToPlace is.growth.stage stage) (sym stays) tt) made.stays;
+      stays = on_err_too result (rests_there was.growth is.growth) made.rests_at;
+      blocked = made.blocked;
+      full = err_too _ _ result (λ fault. full_too old.layout old.layout at.index _ _ fault refl (λ number full tells. full tells (hand_of stages.Place was))) made.full;
+      at_full = made.at_full;
+      others = made.others;
+      order = made.order;
+      locks = made.locks;
+      counts = made.counts;
+      given = made.given;
+      own = own_to_place result was.growth.stage is.growth.stage (locks_of c.args.locks.now at.actor) (locks_of c.grow.new.locks at.actor) made.stays made.own;
+      survives = made.survives;
+      kept = made.kept;
+      undamaged = on_ok_too result (λ sound tells damage. sound tells damage.1) made.undamaged;
+      names = made.at;
+      outcome = machine_too g.D.Disk.told _ _ old c.grow.new.pages result (λ cause tells. (c.grows.ensures.needed c.if-grows.true tells, cause tells)) made.outcome;
+    }
 
 -- the put takes fewer locks than a growth may
-pub returns-in-Ok-place-clause-counts : goal.returns-in-Ok-place-clause-counts
-returns-in-Ok-place-clause-counts g c =
-    subst (λ (stage : GrowthStage). TakesAtMost (taken_at stage stages.Place) c.args.locks.now c.place.new.locks c.args.at.actor) (sym (c.grows.ensures.rests c.if-grows.false))
-    (few_taken 2 3 c.args.locks.now c.place.new.locks c.args.at.actor (omega arith) c.place.ensures.counts)
-
-pub returns-in-Err-place-clause-counts : goal.returns-in-Err-place-clause-counts
-returns-in-Err-place-clause-counts g c =
-    subst (λ (stage : GrowthStage). TakesAtMost (taken_at stage stages.Place) c.args.locks.now c.place.new.locks c.args.at.actor) (sym (c.grows.ensures.rests c.if-grows.false))
-    (few_taken 2 3 c.args.locks.now c.place.new.locks c.args.at.actor (omega arith) c.place.ensures.counts)
-
-pub returns-in-Ok-place-clause-given : goal.returns-in-Ok-place-clause-given
-returns-in-Ok-place-clause-given g c = λ ends. absurd (subst (λ (stage : GrowthStage). EndsMove stage) (c.grows.ensures.rests c.if-grows.false) ends)
+pub returns-clause-called : goal.returns-clause-called
+returns-clause-called g c =
+    let old = c.args.pages.now in
+    let at = c.args.at in
+    let was = c.args.work.now in
+    let of = c.requires.of in
+    let made = c.place.ensures in
+    let result = c.place.result in
+    let locks = c.args.locks.now in
+    let locked = c.place.new.locks in
+    let rests = c.grows.ensures.rests c.if-grows.false in
+    record {
+      stepped = ok_too _ _ result (λ o steps tells blocks has. steps tells (heap_of old.layout at.index blocks) (hand_of stages.Place was) rests) made.stepped;
+      exact = ok_too _ _ result (λ o exact tells blocks has. exact (shape_of old.layout at.index) (heap_of old.layout at.index blocks) (hand_of stages.Place was)) made.exact;
+      stands = subst (λ (stage : GrowthStage). IfOk result (λ o. StandsAfter stage stages.Place o.0 o.1)) (sym rests) made.stands;
+      rests = ok_too _ _ result (λ o rests. rests (hand_of stages.Place was)) made.rests;
+      of = record { running = of.running; united = made.same_index ∙ of.united; room = of.room; extent = of.extent; growth = of.growth };
+      grows = ok_all (λ (o : Stage × Did). GrowsToPlace was.growth.stage o.0) result (λ o. grows_nowhere was.growth.stage o.0 rests);
+      stays = on_err_of result refl;
+      blocked = made.blocked;
+      full = err_too _ _ result (λ fault. full_too old.layout old.layout at.index _ _ fault refl (λ number full tells. full tells (hand_of stages.Place was) rests)) made.full;
+      at_full = made.at_full;
+      others = made.others;
+      order = made.order;
+      locks = made.locks;
+      counts = subst (λ (stage : GrowthStage). TakesAtMost (taken_at stage stages.Place) locks locked at.actor) (sym rests) (few_taken 2 3 locks locked at.actor (omega arith) made.counts);
+      given = on_ok_of result (λ ends. absurd (subst (λ (stage : GrowthStage). EndsMove stage) rests ends));
+      own = subst (λ (stage : GrowthStage). IfOk result (λ o. locks_of locks at.actor ≤ held_at stage stages.Place → locks_of locked at.actor ≤ held_at stage o.0)) (sym rests) made.own;
+      survives = made.survives;
+      kept = made.kept;
+      undamaged = on_ok_of result (λ tells damage. c.grows.ensures.long c.if-grows.false tells (subst (λ (stage : GrowthStage). IsNeeded (contents old.layout old.pages at.index).pages at.range stage) rests damage.0));
+      names = made.at;
+      outcome = machine_too g.D.Disk.told _ _ old c.place.new.pages result (λ untold tells. absurd (untold tells)) made.outcome;
+    }
 
 pub place-requires-clause-locks : goal.place-requires-clause-locks
 place-requires-clause-locks g c =
     let room : count_of c.args.locks.now + 3 ≤ c.args.locks.now.limit = subst (λ (stage : GrowthStage). 0 < taken_at stage stages.Place → count_of c.args.locks.now + taken_at stage stages.Place ≤ c.args.locks.now.limit) (c.grows.ensures.rests c.if-grows.false) c.requires.locks (omega arith) in
     omega (arith, room)
-
-pub returns-in-Err-clause-full : goal.returns-in-Err-clause-full
-returns-in-Err-clause-full g c = full_too c.args.pages.now.layout c.args.at.index _ _ c.in-Err.fault (λ number full tells. full tells (hand_of stages.Place c.args.work.now)) c.in-Err.ensures.full
-
-pub returns-in-Err-place-clause-full : goal.returns-in-Err-place-clause-full
-returns-in-Err-place-clause-full g c =
-    full_too c.args.pages.now.layout c.args.at.index _ _ c.in-Err-place.fault (λ number full tells. full tells (hand_of stages.Place c.args.work.now) (c.grows.ensures.rests c.if-grows.false)) c.in-Err-place.ensures.full
-
-pub returns-in-Err-clause-stays : goal.returns-in-Err-clause-stays
-returns-in-Err-clause-stays g c = rests_there c.args.work.now.growth c.grow.new.growth c.in-Err.ensures.rests_at
-
-pub returns-in-Ok-clause-undamaged : goal.returns-in-Ok-clause-undamaged
-returns-in-Ok-clause-undamaged g c = λ tells damage. c.in-Ok.ensures.undamaged tells damage.1
-
-pub returns-in-Ok-place-clause-undamaged : goal.returns-in-Ok-place-clause-undamaged
-returns-in-Ok-place-clause-undamaged g c = λ tells damage.
-    let store = c.args.pages.now in
-    c.grows.ensures.long c.if-grows.false tells (subst (λ (stage : GrowthStage). IsNeeded (contents store.layout store.pages c.args.at.index).pages c.args.at.range stage) (c.grows.ensures.rests c.if-grows.false) damage.0)
-
-pub returns-in-Err-clause-outcome : goal.returns-in-Err-clause-outcome
-returns-in-Err-clause-outcome g c = fault_for (Stage × Did) (Stage × Did) g.D.Disk.told _ _ c.args.pages.now c.grow.new.pages c.in-Err.fault (λ cause tells. (c.grows.ensures.needed c.if-grows.true tells, cause tells)) c.in-Err.ensures.outcome
-
-pub returns-in-Err-place-clause-outcome : goal.returns-in-Err-place-clause-outcome
-returns-in-Err-place-clause-outcome g c = fault_for (Stage × Did) (Stage × Did) g.D.Disk.told _ _ c.args.pages.now c.place.new.pages c.in-Err-place.fault (λ cause tells. absurd (cause tells)) c.in-Err-place.ensures.outcome
