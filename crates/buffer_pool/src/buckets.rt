@@ -74,12 +74,15 @@ impl Buckets {
         self.below[frame as usize]
     }
 
-    /// Puts the frame into that bucket, and takes it out of its own.
+    /// Puts the frame into that bucket, and takes it out of its own where that is another.
     pub fn put(&mut self, frame: u32, bucket: u32)
         requires frame { frame < self.old.frames }
         requires bucket { self.old.frames + bucket < length self.old.bucket_of }
         ensures { self.new ≡ record self.old { bucket_of = set self.old.bucket_of frame bucket } }
     {
+        if self.bucket_of[frame as usize] == bucket {
+            return;
+        }
         let bucket_of = self.bucket_of.as_mut_slice();
         let below = self.below.as_mut_slice();
         relink(self.frames, bucket_of, below, frame, bucket);
@@ -87,6 +90,7 @@ impl Buckets {
 }
 
 /// Puts the frame into that bucket, and takes it out of its own.
+#[inline(never)]
 fn relink(frames: u32, bucket_of: &mut [u32], below: &mut [u32], frame: u32, bucket: u32)
     requires linked { IsLinked frames bucket_of.old below.old }
     requires frame { frame < frames }

@@ -9,7 +9,7 @@ ghost use Rattle.buffer_pool.specs.LowestDirty.{IsLowestDirty};
 use crate::buckets::Buckets;
 use crate::clock::Clock;
 use crate::dirty_order::DirtyOrder;
-use crate::held::{Held, Wanted, suits};
+use crate::held::{Held, Wanted, holds, suits};
 use crate::lookup::{bucket, frame_of, mask_for};
 use crate::uses::Uses;
 use block_model::NoMemory;
@@ -83,6 +83,21 @@ impl PageTable {
         ensures absent { IfNone result (IsAbsent self.now page) }
     {
         frame_of(&self.buckets, self.slots.as_slice(), self.mask, page)
+    }
+
+    /// The frame that holds the page, where that one may well be it.
+    #[inline(always)]
+    pub fn frame_near(&self, guess: u32, page: u64) -> Option<u32>
+        ensures within { IfSome result (λ frame. frame < length self.now) }
+        ensures found { IfSome result (λ frame. page_at self.now frame ≡ Some page) }
+        ensures absent { IfNone result (IsAbsent self.now page) }
+    {
+        if guess < self.frames() {
+            if holds(&self.slots[guess as usize], page) {
+                return Some(guess);
+            }
+        }
+        self.frame_of(page)
     }
 
     /// A frame that holds nothing.

@@ -38,6 +38,8 @@ pub struct Pool {
     table: PageTable,
     pages: BoxedSlice<Page>,
     uses: Uses,
+    /// The frame of the page that was last looked up.
+    latest: u32,
 }
 
 impl Model for Pool {
@@ -68,7 +70,12 @@ impl Pool {
         let table = PageTable::new(alloc, frames)?;
         let pages = zeroed_pages(alloc, frames)?;
         let uses = Uses::new(alloc, frames)?;
-        Ok(Pool { table, pages, uses })
+        Ok(Pool {
+            table,
+            pages,
+            uses,
+            latest: 0,
+        })
     }
 
     /// Does nothing; tells its caller that no more pages are held than there are frames.
@@ -84,10 +91,11 @@ impl Pool {
         ensures page { option_copied result ≡ option_map (λ held. held.content) (held_at self.old page) }
         ensures* rests { sem 𝓛 (Rests the_row self.entry (λ pool. pool ≡ self.old)) }
     {
-        let Some(frame) = self.table.frame_of(page) else {
+        let Some(frame) = self.table.frame_near(self.latest, page) else {
             return None;
         };
         self.table.known();
+        self.latest = frame;
         self.uses.touch(frame);
         Some(&self.pages[frame as usize])
     }
@@ -98,10 +106,11 @@ impl Pool {
         ensures page { option_copied_mut result ≡ option_map (λ held. held.content) (held_at self.old page) }
         ensures* changes { sem 𝓛 (LendsPage self.entry page log result) }
     {
-        let Some(frame) = self.table.frame_of(page) else {
+        let Some(frame) = self.table.frame_near(self.latest, page) else {
             return None;
         };
         self.table.known();
+        self.latest = frame;
         self.uses.touch(frame);
         let log = Some(log);
         self.table.put(frame, Held { page, log });

@@ -56,6 +56,7 @@ impl Ring {
     }
 
     /// Puts the frame into the ring, where it doesn't stand in it already.
+    #[inline]
     pub fn join(&mut self, frame: u32)
         requires { frame < length self.old }
         ensures { self.new ≡ set self.old frame true }
@@ -67,6 +68,7 @@ impl Ring {
     }
 
     /// Takes the frame out of the ring, where it stands in it.
+    #[inline]
     pub fn leave(&mut self, frame: u32)
         requires { frame < length self.old }
         ensures { self.new ≡ set self.old frame false }
@@ -216,6 +218,7 @@ fn leave(marks: &mut [bool], members: &mut [u32], seats: &mut [u32], count: u32,
 }
 
 /// Puts the frame into that seat, and the one that sat there into its own.
+#[inline(never)]
 fn exchange(members: &mut [u32], seats: &mut [u32], frame: u32, seat: u32)
     requires paired { ArePaired (length members.old) members.old seats.old }
     requires frame { frame < length members.old }
