@@ -3,7 +3,7 @@ use Rattle.std.proofs.Common.{◌≡◌, ◌≢◌, ⊎_elim, ℕ, ◌<◌, Bool
 use Rattle.std.specs.Prelude.{IsTrue, Option, None, Some}
 use Rattle.std.proofs.Math.Seq.{map-set_same}
 use Rattle.std.proofs.lemmas.Bool.{cases_eq}
-use Rattle.std.proofs.lemmas.List.{get_or-map, get_or-set_other, get_or-set_same, length-map, length-set}
+use Rattle.std.proofs.lemmas.List.{get_or-map, get_or-set_other, get_or-set_same, length-map, length-set, set-get_or}
 use Rattle.block_model.specs.declared.place.Place.{Place}
 use Rattle.store_layout.specs.DiskLayout.{DiskLayout, IsPlace, relation_blocks}
 use Rattle.page_layout.specs.declared.page.Form.{Form}
@@ -31,6 +31,13 @@ fact_place layout facts whole place is =
     record { relation = below; block = omega (arith, limit, is.block) }
 
 -- what is noted
+
+pub noted_same : (facts : List (List PageFacts)) (place : Place) (found : PageFacts) → facts_at facts place ≡ found → facts ≡ noted facts place found
+noted_same facts place found is = sym (
+    ap (noted facts place) (sym is)
+    ∙ ap (set facts place.relation) (set-get_or (get_or facts place.relation []) place.block no_facts)
+    ∙ set-get_or facts place.relation []
+    )
 
 noted_here : (facts : List (List PageFacts)) (place : Place) (one : PageFacts) → IsFactPlace facts place → facts_at (noted facts place one) place ≡ one
 noted_here facts place one is =

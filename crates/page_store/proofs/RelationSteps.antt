@@ -20,7 +20,7 @@ use Rattle.page_map.specs.FactLists.{IsFirstOf, IsFirstOfIndex, tells_started}
 use Rattle.page_map.specs.FirstRoom.{IsFirstRoom}
 use Rattle.page_map.specs.Forms.{HasForm, IsPageIn, form_of, forms_of}
 use Rattle.page_map.specs.PageFacts.{facts_in, facts_on, no_facts}
-use Rattle.page_map.specs.PageMap.{IsWhole, PageMap, block_at, block_limit, page_at, page_in, unstarted_page}
+use Rattle.page_map.specs.PageMap.{IsWhole, PageMap, block_at, block_limit, page_at, unstarted_page}
 use Rattle.page_map.specs.Started.{AreFirst, is_started}
 use Rattle.page_map.proofs.FactsKept.{OneList}
 use Rattle.page_map.proofs.Maps.{blocks_in, relations_in}

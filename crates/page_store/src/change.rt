@@ -7,6 +7,7 @@ ghost use Rattle.page_map.specs.Changed.{Changed};
 ghost use Rattle.page_map.specs.Forms.{FitInTurn, FitsIn, form_of, forms_of};
 ghost use Rattle.page_map.specs.Keeps.{Tells, Untold};
 ghost use Rattle.page_map.specs.Outcome.{NamesPage, Outcome};
+ghost use Rattle.page_map.specs.PageFacts.{IsMadeFrom, facts_on};
 ghost use Rattle.page_map.specs.PageMap.{page_at};
 ghost use Rattle.buffer_pool.specs.PoolState.{held_at};
 ghost use Rattle.recovery.specs.PageNumbers.{page_number};
@@ -54,7 +55,8 @@ pub fn change_page<D: Disk + Drop>(
     ensures facts { AreKnown D.told pages.new facts.new.items }
 {
     tables_have_forms(pages.layout());
-    hold(pages, facts, forms, place)?;
+    let number = pages.number_of(place);
+    hold(pages, facts, forms, place, number)?;
     if !is_loggable(change) {
         return Err(damaged(pages, place));
     }
@@ -84,7 +86,8 @@ pub fn start_page<D: Disk + Drop>(
     ensures facts { AreKnown D.told pages.new facts.new.items }
 {
     let form = form_at(forms, pages.layout(), place.relation);
-    hold(pages, facts, forms, place)?;
+    let number = pages.number_of(place);
+    hold(pages, facts, forms, place, number)?;
     if !takes_started(form, place, kind, change) {
         return Err(damaged(pages, place));
     }
@@ -147,14 +150,32 @@ fn note_changed<D: Disk + Drop>(
     requires form { IsForm form.now }
     requires held { MadeOfFacts form.now (page_number pages.old.layout place) (logged change.now) old.now pages.old.pool }
     requires facts { IsFactPlace facts.old.items place }
+    requires known { old.now ≡ facts_at facts.old.items place }
     ensures same { pages.new ≡ pages.old }
     ensures noted { NotesHeld form.now (page_number pages.old.layout place) pages.old.pool place facts.old.items facts.new.items }
 {
+    if keeps_facts(form, change, old) {
+        return;
+    }
     let Some(page) = pages.page(place) else {
         unreachable!()
     };
     let found = facts_after(page, form, change, old);
     note(facts, place, found);
+}
+
+/// Whether a page keeps its facts in the change, where they were these.
+fn keeps_facts(form: &Form, change: &Change<'_>, old: &PageFacts) -> bool
+    ensures { result ≡ true → (page : List ℕ) → IsMadeFrom form.now old.now (logged change.now) page → old.now ≡ facts_on form.now page }
+{
+    slots_are_read();
+    // Form and facts are for the contract alone.
+    let _ = form;
+    let _ = old;
+    match *change {
+        Change::RowMark { .. } => true,
+        _ => false,
+    }
 }
 
 /// Whether a page that is started as one of that kind takes the change.

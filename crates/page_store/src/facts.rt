@@ -29,8 +29,10 @@ pub fn hold<D: Disk + Drop>(
     facts: &mut Vec<FactList>,
     forms: &Vec<Form>,
     place: Place,
+    number: u64,
 ) -> Result<(), StoreError>
     requires place { IsPlace pages.old.layout place }
+    requires number { number ≡ page_number pages.old.layout place }
     requires forms { forms.now.items ≡ forms_of pages.old.layout }
     requires facts { AreKnown D.told pages.old facts.old.items }
     ensures kept { KeptPages D.told (store_of D.told pages.old) (store_of D.told pages.new) }
@@ -42,13 +44,15 @@ pub fn hold<D: Disk + Drop>(
     pages_fill_the_disk(pages.layout());
     slots_are_read();
     let form = form_at(forms, pages.layout(), place.relation);
-    if pages.hold(place, form)? {
+    if pages.hold(place, number, form)? {
         note_held(pages, facts, form, place);
     }
     Ok(())
 }
 
 /// Notes the facts of the page at the place, which is held.
+#[cold]
+#[inline(never)]
 fn note_held<D: Disk + Drop>(
     pages: &mut LoggedPages<D>,
     facts: &mut Vec<FactList>,

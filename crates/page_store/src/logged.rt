@@ -153,7 +153,17 @@ impl<D: Disk + Drop> LoggedPages<D> {
         self.pool.get(number)
     }
 
+    /// The page of that number, where it is held.
+    pub fn numbered(&mut self, number: u64) -> Option<&Page>
+        ensures page { option_copied result ≡ content_at self.old.pool number }
+        ensures* rests { sem 𝓛 (Rests (the_row D.row D.Disk) self.entry (λ pages. pages ≡ self.old)) }
+    {
+        self.pool.get(number)
+    }
+
     /// Makes every change so far durable. Where none waits no device call is made.
+    #[cold]
+    #[inline(never)]
     pub fn flush(&mut self) -> Result<(), StoreError>
         ensures undamaged { IfErr result IsOfDisk }
         ensures kept { KeptPages D.told (store_of D.told self.old) (store_of D.told self.new) }
@@ -200,6 +210,8 @@ impl<D: Disk + Drop> LoggedPages<D> {
     }
 
     /// Makes every change so far durable, writes each dirty page to its place, in order of the places, and begins the log anew.
+    #[cold]
+    #[inline(never)]
     pub fn checkpoint(&mut self) -> Result<(), StoreError>
         ensures undamaged { IfErr result IsOfDisk }
         ensures kept { KeptPages D.told (store_of D.told self.old) (store_of D.told self.new) }
@@ -323,8 +335,9 @@ impl<D: Disk + Drop> LoggedPages<D> {
 
     /// Holds the page at the place, and says whether it had to be read from the disk. Another page may go, and is written first
     /// where it is dirty.
-    pub fn hold(&mut self, place: Place, form: &Form) -> Result<bool, StoreError>
+    pub fn hold(&mut self, place: Place, number: u64, form: &Form) -> Result<bool, StoreError>
         requires place { IsPlace self.old.layout place }
+        requires number { number ≡ page_number self.old.layout place }
         requires form { form.now ≡ form_of self.old.layout place.relation }
         requires is { IsForm form.now }
         ensures kept { KeptPages D.told (store_of D.told self.old) (store_of D.told self.new) }
@@ -336,26 +349,24 @@ impl<D: Disk + Drop> LoggedPages<D> {
         ensures there { IfOk result (λ read. read ≡ false → self.new ≡ self.old) }
     {
         self.ready()?;
-        if self.is_held(place) {
+        if self.is_held(number) {
             return Ok(false);
         }
         self.bring(place, form)?;
         Ok(true)
     }
 
-    /// Whether the page at the place is held.
-    fn is_held(&mut self, place: Place) -> bool
-        requires place { IsPlace self.old.layout place }
+    /// Whether the page of that number is held.
+    fn is_held(&mut self, number: u64) -> bool
         ensures same { self.new ≡ self.old }
-        ensures held { result ≡ true → IsSome (held_at self.old.pool (page_number self.old.layout place)) }
-        ensures absent { result ≡ false → held_at self.old.pool (page_number self.old.layout place) ≡ None }
+        ensures held { result ≡ true → IsSome (held_at self.old.pool number) }
+        ensures absent { result ≡ false → held_at self.old.pool number ≡ None }
     {
-        let number = self.number_of(place);
         self.pool.get(number).is_some()
     }
 
     /// The number of the page at the place.
-    fn number_of(&self, place: Place) -> u64
+    pub fn number_of(&self, place: Place) -> u64
         requires place { IsPlace self.now.layout place }
         ensures number { result ≡ page_number self.now.layout place }
         ensures marks { result < length self.now.marks }
@@ -364,6 +375,8 @@ impl<D: Disk + Drop> LoggedPages<D> {
     }
 
     /// Reads the page at the place, which isn't held, and holds it.
+    #[cold]
+    #[inline(never)]
     fn bring(&mut self, place: Place, form: &Form) -> Result<(), StoreError>
         requires place { IsPlace self.old.layout place }
         requires form { form.now ≡ form_of self.old.layout place.relation }

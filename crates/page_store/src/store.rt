@@ -84,12 +84,13 @@ impl<D: Disk + Drop> PageStore<D> {
         ensures at { IfErr result (λ error. NamesPage self.old.layout place error) }
         ensures* rests { sem 𝓛 (Rests (the_row D.row D.Disk) self.entry (λ s. Keeps D.told self.old s × Outcome D.told (Untold D.told self.old) self.old s result × Survives D.told (λ pages. pages ≡ self.old.pages) self.old s)) }
     {
-        match hold(&mut self.pages, &mut self.facts, &self.forms, place) {
+        let number = self.pages.number_of(place);
+        match hold(&mut self.pages, &mut self.facts, &self.forms, place, number) {
             Ok(()) => {}
             Err(error) => return Err(error),
         }
         self.pages.known();
-        Ok(self.pages.page(place).unwrap())
+        Ok(self.pages.numbered(number).unwrap())
     }
 
     /// Makes the change, which is one of the page at the place. It waits for the log until the next flush, or until the buffer or

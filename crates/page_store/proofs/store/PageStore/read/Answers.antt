@@ -1,4 +1,4 @@
-use Rattle.std.proofs.Common.{◌≡◌, refl, sym, ap, subst, ◌∙◌}
+use Rattle.std.proofs.Common.{◌≡◌, ℕ, refl, sym, ap, subst, ◌∙◌}
 use Rattle.page_map.specs.Keeps.{Keeps, Tells, Untold}
 use Rattle.page_map.specs.Outcome.{NamesPage, Outcome, Refused}
 use Rattle.page_map.specs.PageMap.{PageMap, View, page_at}
@@ -29,8 +29,8 @@ returns g c =
     let old = store_of told c.self.inside.pages in
     let s = c.hold.new.pages in
     let kept = c.hold.ensures.kept in
-    let end = c.page.follows.lender-at-none in
-    let same : s ≡ end = sym c.page.follows.holds-at-none in
+    let end = c.numbered.follows.lender-at-none in
+    let same : s ≡ end = sym c.numbered.follows.holds-at-none in
     let keeps : Keeps told c.args.self.now (store_of told end) =
     subst (λ (x : LoggedState g.row.D.Denot). Keeps told c.args.self.now (store_of told x)) same (subst (λ (v : View g.row.D.Denot). Keeps told v (store_of told s)) c.self.view_is (keeps_of told old (store_of told s) kept)) in
     let outcome =
@@ -41,7 +41,8 @@ returns g c =
     (subst (λ (v : View g.row.D.Denot). Survives told (λ pages. pages ≡ v.pages) v (store_of told s)) c.self.view_is (survives_of told old (store_of told s) kept.leaves)) in
     let place : IsPlace c.self.inside.pages.layout c.args.place = subst (λ (v : View g.row.D.Denot). IsPlace v.layout c.args.place) (sym c.self.view_is) c.requires.place in
     let is : IsPlace s.layout c.args.place = subst (λ (l : DiskLayout). IsPlace l c.args.place) (sym kept.leaves.layout) place in
-    let there : content_at s.pool (page_number s.layout c.args.place) ≡ Some c.unwrap.result.now = sym c.page.ensures.page ∙ ap option_copied c.unwrap.ensures in
+    let number = c.number_of-number.ensures.number ∙ ap (λ (l : DiskLayout). page_number l c.args.place) (sym kept.leaves.layout) in
+    let there : content_at s.pool (page_number s.layout c.args.place) ≡ Some c.unwrap.result.now = ap (λ (n : ℕ). content_at s.pool n) (sym number) ∙ sym c.numbered.ensures.page ∙ ap option_copied c.unwrap.ensures in
     let page = subst (λ (v : View g.row.D.Denot). Tells told v → c.unwrap.result.now ≡ page_at v.pages c.args.place) c.self.view_is
     (λ tells. sym (held_page told s c.args.place is c.unwrap.result.now there) ∙ ap (λ (m : PageMap). page_at m c.args.place) (kept.pages tells)) in
     let form = subst (λ (v : View g.row.D.Denot). IsPageIn v.layout c.args.place.relation c.unwrap.result.now) c.self.view_is
