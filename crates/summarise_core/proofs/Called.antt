@@ -1,5 +1,5 @@
 -- what a call for a step of a summarise at a range did, by what the calls below say
-use Rattle.std.proofs.Common.{◌≡◌, ℕ, ◌≤◌, ◌<◌, refl, sym, ap, subst, ◌∙◌, arith}
+use Rattle.std.proofs.Common.{◌≡◌, ℕ, ◌≤◌, ◌<◌, refl, ap, ◌∙◌, arith}
 use Rattle.std.specs.Prelude.{IfOk, OnOk, Result, Ok, Err}
 use Rattle.disk_trait.specs.Told.{Told}
 use Rattle.page_map.specs.declared.faults.MachineFault.{MachineFault}
@@ -34,7 +34,6 @@ use Rattle.index_steps.proofs.Onward.{fault_too, full_too}
 use Rattle.index_steps.proofs.OnlyReading.{never_waits, none_full, of_store}
 use Rattle.index_steps.proofs.Refusals.{kept_others}
 use Rattle.summarise_core.specs.declared.range_stage.Stage.{Stage}
-use Rattle.summarise_core.specs.declared.range_stage.Stage.TheVariants as stages
 use Rattle.summarise_core.specs.declared.work.Work.{Work}
 use Rattle.summarise_core.specs.ExactSummaries.{IsExactAt}
 use Rattle.summarise_core.specs.ShownHeap.{Heap, heap_of}

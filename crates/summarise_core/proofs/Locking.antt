@@ -1,6 +1,5 @@
 -- the locks of a step, and what it rests on where it is blocked
-use Rattle.std.proofs.Common.{◌≡◌, ℕ, ◌+◌, ◌≤◌, true, refl, sym, subst, arith}
-use Rattle.block_model.specs.declared.place.Place.{Place}
+use Rattle.std.proofs.Common.{◌≡◌, ℕ, ◌+◌, ◌≤◌, sym, subst, arith}
 use Rattle.page_locks.specs.declared.did.Did.{Did}
 use Rattle.page_locks.specs.declared.did.Did.TheVariants as did
 use Rattle.page_locks.specs.LockCounts.{locks_of}
@@ -16,7 +15,6 @@ use Rattle.index_steps.specs.declared.growth_stage.Stage.{Stage as GrowthStage}
 use Rattle.index_steps.specs.declared.growth_stage.Stage.TheVariants as growth
 use Rattle.summarise_core.specs.declared.range_stage.Stage.{Stage}
 use Rattle.summarise_core.specs.declared.range_stage.Stage.TheVariants as stages
-use Rattle.summarise_core.specs.StageLocks.{held_at}
 use Rattle.summarise_core.specs.SummariseHands.{GrowsToPlace, SummariseHand}
 use Rattle.summarise_core.specs.SummariseSteps.{RestsBlocked}
 

@@ -10,7 +10,7 @@ use Rattle.coverage.specs.IndexView.{Building, IndexTuple, IndexView, Pages, Pas
 use Rattle.coverage.specs.Knowing.{LocksNone}
 use Rattle.coverage.specs.Statements.{rows_added, HasNoMoreRows}
 use Rattle.coverage.specs.Steps.{ReadsIndex}
-use Rattle.coverage.specs.Verdicts.{Full, PutVerdict, SwapVerdict, Verdict, Waits}
+use Rattle.coverage.specs.Verdicts.{Full, PutVerdict, Waits}
 use Rattle.coverage.specs.Waiting.{FinalWaits, IsPhaseFull, PlaceFull, PlaceWaits}
 use Rattle.index_contents.specs.IndexContents.{IndexContents}
 use Rattle.index_steps.specs.declared.placing.Placed.{Placed}

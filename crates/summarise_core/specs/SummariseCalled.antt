@@ -1,5 +1,5 @@
 -- what each call for a step of a summarise at a range does, by the stage that it is at
-use Rattle.std.specs.Prelude.{◌≡◌, ℕ, ◌≤◌, IfOk, IfErr, OnErr, OnOk, Result}
+use Rattle.std.specs.Prelude.{◌≡◌, ◌≤◌, IfOk, IfErr, OnErr, OnOk, Result}
 use Rattle.block_model.specs.declared.reply.Point.TheVariants as points
 use Rattle.disk_trait.specs.Told.{Told}
 use Rattle.page_map.specs.declared.faults.MachineFault.{MachineFault}

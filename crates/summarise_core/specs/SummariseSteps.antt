@@ -1,5 +1,5 @@
 -- what a summarise has of an index between its steps at a range, and what each step makes of the index
-use Rattle.std.specs.Prelude.{◌≡◌, ℕ, ◌+◌, ◌<◌, Bool, true, false, Option}
+use Rattle.std.specs.Prelude.{◌≡◌, ℕ, ◌+◌, ◌<◌, Bool, Option}
 use Rattle.block_model.specs.declared.place.Spot.{Spot}
 use Rattle.block_model.specs.declared.reply.Point.{Point}
 use Rattle.store_layout.specs.DiskLayout.{DiskLayout}

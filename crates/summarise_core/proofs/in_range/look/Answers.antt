@@ -1,4 +1,4 @@
-use Rattle.std.proofs.Common.{◌≡◌, refl, ap, ◌∙◌}
+use Rattle.std.proofs.Common.{◌∙◌}
 use Rattle.index_contents.specs.IndexContents.{contents}
 use Rattle.index_steps.specs.IndexTuples.{shape_of}
 use Rattle.index_steps.specs.ShownIndex.{lock_in}

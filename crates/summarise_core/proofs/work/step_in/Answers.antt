@@ -1,12 +1,10 @@
-use Rattle.std.proofs.Common.{◌≡◌, ◌+◌, ◌≤◌, ◌<◌, refl, sym, subst, ◌∙◌, arith}
-use Rattle.page_locks.specs.LockHolders.{count_of}
+use Rattle.std.proofs.Common.{refl, sym, subst, ◌∙◌}
 use Rattle.index_steps.specs.IndexTuples.{shape_of}
 use Rattle.index_steps.proofs.Arms.{ok_too, on_ok_of}
 use Rattle.summarise_core.specs.declared.range_stage.Stage.{Stage}
 use Rattle.summarise_core.specs.declared.range_stage.Stage.TheVariants as stages
 use Rattle.summarise_core.specs.declared.work.Work.{Work}
 use Rattle.summarise_core.specs.ShownHeap.{heap_of}
-use Rattle.summarise_core.specs.StageLocks.{taken_at}
 use Rattle.summarise_core.specs.SummariseCalled.{Called}
 use Rattle.summarise_core.specs.SummariseHands.{GrowsToPlace}
 use Rattle.summarise_core.specs.Works.{hand_of}
