@@ -1,6 +1,6 @@
 //! Whether bytes are a page of an index.
 
-ghost use Rattle.std.specs.Prelude.{◌≡◌, ◌+◌, ◌*◌, ◌^◌, ◌≤◌, ◌<◌, drop, length, IfSome, None};
+ghost use Rattle.std.specs.Prelude.{◌≡◌, ◌+◌, ◌*◌, ◌^◌, ◌≤◌, ◌<◌, drop, length, true, IfSome, None};
 ghost use Rattle.block_model.specs.declared.limits.TheConstants.{PAGE_ROOM, PAGE_SIZE};
 ghost use Rattle.byte_fields.specs.Fields.{AreBytes};
 ghost use Rattle.index_layout.specs.IndexPages.{IsIndexPage};
@@ -51,12 +51,28 @@ fn index_fault(page: &[u8]) -> Option<usize>
     }
 }
 
-/// The first byte that isn't zero.
-fn zeros_fault(bytes: &[u8]) -> Option<usize>
+/// The first byte that isn't zero. That there is none is told by one comparison.
+pub fn zeros_fault(bytes: &[u8]) -> Option<usize>
     ensures fault { result ≡ zeros_fault bytes.now }
     ensures within { IfSome result (λ at. at < length bytes.now) }
 {
+    if are_zeros(bytes) {
+        return None;
+    }
     bytes.iter().position(|byte| *byte != 0)
+}
+
+/// As many zeros as a page has bytes.
+const ZEROS: [u8; PAGE_SIZE] = [0; PAGE_SIZE];
+
+/// Whether each byte is zero, of no more than a page has.
+fn are_zeros(bytes: &[u8]) -> bool
+    ensures { result ≡ true → zeros_fault bytes.now ≡ None }
+{
+    if bytes.len() > PAGE_SIZE {
+        return false;
+    }
+    bytes == &ZEROS[..bytes.len()]
 }
 
 #[tactic(auto, unfolding(crate::specs::IndexFaults::meta_fault))]

@@ -14,7 +14,7 @@ mod room;
 mod writers;
 
 pub use byte_fields::{get_i64, get_u32, get_u64, put_i64, put_u32, put_u64};
-pub use checking::first_fault;
+pub use checking::{first_fault, zeros_fault};
 pub use format::{EVACUATED, MAP, MAP_ENTRIES, META, REGULAR, UNSTARTED};
 pub use laws::{a_put_changes_one_slot, an_index_page_has_one_list, the_lowest_free_slot_has_room};
 pub use readers::{

@@ -1,19 +1,15 @@
 -- the first field of a page whose rule is broken, as its place on the page
-use Rattle.std.specs.Prelude.{ℕ, zero, suc, ◌==◌, ◌||◌, Bool, not, List, take, drop, slice_index, Option, None, Some, if◌then◌else◌}
-use Rattle.std.specs.List.{position}
+use Rattle.std.specs.Prelude.{ℕ, zero, suc, ◌==◌, ◌||◌, Bool, List, take, drop, slice_index, Option, None, Some, if◌then◌else◌}
 use Rattle.block_model.specs.declared.value.Kind.{Kind}
 use Rattle.block_model.specs.RowSize.{row_size}
 use Rattle.index_layout.specs.declared.format.TheConstants.{MAP, META}
 use Rattle.index_layout.specs.IndexFaults.{index_fault}
+pub use Rattle.index_layout.specs.IndexFaults.{zeros_fault}
 use Rattle.index_layout.specs.IndexReading.{is_regular}
 use Rattle.page_layout.specs.declared.format.TheConstants.{HEAP, STATUS}
 use Rattle.page_layout.specs.declared.page.Form.{Form}
 use Rattle.page_layout.specs.declared.page.Form.TheVariants as forms
 use Rattle.page_layout.specs.RowFaults.{first_of, shifted, slot_fault}
-
--- each of these bytes is a field that is zero
-abbrev pub zeros_fault : List ℕ → Option ℕ
-zeros_fault bytes = position (λ byte. not (byte == 0)) bytes
 
 -- this many slots, and zeros
 unfoldable pub slots_fault : List Kind → ℕ → List ℕ → Option ℕ

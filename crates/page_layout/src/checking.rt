@@ -12,7 +12,7 @@ use crate::index_readers::is_index;
 use crate::page::{Form, HEADER, Page, PageFault, bytes_known};
 use crate::slot::slot_fault;
 use block_model::{Kind, PAGE_SIZE};
-use index_layout::{EVACUATED, MAP, META, REGULAR, UNSTARTED, first_fault};
+use index_layout::{EVACUATED, MAP, META, REGULAR, UNSTARTED, first_fault, zeros_fault};
 
 /// Whether the page is one of the form, whose slots are of the size of a row and fit a page; a page that isn't started is
 /// one of every form. The fault is the lowest place of a field whose rule is broken.
@@ -154,14 +154,6 @@ fn slots_fault(kinds: &[Kind], slots: u16, row: usize, body: &[u8]) -> Option<us
     let at = usize::from(slots) * row;
     let fault = zeros_fault(&body[at..])?;
     Some(at + fault)
-}
-
-/// The first byte that isn't zero.
-fn zeros_fault(bytes: &[u8]) -> Option<usize>
-    ensures fault { result ≡ zeros_fault bytes.now }
-    ensures within { IfSome result (λ at. at < length bytes.now) }
-{
-    bytes.iter().position(|byte| *byte != 0)
 }
 
 /// A form has at most eight columns. Does nothing.
