@@ -48,7 +48,7 @@ pub use moving::{drop_moved, name_moved};
 pub use next::{NextPage, PageState, next_page};
 pub use placing::{Placed, name_new, put_new};
 pub use range_store::Scratch;
-pub use reading::{copy_tuple, page_at, read_map};
+pub use reading::{copy_tuple, judge_tuple, page_at, read_entry, read_map};
 pub use revmap::{SetFault, entries_stand_on_counted_pages, entry, set};
 pub use spelling::{spell, tuples_of_an_index_need_one_room};
 pub use swapping::{Swapped, Within, lock_of_another, map_page_of, swap};
