@@ -183,14 +183,7 @@ impl Judging {
     {
         let (extent, stage) = (self.extent, self.stage);
         ahead.copy_from_slice(&self.candidates);
-        let (_, stage) = judge(
-            pages,
-            &self.query,
-            extent,
-            stage,
-            &mut self.readers,
-            ahead,
-        )?;
+        let (_, stage) = judge(pages, &self.query, extent, stage, &mut self.readers, ahead)?;
         Ok(is_judged(stage))
     }
 }

@@ -1,4 +1,4 @@
-use Rattle.std.proofs.Common.{◌≡◌, ◌==◌, ℕ, Bool, false, List, refl, sym, ap, subst}
+use Rattle.std.proofs.Common.{◌≡◌, ◌==◌, ℕ, false, refl, sym, ap, subst}
 use Rattle.std.specs.List.{list_any}
 use Rattle.block_model.specs.declared.row.Cond.{Cond}
 use Rattle.opclass_api.specs.Conditions.{AllCompare}

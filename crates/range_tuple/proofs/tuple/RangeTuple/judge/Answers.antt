@@ -1,4 +1,4 @@
-use Rattle.std.proofs.Common.{List, length, take, drop, ◌++◌, sym, ap, ◌∙◌, subst, ◌≡◌}
+use Rattle.std.proofs.Common.{List, length, sym, ap, ◌∙◌, subst, ◌≡◌}
 use Rattle.std.proofs.lemmas.List.{with_items_is}
 use Rattle.range_tuple.specs.KeptColumns.{CanBeRead}
 use Rattle.range_tuple.specs.Tuples.{IndexedColumn, parts_of}
