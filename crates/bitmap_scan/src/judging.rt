@@ -24,7 +24,7 @@ use crate::stage::Stage;
 use block_model::{Cond, NoMemory, Query, Spot};
 use disk_trait::Disk;
 use heap_rows::blocks;
-use index_steps::{Scratch, copy_tuple, read_map};
+use index_steps::{judge_tuple as judge_at, read_entry};
 use page_locks::Point;
 use page_map::MachineFault;
 use page_store::PageStore;
@@ -47,7 +47,6 @@ pub(crate) struct Held {
 pub(crate) struct Judging {
     query: Query,
     readers: BoxedSlice<IndexReader>,
-    copied: Scratch,
     stage: Stage,
     extent: u32,
     candidates: BoxedSlice<bool>,
@@ -75,9 +74,6 @@ impl Judging {
         let Ok(readers) = readers_of(alloc, layout, query.table) else {
             return Err(query);
         };
-        let Ok(copied) = Scratch::new(alloc) else {
-            return Err(query);
-        };
         let blocks = layout.sizes().heap_blocks as usize;
         let Ok(candidates) = no_candidates(alloc, blocks) else {
             return Err(query);
@@ -85,7 +81,6 @@ impl Judging {
         Ok(Judging {
             query,
             readers,
-            copied,
             stage: Stage::Extent,
             extent: 0,
             candidates,
@@ -162,7 +157,6 @@ impl Judging {
             stage,
             &mut self.readers,
             &mut self.candidates,
-            &mut self.copied,
         )?;
         self.extent = extent;
         self.stage = stage;
@@ -189,15 +183,7 @@ impl Judging {
     {
         let (extent, stage) = (self.extent, self.stage);
         ahead.copy_from_slice(&self.candidates);
-        let (_, stage) = judge(
-            pages,
-            &self.query,
-            extent,
-            stage,
-            &mut self.readers,
-            ahead,
-            &mut self.copied,
-        )?;
+        let (_, stage) = judge(pages, &self.query, extent, stage, &mut self.readers, ahead)?;
         Ok(is_judged(stage))
     }
 }
@@ -226,7 +212,6 @@ fn judge<D: Disk + Drop>(
     stage: Stage,
     readers: &mut [IndexReader],
     candidates: &mut [bool],
-    copied: &mut Scratch,
 ) -> Result<(u32, Stage), MachineFault>
     requires scan { IsScanOf pages.old.layout (hand_at query.now readers.old stage extent candidates.old) }
     requires hand { IsHand (hand_at query.now readers.old stage extent candidates.old) }
@@ -246,13 +231,13 @@ fn judge<D: Disk + Drop>(
     match stage {
         Stage::Extent => begin(pages, query.table, readers, candidates),
         Stage::Map { at, range } => {
-            let stage = judge_map(pages, readers, extent, at, range, copied)?;
+            let stage = judge_map(pages, readers, extent, at, range)?;
             Ok((extent, stage))
         }
         Stage::Tuple { at, range, spot } => {
             let held = Held { at, range, spot };
             let conds = query.conds.as_slice();
-            let stage = judge_tuple(pages, readers, extent, held, conds, candidates, copied)?;
+            let stage = judge_tuple(pages, readers, extent, held, conds, candidates)?;
             Ok((extent, stage))
         }
         Stage::Judged => unreachable!(),
@@ -293,7 +278,6 @@ fn judge_map<D: Disk + Drop>(
     extent: u32,
     at: usize,
     range: u32,
-    copied: &mut Scratch,
 ) -> Result<Stage, MachineFault>
     requires table { (table : ℕ) × (all_scanned readers.now ≡ scanned_indexes pages.old.layout table) }
     requires pages { All (λ i. 1 ≤ i.pages_per_range) (all_scanned readers.now) }
@@ -306,7 +290,7 @@ fn judge_map<D: Disk + Drop>(
     ensures undamaged { OnOk result (Tells D.told pages.old → IsDamagedAt pages.old.layout pages.old.pages (all_scanned readers.now) (Stage.Map at range) → ⊥) }
     ensures outcome { ReadOutcome D.told (Tells D.told pages.old → IsDamagedAt pages.old.layout pages.old.pages (all_scanned readers.now) (Stage.Map at range)) pages.old pages.new result }
 {
-    match read_map(pages, readers[at].number, range, copied) {
+    match read_entry(pages, readers[at].number, range) {
         Ok(Some(spot)) => Ok(Stage::Tuple { at, range, spot }),
         Ok(None) => Ok(next_range(readers, extent, at, range)),
         Err(error) => Err(MachineFault::Store(error)),
@@ -322,7 +306,6 @@ fn judge_tuple<D: Disk + Drop>(
     held: Held,
     conds: &[Cond],
     candidates: &mut [bool],
-    copied: &mut Scratch,
 ) -> Result<Stage, MachineFault>
     requires table { (table : ℕ) × (all_scanned readers.old ≡ scanned_indexes pages.old.layout table) }
     requires pages { All (λ i. 1 ≤ i.pages_per_range) (all_scanned readers.old) }
@@ -342,7 +325,7 @@ fn judge_tuple<D: Disk + Drop>(
     let Held { at, range, spot } = held;
     let judged = {
         let reader = &mut readers[at];
-        read_tuple(pages, reader, range, spot, conds, copied)
+        read_tuple(pages, reader, range, spot, conds)
     };
     match judged {
         Ok(Judged::Gone) => Ok(Stage::Map { at, range }),
@@ -373,7 +356,6 @@ fn read_tuple<D: Disk + Drop>(
     range: u32,
     spot: Spot,
     conds: &[Cond],
-    copied: &mut Scratch,
 ) -> Result<Judged, MachineFault>
     requires index { reader.old.number < length pages.old.layout.schema.indexes }
     requires classes { parts_of reader.old.tuple.columns ≡ classes_of (shape_of pages.old.layout reader.old.number) }
@@ -387,14 +369,10 @@ fn read_tuple<D: Disk + Drop>(
     ensures outcome { ReadOutcome D.told (Tells D.told pages.old → IsMisread (shape_of pages.old.layout reader.old.number) (contents pages.old.layout pages.old.pages reader.old.number) range spot) pages.old pages.new result }
 {
     a_row_is_included_as_tested();
-    match copy_tuple(pages, reader.number, range, spot, copied, &mut reader.tuple) {
-        Ok(true) => {}
-        Ok(false) => return Ok(Judged::Gone),
-        Err(error) => return Err(MachineFault::Store(error)),
-    }
-    if reader.tuple.keeps(conds) {
-        Ok(Judged::Kept)
-    } else {
-        Ok(Judged::LeftOut)
+    match judge_at(pages, reader.number, range, spot, conds, &mut reader.tuple) {
+        Ok(Some(true)) => Ok(Judged::Kept),
+        Ok(Some(false)) => Ok(Judged::LeftOut),
+        Ok(None) => Ok(Judged::Gone),
+        Err(error) => Err(MachineFault::Store(error)),
     }
 }

@@ -97,7 +97,7 @@ fn asked(tuple: &RangeTuple, span: Span8, net: Net) -> [bool; 2] {
         compared(4, Op::Eq, Value::Int(30)),
     ];
     [
-        tuple.keeps(&conds),
+        tuple.keeps_by(&ScanKeys::new(&conds)),
         tuple.keeps_by(&ScanKeys::new(&conds[..0])),
     ]
 }

@@ -1,9 +1,11 @@
 -- what copying the tuple of a range answers
-use Rattle.std.specs.Prelude.{◌≡◌, ◌≢◌, ℕ, List, Option, None, Some}
+use Rattle.std.specs.Prelude.{◌≡◌, ◌≢◌, ℕ, Bool, List, Option, None, Some}
 use Rattle.block_model.specs.declared.place.Spot.{Spot}
+use Rattle.block_model.specs.declared.row.Cond.{Cond}
 use Rattle.store_layout.specs.DiskLayout.{DiskLayout, IsPlace, page_offset}
 use Rattle.page_map.specs.declared.faults.StoreError.{StoreError}
 use Rattle.page_map.specs.declared.faults.StoreError.TheVariants as errors
+use Rattle.range_tuple.specs.Judged.{IsJudged}
 use Rattle.range_tuple.specs.TupleBytes.{tuple_bytes}
 use Rattle.range_tuple.specs.TupleReading.{tuple_in}
 use Rattle.range_tuple.specs.Tuples.{Tuple}
@@ -37,6 +39,12 @@ pub record IsMisread (shape : IndexShape) (c : IndexContents) (range : ℕ) (x :
 abbrev pub NamesPageOf : DiskLayout → (index : ℕ) → StoreError → Type 0
 NamesPageOf layout index (errors.Damaged at) = (block : ℕ) × IsPlace layout (record { relation = relation_of layout index; block = block }) × (at ≡ page_offset layout (record { relation = relation_of layout index; block = block }))
 NamesPageOf layout index error = Unit {0}
+
+-- the tuple of the range stands at the spot, and keeps the conditions or doesn't
+pub record IsJudgedAt (shape : IndexShape) (c : IndexContents) (range : ℕ) (x : Spot) (conds : List Cond) (kept : Bool) : Type 0 where
+  pub bytes : List ℕ
+  pub there : ShowsTuple shape c range x bytes
+  pub judged : IsJudged (classes_of shape) bytes conds kept
 
 -- bytes stand at the spot that begin with the number of the range
 abbrev pub HasRangeAt : IndexContents → (range : ℕ) → Spot → Type 0

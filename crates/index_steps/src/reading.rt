@@ -1,6 +1,7 @@
-//! Reading the map, and copying the tuple of a range.
+//! Reading the map, and copying or judging the tuple of a range.
 
-ghost use Rattle.std.specs.Prelude.{◌≡◌, ◌<◌, true, false, length, IfOk, IfErr, IfSome, OnOk};
+ghost use Rattle.std.specs.Prelude.{◌≡◌, ◌<◌, ◌≤◌, true, false, None, length, IfOk, IfErr, IfSome, OnOk};
+ghost use Rattle.block_model.specs.declared.limits.TheConstants.{MAX_CONDITIONS};
 ghost use Rattle.page_map.specs.Keeps.{Keeps, Tells};
 ghost use Rattle.page_map.specs.declared.faults.StoreError.TheVariants as errors;
 ghost use Rattle.page_map.specs.Outcome.{Outcome};
@@ -8,9 +9,9 @@ ghost use Rattle.heap_rows.specs.Survives.{Survives};
 ghost use Rattle.range_tuple.specs.Tuples.{parts_of};
 ghost use Rattle.index_contents.specs.IndexContents.{contents};
 ghost use Rattle.index_steps.specs.IndexTuples.{classes_of, shape_of};
-ghost use Rattle.index_steps.specs.Readings.{HasRangeAt, IsMisnamed, IsMisread, IsReadAs, NamesPageOf, ShowsGone, ShowsTuple};
+ghost use Rattle.index_steps.specs.Readings.{HasRangeAt, IsJudgedAt, IsMisnamed, IsMisread, IsReadAs, NamesPageOf, ShowsGone, ShowsTuple};
 
-use block_model::{Place, Spot};
+use block_model::{Cond, Place, Spot};
 use disk_trait::Disk;
 use heap_rows::PageStore;
 use index_contents::relation_of;
@@ -20,12 +21,11 @@ use range_tuple::RangeTuple;
 use revmap::entry;
 
 /// The entry of the range; none where the map names no spot for it. Damaged, beside a disk that doesn't tell its contents, exactly
-/// where no tuple of the range stands at the spot that it names. `copied` may hold the bytes of one afterwards. Takes no memory.
-pub fn read_map<D: Disk + Drop>(
+/// where no tuple of the range stands at the spot that it names. Takes no memory.
+pub fn read_entry<D: Disk + Drop>(
     pages: &mut PageStore<D>,
     index: u8,
     range: u32,
-    copied: &mut Scratch,
 ) -> Result<Option<Spot>, StoreError>
     requires index { index < length pages.old.layout.schema.indexes }
     ensures entry { IfOk result (λ entry. Tells D.told pages.old → (contents pages.old.layout pages.old.pages index).entry range ≡ entry) }
@@ -41,13 +41,32 @@ pub fn read_map<D: Disk + Drop>(
         Ok(None) => return Ok(None),
         Err(error) => return Err(error),
     };
-    match tuple_at(pages, index, spot, range, copied) {
-        Ok(true) => Ok(Some(spot)),
-        Ok(false) => Err(StoreError::Damaged {
+    match tuple_at(pages, index, spot, range) {
+        Ok(Some(_)) => Ok(Some(spot)),
+        Ok(None) => Err(StoreError::Damaged {
             at: page_at(pages, index, spot.block),
         }),
         Err(error) => Err(error),
     }
+}
+
+/// The same for a machine that copies the tuple next. Takes no memory.
+pub fn read_map<D: Disk + Drop>(
+    pages: &mut PageStore<D>,
+    index: u8,
+    range: u32,
+    _copied: &mut Scratch,
+) -> Result<Option<Spot>, StoreError>
+    requires index { index < length pages.old.layout.schema.indexes }
+    ensures entry { IfOk result (λ entry. Tells D.told pages.old → (contents pages.old.layout pages.old.pages index).entry range ≡ entry) }
+    ensures undamaged { OnOk result (Tells D.told pages.old → IsMisnamed (contents pages.old.layout pages.old.pages index) range → ⊥) }
+    ensures stands { IfOk result (λ entry. IfSome entry (λ spot. Tells D.told pages.old → HasRangeAt (contents pages.old.layout pages.old.pages index) range spot)) }
+    ensures kept { Keeps D.told pages.old pages.new }
+    ensures survives { Survives D.told (λ passed. passed ≡ pages.old.pages) pages.old pages.new }
+    ensures at { IfErr result (NamesPageOf pages.old.layout index) }
+    ensures outcome { Outcome D.told (Tells D.told pages.old → IsMisnamed (contents pages.old.layout pages.old.pages index) range) pages.old pages.new result }
+{
+    read_entry(pages, index, range)
 }
 
 /// Whether a tuple of the range stands at the spot; `copied` holds its bytes then, and `tuple` is the one that they are. False
@@ -73,13 +92,49 @@ pub fn copy_tuple<D: Disk + Drop>(
     ensures at { IfErr result (NamesPageOf pages.old.layout index) }
     ensures outcome { Outcome D.told (Tells D.told pages.old → IsMisread (shape_of pages.old.layout index) (contents pages.old.layout pages.old.pages index) range spot) pages.old pages.new result }
 {
-    match tuple_at(pages, index, spot, range, copied) {
-        Ok(true) => {}
-        Ok(false) => return Ok(false),
+    match tuple_at(pages, index, spot, range) {
+        Ok(Some(bytes)) => copied.hold(bytes),
+        Ok(None) => return Ok(false),
         Err(error) => return Err(error),
     }
     match tuple.decode(copied.bytes()) {
         Ok(()) => Ok(true),
+        Err(_) => Err(StoreError::Damaged {
+            at: page_at(pages, index, spot.block),
+        }),
+    }
+}
+
+/// Whether the tuple of the range at the spot keeps the conditions. None exactly where none stands there. Damaged, beside a disk that
+/// doesn't tell its contents, exactly where bytes of the range stand there that are no tuple of the index. The bytes are read where
+/// they stand, by `tuple`, which stays. Takes no memory.
+pub fn judge_tuple<D: Disk + Drop>(
+    pages: &mut PageStore<D>,
+    index: u8,
+    range: u32,
+    spot: Spot,
+    conds: &[Cond],
+    tuple: &mut RangeTuple,
+) -> Result<Option<bool>, StoreError>
+    requires index { index < length pages.old.layout.schema.indexes }
+    requires tuple { parts_of tuple.old.columns ≡ classes_of (shape_of pages.old.layout index) }
+    requires few { length conds.now ≤ MAX_CONDITIONS }
+    ensures judged { IfOk result (λ told. IfSome told (λ kept. Tells D.told pages.old → IsJudgedAt (shape_of pages.old.layout index) (contents pages.old.layout pages.old.pages index) range spot conds.now kept)) }
+    ensures gone { IfOk result (λ told. told ≡ None → Tells D.told pages.old → ShowsGone (shape_of pages.old.layout index) (contents pages.old.layout pages.old.pages index) range spot) }
+    ensures undamaged { OnOk result (Tells D.told pages.old → IsMisread (shape_of pages.old.layout index) (contents pages.old.layout pages.old.pages index) range spot → ⊥) }
+    ensures same { tuple.new ≡ tuple.old }
+    ensures kept { Keeps D.told pages.old pages.new }
+    ensures survives { Survives D.told (λ passed. passed ≡ pages.old.pages) pages.old pages.new }
+    ensures at { IfErr result (NamesPageOf pages.old.layout index) }
+    ensures outcome { Outcome D.told (Tells D.told pages.old → IsMisread (shape_of pages.old.layout index) (contents pages.old.layout pages.old.pages index) range spot) pages.old pages.new result }
+{
+    let judged = match tuple_at(pages, index, spot, range) {
+        Ok(Some(bytes)) => tuple.judge(bytes, conds),
+        Ok(None) => return Ok(None),
+        Err(error) => return Err(error),
+    };
+    match judged {
+        Ok(kept) => Ok(Some(kept)),
         Err(_) => Err(StoreError::Damaged {
             at: page_at(pages, index, spot.block),
         }),

@@ -42,7 +42,7 @@ impl Scratch {
     }
 
     /// Holds these bytes.
-    pub(crate) fn hold(&mut self, bytes: &[u8])
+    pub fn hold(&mut self, bytes: &[u8])
         requires { length bytes.now ≤ PAGE_SIZE }
         ensures { self.new ≡ bytes.now }
     {

@@ -138,3 +138,22 @@ pub none_may_match : (column : IndexedColumn) (conds asked : List Cond) (nulls v
 none_may_match column conds asked nulls values is some =
     gathered_allows column false conds
     ∙ ap (λ (b : Bool). (b || false) && has_asked column.state (asks_for_nulls column.place conds) (asks_for_values column.place conds)) (ap (λ (cs : List Cond). length cs == 0) (sym is.comparisons_on) ∙ some)
+
+compared_alone : (op : Op) → compares op ≡ true → (is_null op ≡ false) × (is_not_null op ≡ false)
+compared_alone IsNull compares = absurd (false≢true compares)
+compared_alone NotNull compares = absurd (false≢true compares)
+compared_alone op compares = (refl, refl)
+
+-- conditions that all compare and are on the column are what is asked of it
+pub asked_alone : (place : ℕ) (conds : List Cond) → list_all (λ c. (c.column == place) && compares c.op) conds ≡ true → IsAsked place conds conds false false
+asked_alone place [] all = record { comparisons_on = refl; nulls_asked = refl; values_asked = refl }
+asked_alone place (c ∷ conds) all =
+    let parts = and_parts ((c.column == place) && compares c.op) (list_all (λ c. (c.column == place) && compares c.op) conds) all in
+    let on = and_parts (c.column == place) (compares c.op) parts.0 in
+    let op = compared_alone c.op on.1 in
+    let rest = asked_alone place conds parts.1 in
+    record {
+      comparisons_on = ap (λ (asked : List Cond). c ∷ asked) rest.comparisons_on ∙ ap (λ (b : Bool). cond b (c ∷ comparisons place conds) (comparisons place conds)) (sym parts.0);
+      nulls_asked = rest.nulls_asked ∙ (λ i. (sym on.0 i && sym op.0 i) || asks_for_nulls place conds);
+      values_asked = rest.values_asked ∙ (λ i. (sym on.0 i && sym op.1 i) || asks_for_values place conds);
+    }

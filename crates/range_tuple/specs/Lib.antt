@@ -1,6 +1,7 @@
 pub mod ExactTuples
 pub mod GatheredKeys
 pub mod IncludedRows
+pub mod Judged
 pub mod Keeps
 pub mod KeptColumns
 pub mod KindValues

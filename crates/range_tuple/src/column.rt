@@ -2,11 +2,13 @@
 
 ghost use Rattle.std.specs.Prelude.{◌≡◌, ◌≢◌, ◌<◌, ◌≤◌, ◌++◌, ◌==◌, ◌&&◌, ◌||◌, true, false, List, length, drop, IfOk, Ok, Err, IfErr, OnOk, MatchResult};
 ghost use Rattle.std.specs.List.{list_all};
+ghost use Rattle.block_model.specs.declared.limits.TheConstants.{MAX_CONDITIONS};
+ghost use Rattle.block_model.specs.declared.row.Cond.{Cond};
 ghost use Rattle.block_model.specs.declared.value.Value.{Value};
 ghost use Rattle.block_model.specs.RowMatches.{column_matches};
 ghost use Rattle.opclass_api.specs.Conditions.{AllCompare, meets_all};
 ghost use Rattle.opclass_any.specs.AnyClass.{takes, is_of, includes, empty, add, consistent, bytes_of, read_of, greatest_size};
-ghost use Rattle.range_tuple.specs.GatheredKeys.{has_asked};
+ghost use Rattle.range_tuple.specs.GatheredKeys.{IsAsked, has_asked};
 ghost use Rattle.range_tuple.specs.Keeps.{column_allows};
 ghost use Rattle.range_tuple.specs.KeptColumns.{IsBlankOf, IsReadAgain};
 ghost use Rattle.range_tuple.specs.NullStates.{state_of, has_nulls, has_values};
@@ -16,7 +18,7 @@ ghost use Rattle.opclass_any.specs.declared.classes.AnySummary.{AnySummary};
 ghost use Rattle.range_tuple.specs.declared.state.NullState.{NullState};
 ghost use Rattle.range_tuple.specs.Tuples.{IndexedColumn, IsColumn, emptied, part_of, with_value, with_row_at, united_column, column_room, has_nothing};
 
-use crate::scan_keys::ScanKeys;
+use crate::scan_keys::{Asked, ScanKeys, asked_alone, is_on_one};
 use crate::state::NullState;
 use block_model::{Cond, NoMemory, Value};
 use opclass_any::{AnyClass, AnySummary};
@@ -181,9 +183,34 @@ impl TupleColumn {
         ensures answer { result ≡ column_allows keys.now self.now }
         ensures misses_no_match { result ≡ false → (row : List Value) → ColumnIncludes row self.now → list_all (column_matches row) keys.now ≡ false }
     {
-        let Some(asked) = keys.of(self.place) else {
+        match keys.of(self.place) {
+            Some(asked) => self.allows_asked(asked),
+            None => true,
+        }
+    }
+
+    /// The same of conditions that aren't gathered, at most sixteen. They are gathered here where some are on the column, and not
+    /// all compare and are on it.
+    pub(crate) fn allows_each(&self, conds: &[Cond]) -> bool
+        requires { length conds.now ≤ MAX_CONDITIONS }
+        ensures answer { result ≡ column_allows conds.now self.now }
+        ensures misses_no_match { result ≡ false → (row : List Value) → ColumnIncludes row self.now → list_all (column_matches row) conds.now ≡ false }
+    {
+        if !is_on_one(self.place, conds) {
             return true;
-        };
+        }
+        match asked_alone(self.place, conds) {
+            Some(asked) => self.allows_asked(asked),
+            None => self.allows(&ScanKeys::new(conds)),
+        }
+    }
+
+    /// Whether the column allows the conditions of which this is asked.
+    fn allows_asked(&self, asked: Asked<'_>) -> bool
+        requires { AllCompare asked.comparisons.now }
+        ensures answer { (conds : List Cond) → IsAsked self.now.place conds asked.entry.comparisons.now asked.entry.nulls asked.entry.values → result ≡ column_allows conds self.now }
+        ensures misses_no_match { result ≡ false → (conds : List Cond) → IsAsked self.now.place conds asked.entry.comparisons.now asked.entry.nulls asked.entry.values → (row : List Value) → ColumnIncludes row self.now → list_all (column_matches row) conds ≡ false }
+    {
         let may_match = self.may_match(asked.comparisons);
         may_match && self.has_asked(asked.nulls, asked.values)
     }

@@ -1,7 +1,7 @@
 //! The columns of a tuple, one after the other.
 
-ghost use Rattle.std.specs.Prelude.{◌≡◌, ◌≢◌, ◌<◌, ◌≤◌, ◌+◌, ◌*◌, ◌++◌, true, false, All, List, length, map, drop, sum_by, Ok, Err, IfOk, OnOk, IfErr, MatchResult};
-ghost use Rattle.block_model.specs.declared.limits.TheConstants.{MAX_TUPLE};
+ghost use Rattle.std.specs.Prelude.{◌≡◌, ◌≢◌, ◌<◌, ◌≤◌, ◌+◌, ◌*◌, ◌++◌, ℕ, true, false, All, List, length, map, drop, sum_by, Ok, Err, IfOk, OnOk, IfErr, MatchResult};
+ghost use Rattle.block_model.specs.declared.limits.TheConstants.{MAX_CONDITIONS, MAX_TUPLE};
 ghost use Rattle.std.specs.Box.{boxed_slice_items};
 ghost use Rattle.std.specs.List.{list_all};
 ghost use Rattle.block_model.specs.declared.value.Value.{Value};
@@ -9,20 +9,20 @@ ghost use Rattle.block_model.specs.IndexedColumns.{columns_of, kind_at};
 ghost use Rattle.block_model.specs.ClassLimits.{class_is_lawful};
 ghost use Rattle.block_model.specs.RowMatches.{column_matches};
 ghost use Rattle.block_model.specs.TupleSize.{part_size};
-ghost use Rattle.range_tuple.specs.Keeps.{column_allows};
+ghost use Rattle.range_tuple.specs.Keeps.{column_allows, keeps};
 ghost use Rattle.range_tuple.specs.KeptColumns.{ReadsAgain};
 ghost use Rattle.range_tuple.specs.TupleBytes.{columns_bytes, lengths_bytes, states_bytes, summaries_bytes};
 ghost use Rattle.range_tuple.specs.TupleFaults.{head_fault};
 ghost use Rattle.range_tuple.specs.TupleReading.{columns_read};
 ghost use Rattle.range_tuple.specs.TupleIncludes.{ColumnIncludes, ColumnTakes};
-ghost use Rattle.range_tuple.specs.Tuples.{IndexedColumn, IsColumn, empty_column, emptied, has_nothing, with_row_at, united_columns, parts_of, column_room};
+ghost use Rattle.range_tuple.specs.Tuples.{IndexedColumn, IsColumn, empty_column, emptied, has_nothing, with_row_at, united_columns, parts_of, tuple_of, column_room};
 
 use crate::column::{COLUMN_HEADER, TupleColumn};
 use crate::head::HEADER;
 use crate::scan_keys::ScanKeys;
 use crate::spare::SpareColumn;
 use crate::state::NullState;
-use block_model::{Column, Index, NoMemory, Part, Schema, Value, columns_of, kind_at};
+use block_model::{Column, Cond, Index, NoMemory, Part, Schema, Value, columns_of, kind_at};
 use byte_fields::{get_u16, put_u16};
 use opclass_any::AnyClass;
 use opclass_api::Malformed;
@@ -215,6 +215,42 @@ pub(crate) fn read_each(spare: &mut [SpareColumn], bytes: &[u8]) -> Result<(), M
         return Err(Malformed { at });
     }
     Ok(())
+}
+
+/// Whether nothing was added in any of the columns that were read.
+fn have_nothing_read(spare: &[SpareColumn]) -> bool
+    ensures { result ≡ list_all has_nothing spare.now }
+{
+    spare.iter().all(|column| column.has_nothing())
+}
+
+/// Whether each of the columns that were read allows the conditions, which are at most sixteen. Where one doesn't, they include no
+/// row that matches them.
+fn all_read_allow(spare: &[SpareColumn], conds: &[Cond]) -> bool
+    requires { length conds.now ≤ MAX_CONDITIONS }
+    ensures answer { result ≡ list_all (column_allows conds.now) spare.now }
+    ensures misses_no_match { result ≡ false → (row : List Value) → All (ColumnIncludes row) spare.now → list_all (column_matches row) conds.now ≡ false }
+{
+    'columns: for column in spare {
+        if !column.allows_each(conds) {
+            return false;
+        }
+    }
+    true
+}
+
+/// Whether a tuple of the columns that were read, a placeholder or not, keeps the conditions. Where it doesn't, they include no row
+/// that matches them.
+pub(crate) fn keep(placeholder: bool, spare: &[SpareColumn], conds: &[Cond]) -> bool
+    requires some { 0 < length spare.now }
+    requires few { length conds.now ≤ MAX_CONDITIONS }
+    ensures answer { (range : ℕ) → result ≡ keeps (tuple_of range placeholder spare.now) conds.now }
+    ensures misses_no_match { result ≡ false → (row : List Value) → All (ColumnIncludes row) spare.now → list_all (column_matches row) conds.now ≡ false }
+{
+    if placeholder {
+        return true;
+    }
+    !have_nothing_read(spare) && all_read_allow(spare, conds)
 }
 
 /// Puts the columns that were read in place of a tuple's, which are read next.

@@ -82,6 +82,14 @@ impl ListedTuple {
         known(&self.columns);
     }
 
+    /// Does nothing; tells its caller that every tuple has a column, and that its bytes fit a page.
+    pub(crate) fn known_columns(&self)
+        ensures some { 0 < length self.now.columns }
+        ensures fits { tuple_room self.now.columns ≤ MAX_TUPLE }
+    {
+        let _ = &self.columns;
+    }
+
     /// Does nothing; tells its caller what the class of each column knows of bytes.
     pub(crate) fn known_classes(&self)
         ensures { All ReadsAgain self.now.columns }

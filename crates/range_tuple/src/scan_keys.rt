@@ -2,7 +2,7 @@
 
 ghost use Rattle.std.specs.Prelude.{◌≡◌, ◌≤◌, ◌+◌, ◌++◌, ◌==◌, ◌&&◌, None, false, length, take, IfSome};
 ghost use Rattle.block_model.specs.declared.limits.TheConstants.{MAX_CONDITIONS};
-ghost use Rattle.std.specs.List.{Contains, list_any};
+ghost use Rattle.std.specs.List.{Contains, list_all, list_any};
 ghost use Rattle.opclass_api.specs.Conditions.{compares};
 ghost use Rattle.range_tuple.specs.GatheredKeys.{AreGathered, IsAsked, IsGathered, asks_for_nulls, asks_for_values, is_not_null, is_null};
 ghost use Rattle.range_tuple.specs.Keeps.{comparisons};
@@ -138,8 +138,29 @@ fn gather(
     count
 }
 
+/// What the conditions ask of a column, if all compare and are on it.
+pub(crate) fn asked_alone(place: u8, conds: &[Cond]) -> Option<Asked<'_>>
+    ensures { IfSome result (λ asked. IsAsked place conds.now asked.comparisons.now asked.nulls asked.values) }
+{
+    if !are_comparisons_on(place, conds) {
+        return None;
+    }
+    Some(Asked {
+        comparisons: conds,
+        nulls: false,
+        values: false,
+    })
+}
+
+/// Whether all conditions compare, and are on the column.
+fn are_comparisons_on(place: u8, conds: &[Cond]) -> bool
+    ensures { result ≡ list_all (λ cond. (cond.column == place) && compares cond.op) conds.now }
+{
+    conds.iter().all(|cond| is_comparison_on(place, cond))
+}
+
 /// Whether one of the conditions is on the column.
-fn is_on_one(place: u8, conds: &[Cond]) -> bool
+pub(crate) fn is_on_one(place: u8, conds: &[Cond]) -> bool
     ensures { result ≡ list_any (λ cond. cond.column == place) conds.now }
 {
     conds.iter().any(|cond| cond.column == place)

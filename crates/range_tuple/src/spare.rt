@@ -1,16 +1,22 @@
 //! A column of a tuple to be read from bytes.
 
-ghost use Rattle.std.specs.Prelude.{◌≡◌, ◌<◌, ◌≤◌, true, false, length, take, Ok, Err, IfOk, IfErr, OnOk, MatchResult};
+ghost use Rattle.std.specs.Prelude.{◌≡◌, ◌<◌, ◌≤◌, true, false, List, length, take, Ok, Err, IfOk, IfErr, OnOk, MatchResult};
+ghost use Rattle.std.specs.List.{list_all};
+ghost use Rattle.block_model.specs.declared.limits.TheConstants.{MAX_CONDITIONS};
+ghost use Rattle.block_model.specs.declared.value.Value.{Value};
+ghost use Rattle.block_model.specs.RowMatches.{column_matches};
+ghost use Rattle.range_tuple.specs.Keeps.{column_allows};
 ghost use Rattle.range_tuple.specs.KeptColumns.{IsReadAgain};
 ghost use Rattle.range_tuple.specs.NullStates.{has_values};
 ghost use Rattle.range_tuple.specs.TupleBytes.{summary_bytes};
+ghost use Rattle.range_tuple.specs.TupleIncludes.{ColumnIncludes};
 ghost use Rattle.range_tuple.specs.TupleReading.{summary_in};
-ghost use Rattle.range_tuple.specs.Tuples.{IsColumn, emptied, part_of};
+ghost use Rattle.range_tuple.specs.Tuples.{IsColumn, emptied, has_nothing, part_of};
 ghost use Rattle.range_tuple.specs.declared.state.NullState.{NullState};
 
 use crate::column::TupleColumn;
 use crate::state::NullState;
-use block_model::NoMemory;
+use block_model::{Cond, NoMemory};
 use opclass_api::Malformed;
 use std::alloc::Global;
 use std::boxed::BoxedSlice;
@@ -56,6 +62,23 @@ impl SpareColumn {
         ensures class { IsReadAgain self.now.class }
     {
         self.column.known();
+    }
+
+    /// Whether nothing was added.
+    pub(crate) fn has_nothing(&self) -> bool
+        ensures { result ≡ has_nothing self.now }
+    {
+        self.column.has_nothing()
+    }
+
+    /// Whether the column allows each of these conditions, which are at most sixteen. One that doesn't includes no row that
+    /// matches them.
+    pub(crate) fn allows_each(&self, conds: &[Cond]) -> bool
+        requires { length conds.now ≤ MAX_CONDITIONS }
+        ensures answer { result ≡ column_allows conds.now self.now }
+        ensures misses_no_match { result ≡ false → (row : List Value) → ColumnIncludes row self.now → list_all (column_matches row) conds.now ≡ false }
+    {
+        self.column.allows_each(conds)
     }
 
     /// Makes the column one in that state, with the summary whose length is given and whose bytes are the first of these.

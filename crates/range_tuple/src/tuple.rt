@@ -8,13 +8,14 @@ ghost use Rattle.block_model.specs.IndexedColumns.{columns_of};
 ghost use Rattle.block_model.specs.ClassLimits.{class_is_lawful};
 ghost use Rattle.block_model.specs.RowMatches.{column_matches};
 ghost use Rattle.block_model.specs.TupleSize.{tuple_size};
+ghost use Rattle.range_tuple.specs.Judged.{IsJudged};
 ghost use Rattle.range_tuple.specs.Keeps.{keeps};
 ghost use Rattle.range_tuple.specs.TupleBytes.{tuple_bytes};
 ghost use Rattle.range_tuple.specs.TupleIncludes.{TupleIncludes, TupleTakesRow};
 ghost use Rattle.range_tuple.specs.TupleReading.{read_of, tuple_in};
-ghost use Rattle.range_tuple.specs.Tuples.{Tuple, IsTuple, empty_placeholder, restarted, with_row, united_tuple, parts_of, tuple_room};
+ghost use Rattle.range_tuple.specs.Tuples.{Tuple, IsTuple, empty_placeholder, restarted, with_row, united_tuple, parts_of, tuple_of, tuple_room};
 
-use crate::columns::read_each;
+use crate::columns::{keep, read_each};
 use crate::head::head_fault;
 use crate::listed::ListedTuple;
 use crate::scan_keys::ScanKeys;
@@ -167,17 +168,8 @@ impl RangeTuple {
         let _ = read(&mut self.tuple, &mut self.spare, &self.scratch[..size]);
     }
 
-    /// Whether the range may hold a row that matches the conditions, which are at most sixteen. A tuple that doesn't keep
-    /// them is final, and includes no row that matches them all. Takes no memory.
-    pub fn keeps(&self, conds: &[Cond]) -> bool
-        requires { length conds.now ≤ MAX_CONDITIONS }
-        ensures answer { result ≡ keeps self.now conds.now }
-        ensures misses_no_match { result ≡ false → (row : List Value) → TupleIncludes self.now row → list_all (column_matches row) conds.now ≡ false }
-    {
-        self.keeps_by(&ScanKeys::new(conds))
-    }
-
-    /// The same by the conditions of a scan, which were gathered once for all tuples. Takes no memory.
+    /// Whether the range may hold a row that matches the conditions of a scan, which were gathered once for all tuples. A tuple that
+    /// doesn't keep them is final, and includes no row that matches them all. Takes no memory.
     pub fn keeps_by(&self, keys: &ScanKeys<'_>) -> bool
         ensures answer { result ≡ keeps self.now keys.now }
         ensures misses_no_match { result ≡ false → (row : List Value) → TupleIncludes self.now row → list_all (column_matches row) keys.now ≡ false }
@@ -209,6 +201,17 @@ impl RangeTuple {
         read(&mut self.tuple, &mut self.spare, bytes)
     }
 
+    /// Whether the tuple that the bytes encode keeps the conditions, which are at most sixteen: its range may hold a row that matches
+    /// them. `Err` exactly where they encode no tuple of this index, as for `decode`. The tuple itself stays. Takes no memory.
+    pub fn judge(&mut self, bytes: &[u8], conds: &[Cond]) -> Result<bool, Malformed>
+        requires { length conds.now ≤ MAX_CONDITIONS }
+        ensures judged { IfOk result (IsJudged (parts_of self.old.columns) bytes.now conds.now) }
+        ensures refused { IfErr result (λ fault. read_of (parts_of self.old.columns) bytes.now ≡ Err fault.at) }
+        ensures same { self.new ≡ self.old }
+    {
+        judge(&self.tuple, &mut self.spare, bytes, conds)
+    }
+
     /// How many bytes the tuple has at most.
     pub fn greatest_size(&self) -> usize
         ensures size { result ≡ tuple_room self.now.columns }
@@ -231,11 +234,61 @@ fn read(tuple: &mut ListedTuple, spare: &mut [SpareColumn], bytes: &[u8]) -> Res
 {
     tuple.known();
     tuple.known_classes();
+    match read_columns(spare, bytes) {
+        Ok(head) => {
+            tuple.exchange(head.range, head.placeholder, spare);
+            Ok(())
+        }
+        Err(fault) => Err(fault),
+    }
+}
+
+/// Whether the tuple that the bytes encode keeps the conditions, by columns of the index that are read.
+fn judge(
+    tuple: &ListedTuple,
+    spare: &mut [SpareColumn],
+    bytes: &[u8],
+    conds: &[Cond],
+) -> Result<bool, Malformed>
+    requires index { parts_of spare.old ≡ parts_of tuple.now.columns }
+    requires few { length conds.now ≤ MAX_CONDITIONS }
+    ensures same_spare { parts_of spare.new ≡ parts_of spare.old }
+    ensures judged { IfOk result (IsJudged (parts_of tuple.now.columns) bytes.now conds.now) }
+    ensures refused { IfErr result (λ fault. read_of (parts_of tuple.now.columns) bytes.now ≡ Err fault.at) }
+{
+    tuple.known_columns();
+    match read_columns(spare, bytes) {
+        Ok(head) => Ok(keep(head.placeholder, spare, conds)),
+        Err(fault) => Err(fault),
+    }
+}
+
+/// What stands before the columns of a tuple.
+#[derive(Clone, Copy)]
+struct Head {
+    range: u32,
+    placeholder: bool,
+}
+
+/// Makes the columns those of the tuple that the bytes encode, and answers its head.
+fn read_columns(spare: &mut [SpareColumn], bytes: &[u8]) -> Result<Head, Malformed>
+    requires some { 0 < length spare.old }
+    requires few { length spare.old < 65536 }
+    ensures same_index { parts_of spare.new ≡ parts_of spare.old }
+    ensures found { IfOk result (λ head. bytes.now ≡ tuple_bytes (tuple_of head.range head.placeholder spare.new)) }
+    ensures read { MatchResult result (λ head. read_of (parts_of spare.old) bytes.now ≡ Ok (tuple_of head.range head.placeholder spare.new)) (λ fault. read_of (parts_of spare.old) bytes.now ≡ Err fault.at) }
+    ensures within { IfErr result (λ fault. fault.at ≤ length bytes.now) }
+{
     if let Some(at) = head_fault(bytes, spare.len()) {
         return Err(Malformed { at });
     }
-    read_each(spare, bytes)?;
+    match read_each(spare, bytes) {
+        Ok(()) => {}
+        Err(fault) => return Err(fault),
+    }
     let flags = bytes[4];
-    tuple.exchange(get_u32(bytes, 0), (flags == 1) | (flags == 3), spare);
-    Ok(())
+    Ok(Head {
+        range: get_u32(bytes, 0),
+        placeholder: (flags == 1) | (flags == 3),
+    })
 }
