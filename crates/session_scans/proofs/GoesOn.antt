@@ -47,7 +47,7 @@ use Rattle.session_scans.proofs.Standing.{LooksThere, ScansAt, account_is, in_ha
 use Rattle.session_scans.proofs.Stands.{IsThere}
 use Rattle.session_scans.proofs.Stepped.{MakesStep, stepped}
 use Rattle.session_scans.proofs.Turns.{reads, scan_after, tells_nothing, turns_there}
-use Rattle.session_scans.proofs.Words.{scan_in, scan_is_own, scan_is_shown, scan_no_insert}
+use Rattle.session_scans.proofs.Words.{scan_is, scan_is_own, scan_is_shown}
 
 -- one that has begun scans
 pub begun_task : (layout : DiskLayout) (stage : Stage) (hand : ScanHand) (beside : Beside) → stage ≢ stages.Extent → task_of layout stage hand beside ≡ Scans (table_scan layout hand beside)
@@ -118,8 +118,8 @@ module _ (laws : LookLaws) (old new : ShownStore) (n : ℕ) (looking : Looking) 
 
     in_hand_then : IsInHand old new n number (shows laws old n looking before o there p shown).blocks shown.database.stored next
     in_hand_then = record {
-      asks = subst IsNoInsert (sym is) (scan_no_insert looking after);
-      is_in = λ other there_is. scan_in old.layout other looking after (sym (ap (table_in old.layout) is) ∙ there_is) ∙ ap (λ (q : Query). q.table) same;
+      asks = subst IsNoInsert (sym is) (scan_is looking after).asks;
+      is_in = λ other there_is. (scan_is looking after).in_table old.layout other (sym (ap (table_in old.layout) is) ∙ there_is) ∙ ap (λ (q : Query). q.table) same;
       task = task_then;
     }
 

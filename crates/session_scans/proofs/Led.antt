@@ -38,7 +38,7 @@ use Rattle.session_scans.specs.declared.looking.Looking.{Looking}
 use Rattle.session_scans.specs.LookLaws.{LookLaws}
 use Rattle.session_scans.specs.Looks.{statement_for}
 use Rattle.session_scans.proofs.Standing.{LooksThere, shows, account_is}
-use Rattle.session_scans.proofs.Words.{in_table}
+use Rattle.session_scans.proofs.Words.{hand_is}
 
 -- a step of the scan changed nothing but the journal and what the session has in hand
 pub record ScanLeft (old new : ShownStore) (n : ℕ) : Type 0 where
@@ -101,7 +101,7 @@ module _ (laws : LookLaws) (old new : ShownStore) (n : ℕ) (looking : Looking) 
     pages = λ place apart. ap (λ (m : PageMap). page_at m place) left.pages;
     locks = SameLocks left.locks;
     rights = λ other apart. ap (λ (r : List (Option ℕ)). right_of r other) left.rights;
-    was_in = λ other is. in_table old.layout other looking before before.judging.stage (sym (ap (table_in old.layout) there.was) ∙ is);
+    was_in = λ other is. (hand_is looking before before.judging.stage).in_table old.layout other (sym (ap (table_in old.layout) there.was) ∙ is);
     is_in = in_hand.is_in;
   }
 

@@ -51,7 +51,7 @@ use Rattle.session_scans.proofs.Led.{order_stays}
 use Rattle.session_scans.proofs.Standing.{LooksThere, in_hand, shows}
 use Rattle.session_scans.proofs.Tells.{none_in_hand}
 use Rattle.session_scans.proofs.Turns.{copy}
-use Rattle.session_scans.proofs.Words.{in_table}
+use Rattle.session_scans.proofs.Words.{hand_is}
 use Rattle.session_scans.proofs.Refusals.{begun_or_not, entries_then, first_step, later_step, none_before, refused_entry, turns}
 
 -- ---- the place then
@@ -177,7 +177,7 @@ module _ (laws : LookLaws) (old new : ShownStore) (n : ℕ) (looking : Looking) 
       pages = λ place apart. ap (λ (m : PageMap). page_at m place) left.pages;
       locks = SameLocks left.locks;
       rights = λ other apart. ap (λ (r : List (Option ℕ)). right_of r other) left.rights;
-      was_in = λ other is. in_table old.layout other looking before before.judging.stage (sym (ap (table_in old.layout) there.was) ∙ is);
+      was_in = λ other is. (hand_is looking before before.judging.stage).in_table old.layout other (sym (ap (table_in old.layout) there.was) ∙ is);
       is_in = λ other is. absurd (is_none other is);
     }
 

@@ -58,7 +58,7 @@ use Rattle.session_scans.proofs.Led.{IsInHand, ScanLeft, order_stays, place_show
 use Rattle.session_scans.proofs.Standing.{LooksThere, account_is, in_hand, pages_show, shows}
 use Rattle.session_scans.proofs.Stands.{IsThere}
 use Rattle.session_scans.proofs.Turns.{copy, reads, tells_nothing, turns_there}
-use Rattle.session_scans.proofs.Words.{next_is}
+use Rattle.session_scans.proofs.Words.{looks}
 
 -- nothing is left to ask
 none_left : (looking : Looking) (query : Query) (n : ℕ) (found : List (Row × Spot)) (rows : List Row) (reply : Reply) (answers : List Answer) → answers ≡ Found rows ∷ [] → IsReplyOf looking found rows reply
@@ -143,7 +143,7 @@ module _ (laws : LookLaws) (old new : ShownStore) (n : ℕ) (looking : Looking) 
   answers_are = ap (λ (r : DatabaseState × Answer). r.1 ∷ []) does ∙ ap (λ (l : List Row). Found l ∷ []) (sym its_rows)
 
   makes : MakesAll p.opening n (statement_for looking query) (course_of p hand) course
-  makes = OneMore (course_of p hand) course course (Enters e (next_is looking query n)) (NoneLeft course (none_left looking query n after.found rows reply course.answers answers_are replied))
+  makes = OneMore (course_of p hand) course course (Enters e ((looks looking query).next_is n)) (NoneLeft course (none_left looking query n after.found rows reply course.answers answers_are replied))
 
   entries_are : course.journal ≡ new.entries
   entries_are = ap (λ (j : List Entry). j ++ e ∷ []) shown.journal ∙ sym looked

@@ -40,7 +40,7 @@ use Rattle.session_scans.specs.declared.looking.Looking.TheVariants as lookings
 use Rattle.session_scans.specs.LookLaws.{LookLaws}
 use Rattle.session_scans.specs.Looks.{deletes_of, statement_for}
 use Rattle.session_scans.proofs.Standing.{LooksThere, ScansAt, kept, pages_show, scans_at, shows, sight, w}
-use Rattle.session_scans.proofs.Words.{not_work, on_table}
+use Rattle.session_scans.proofs.Words.{looks}
 
 -- a step of a scan doesn't prune
 pub reads : (stage : Stage) → point_at stage ≢ points.Prune
@@ -156,4 +156,4 @@ module _ (laws : LookLaws) (s : ShownStore) (n : ℕ) (looking : Looking) (befor
         pub turns_there : point ≢ points.Prune
             → (turns : TurnsIn p n (statement_for looking query) query.table v (account_at before.judging.stage (p.accounts n))) × (point_in turns ≡ Some point) × (turns.step.between ≡ between)
         turns_there no_prune = machine_turns p n query.table (statement_for looking query) here between v point (account_at before.judging.stage) (shows laws s n looking before o there p shown).shown
-            (not_work looking query) (on_table looking query p n) goes.does no_prune settles (inr begins)
+            (looks looking query).not_work ((looks looking query).on_table p n) goes.does no_prune settles (inr begins)

@@ -34,7 +34,7 @@ use Rattle.session_parts.specs.UndoneLaws.{FitsParts, StepsSo}
 use Rattle.session_parts.proofs.Undone.{fit_of_parts}
 use Rattle.session_transactions.specs.HitConflicts.{HitConflicts}
 use Rattle.session_transactions.specs.Looks.{look_entries, stepped_behind}
-use Rattle.session_transactions.proofs.Frames.{conflict_promised, done_so, mark_promised, marking_fits, moved_so, over_marked}
+use Rattle.session_transactions.proofs.Frames.{conflict_promised, made_so, mark_promised, marking_fits, over_marked}
 use Rattle.session_transactions.proofs.Making.{MarkLaws, moves, replies_so}
 use Rattle.session_transactions.proofs.Refusing.{ConflictLaws, meets_conflict}
 use Rattle.session_transactions.proofs.Standing.{under_way}
@@ -72,7 +72,7 @@ module _ {D : Type 0} (told : D → Told) (old : Parts D) (n : ℕ) (marking : M
     failed = record old { transactions = with_failed old.transactions n own.0; journal = j }
 
     failed_so : StepsSo told old failed n (hands.Marks marking) (stepped.Done (replies.Refused (refusals.Conflict hit.id)))
-    failed_so = done_so told old failed n marking (replies.Refused (refusals.Conflict hit.id)) (record {
+    failed_so = made_so told old old.pages (with_failed old.transactions n own.0) j n (hands.Marks marking) None (record {
       fits = fits;
       ready = ready;
       still = ready;
@@ -80,15 +80,14 @@ module _ {D : Type 0} (told : D → Told) (old : Parts D) (n : ℕ) (marking : M
       over = was.over;
       in_hand = tt;
       held = refl;
-      locks = refl;
-      rights = refl;
-      dropped = refl;
+      right = refl;
       entries = room;
       promised = (λ i. j.promised + share_of (Some (hands.Marks marking)) (own.1 i))
           ∙ conflict_promised marking own.0 j.promised entered.promised looked.promised old.journal.promised unneeded own.2 left released mark_promised_ look_promised
           ∙ (λ i. old.journal.promised + share_of None (sym (failed_here old.transactions.opens n own.0 (failed_open own.0) own.1) i));
       opens = λ m apart. get_or-set_other old.transactions.opens n m (Some (failed_open own.0)) None apart;
-    }) (meets_conflict told laws old j n marking hit own.0 was.in_hand.1 own.1 own.2 next conflict_here entries_then room)
+    }) (stepped.Done (replies.Refused (refusals.Conflict hit.id))) refl
+        (meets_conflict told laws old j n marking hit own.0 was.in_hand.1 own.1 own.2 next conflict_here entries_then room) (λ names hands_ is. tt) (ready, ready)
 
     pub refuses_so : StepsSo told old (record old { transactions = tx; journal = j }) n (hands.Marks marking) (stepped.Done (replies.Refused (refusals.Conflict hit.id)))
     refuses_so = subst (λ (t : TransactionsState). StepsSo told old (record old { transactions = t; journal = j }) n (hands.Marks marking) (stepped.Done (replies.Refused (refusals.Conflict hit.id)))) (sym (fails own.0 own.1)) failed_so
@@ -127,7 +126,7 @@ module _ {D : Type 0} (told : D → Told) (old : Parts D) (n : ℕ) (marking : M
         let one_less : length (drop marking.next marking.hits.items) ≡ length (drop (marking.next + 1) marking.hits.items) + 1 =
         omega (arith, length-drop marking.next marking.hits.items, length-drop (marking.next + 1) marking.hits.items, was.in_hand.1.left) in
         let left : marking.next + 1 < length marking.hits.items = omega (arith, ap length more, length-drop (suc marking.next) marking.hits.items) in
-        moved_so told old now n marking later refl (record {
+        made_so told old pages old.transactions j n (hands.Marks marking) (Some (hands.Marks later)) (record {
           fits = fits;
           ready = ready;
           still = still;
@@ -135,21 +134,20 @@ module _ {D : Type 0} (told : D → Told) (old : Parts D) (n : ℕ) (marking : M
           over = over_marked told old.transactions.tx marking.query.table old.pages pages was.over others;
           in_hand = marking_fits old.pages.layout pages.layout (transaction_of old.transactions.opens n) marking others.leaves.layout was.in_hand left;
           held = refl;
-          locks = refl;
-          rights = refl;
-          dropped = refl;
+          right = refl;
           entries = room;
           promised = (λ i. j.promised + share_of (Some (hands.Marks marking)) (own.1 i))
               ∙ mark_promised marking own.0 (length (drop (marking.next + 1) marking.hits.items)) j.promised looked.promised old.journal.promised own.2 one_less mark_promised_ look_promised
               ∙ (λ i. old.journal.promised + share_of (Some (hands.Marks later)) (sym own.1 i));
           opens = λ m apart. refl;
-        }) (moves told laws old pages j n marking hit own.0 was.in_hand.1 own.1 own.2 next free_here marks_own slots_own others entries_now room h hs more)
+        }) (stepped.Moved points.Mark (hands.Marks later)) refl (moves told laws old pages j n marking hit own.0 was.in_hand.1 own.1 own.2 next free_here marks_own slots_own others entries_now room h hs more)
+            (λ names hands_ is. refl) (ready, still)
 
     ends_so : drop (suc marking.next) marking.hits.items ≡ [] → StepsSo told old now n (hands.Marks marking) (stepped.Done (replies.Deleted (marking.next + 1)))
     ends_so none =
         let last : length (drop marking.next marking.hits.items) ≡ 0 + 1 =
         omega (arith, length-drop marking.next marking.hits.items, length-drop (suc marking.next) marking.hits.items, ap length none, was.in_hand.1.left) in
-        done_so told old now n marking (replies.Deleted (marking.next + 1)) (record {
+        made_so told old pages old.transactions j n (hands.Marks marking) None (record {
           fits = fits;
           ready = ready;
           still = still;
@@ -157,15 +155,14 @@ module _ {D : Type 0} (told : D → Told) (old : Parts D) (n : ℕ) (marking : M
           over = over_marked told old.transactions.tx marking.query.table old.pages pages was.over others;
           in_hand = tt;
           held = refl;
-          locks = refl;
-          rights = refl;
-          dropped = refl;
+          right = refl;
           entries = room;
           promised = (λ i. j.promised + share_of (Some (hands.Marks marking)) (own.1 i))
               ∙ mark_promised marking own.0 0 j.promised looked.promised old.journal.promised own.2 last mark_promised_ look_promised
               ∙ (λ i. old.journal.promised + (0 + open_share (sym own.1 i)));
           opens = λ m apart. refl;
-        }) (replies_so told laws old pages j n marking hit own.0 was.in_hand.1 own.1 own.2 next free_here marks_own slots_own others entries_now room none)
+        }) (stepped.Done (replies.Deleted (marking.next + 1))) refl (replies_so told laws old pages j n marking hit own.0 was.in_hand.1 own.1 own.2 next free_here marks_own slots_own others entries_now room none)
+            (λ names hands_ is. tt) (ready, still)
 
     -- by whether one is left
     by_left : (rest : List Hit) → drop (suc marking.next) marking.hits.items ≡ rest → (last : Bool) → (marking.next + 1 == length marking.hits.items) ≡ last
