@@ -54,7 +54,7 @@ use Rattle.session_parts.proofs.Steps.{lacks_number as no_number}
 use Rattle.session_parts.proofs.Undone.{fit_of_parts}
 use Rattle.session_transactions.proofs.AtOnce.{IsOnly, Restates, StaysBeside, does_so, heaps_follow, shown_then}
 use Rattle.session_transactions.proofs.Frames.{LeavesParts, made_so}
-use Rattle.session_transactions.proofs.Rooms.{lacks}
+use Rattle.session_transactions.proofs.Rooms.{answered, lacks}
 
 -- ---- a begin is one request
 
@@ -83,14 +83,11 @@ the_begin_laws sessions unseen counts rows = record { sessions = sessions; unsee
 
 module _ {D : Type 0} (laws : BeginLaws) (parts : Parts D) (n : ℕ) (numbers : Vec ℕ) (full : MAX_ENTRIES ≤ length parts.journal.entries)
     (idle : transaction_of parts.transactions.opens n ≡ None) (some : parts.transactions.tx.next < number_limit parts.pages.layout) where
-  begin_answered : (s : DatabaseState) → finite.get s.sessions n ≡ None → reply_to s (request_entry n 0 requests.Begin) ≡ Begun s.next
-  begin_answered s none = ap (λ (r : DatabaseState × Answer). r.1) (effect_is s (request_entry n 0 requests.Begin) ∙ ap (λ (o : Option OpenTransaction). effect_at o s (request_entry n 0 requests.Begin)) none)
-
   pub no_begin : (names : List (List ℕ)) (hands_ : List (Option Hand)) (p : Place) → hand_in hands_ n ≡ Some (hands.Begins numbers) → ShowsPlace (store_of parts names hands_) p → LacksRoom p n
   no_begin names hands_ p is shown =
       let has = laws.sessions parts.pages.layout parts.pages.pages parts.transactions (database_at p) shown.database in
       lacks parts n (hands.Begins numbers) full names hands_ p is shown (request_entry n 0 requests.Begin) (Begun (database_at p).next) (replies.Begun (database_at p).next)
-      (begin_only n (database_at p).next numbers p.layout) (begin_answered (database_at p) (has.none n idle))
+      (begin_only n (database_at p).next numbers p.layout) (answered (database_at p) (request_entry n 0 requests.Begin) None (has.none n idle))
       (steps.Begin (subst (λ (next : ℕ). next < numbers_of p.layout) (sym has.next) (subst (λ (layout : DiskLayout). parts.transactions.tx.next < numbers_of layout) (sym shown.layout) some)))
 
 -- ---- by what the calls ensure

@@ -50,15 +50,8 @@ use Rattle.session_parts.specs.UndoneLaws.{StepsSo}
 use Rattle.session_parts.specs.FrontLaws.{IsEnding}
 use Rattle.std.specs.FinMap as finite
 use Rattle.block_model.specs.DatabaseState.{DatabaseState, OpenTransaction}
+use Rattle.session_transactions.proofs.Frames.{LeavesParts, set_here}
 use Rattle.session_transactions.proofs.AtOnce.{IsOnly, Restates, does_so, heaps_follow}
-
--- ---- the session has none then, and the others theirs
-
-none_here : (opens : List (Option Open)) (n : ℕ) (o : Open) → transaction_of opens n ≡ Some o → transaction_of (set opens n None) n ≡ None
-none_here [] zero o is = absurd (none-some o is)
-none_here [] (suc n) o is = absurd (none-some o is)
-none_here (p ∷ opens) zero o is = refl
-none_here (p ∷ opens) (suc n) o is = none_here opens n o is
 
 -- ---- commit and rollback are one request each
 
@@ -123,7 +116,7 @@ module _ {D : Type 0} (told : D → Told) (laws : TransactionLaws) (old : Parts 
       (in_none : (table : ℕ) → table_in old.pages.layout (Some hand) ≡ Some table → ⊥) (e : Entry) (answer : Answer) (reply : Reply) (own : Open) (opened : transaction_of old.transactions.opens n ≡ Some own) (end : Status)
       (so : EndsSo told old pages tx n hand e answer reply own end) (longer : mid.entries ≡ old.journal.entries ++ e ∷ []) where
     none_now : transaction_of tx.opens n ≡ None
-    none_now = ap (λ (t : TransactionsState). transaction_of t.opens n) ended_is ∙ none_here old.transactions.opens n own opened
+    none_now = ap (λ (t : TransactionsState). transaction_of t.opens n) ended_is ∙ set_here old.transactions.opens n own None opened
 
     abbrev restates : Tells told old.pages → (s : DatabaseState) (shows : ShowsDatabase old.pages.layout old.pages.pages old.transactions s) → Restates old new n shows.stored
     restates tells s shows = record {

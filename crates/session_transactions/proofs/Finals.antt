@@ -21,6 +21,7 @@ use Rattle.snapshot_core.specs.StoredVersions.{transaction_of}
 use Rattle.store_layout.specs.declared.limits.TheConstants.{MAX_ENTRIES}
 use Rattle.store_layout.specs.StatementRequests.{request_entry}
 use Rattle.transactions.specs.TransactionsState.{OfOpen, TransactionsState, with_failed}
+use Rattle.session_parts.specs.declared.hand.Hand.{Hand}
 use Rattle.session_parts.specs.declared.hand.Hand.TheVariants as hands
 use Rattle.session_parts.specs.declared.hand.Hit.{Hit}
 use Rattle.session_parts.specs.declared.hand.Marking.{Marking}
@@ -28,23 +29,17 @@ use Rattle.session_parts.specs.declared.hand.Stepped.{Stepped}
 use Rattle.session_parts.specs.declared.hand.Stepped.TheVariants as stepped
 use Rattle.session_parts.specs.declared.parts.Parts.{Parts}
 use Rattle.session_parts.specs.JournalState.{JournalState}
+use Rattle.session_parts.specs.HandFits.{FitsHand, locks_held}
 use Rattle.session_parts.specs.Shares.{look_share, open_share, share_of}
 use Rattle.session_parts.specs.Stepping.{IsFit}
 use Rattle.session_parts.specs.UndoneLaws.{FitsParts, StepsSo}
 use Rattle.session_parts.proofs.Undone.{fit_of_parts}
 use Rattle.session_transactions.specs.HitConflicts.{HitConflicts}
 use Rattle.session_transactions.specs.Looks.{look_entries, stepped_behind}
-use Rattle.session_transactions.proofs.Frames.{conflict_promised, made_so, mark_promised, marking_fits, over_marked}
+use Rattle.session_transactions.proofs.Frames.{LeavesParts, conflict_promised, made_so, mark_promised, marking_fits, over_marked, set_here}
 use Rattle.session_transactions.proofs.Making.{MarkLaws, moves, replies_so}
 use Rattle.session_transactions.proofs.Refusing.{ConflictLaws, meets_conflict}
 use Rattle.session_transactions.proofs.Standing.{under_way}
-
--- the session has the failed one later
-failed_here : (opens : List (Option Open)) (n : ℕ) (o p : Open) → transaction_of opens n ≡ Some o → transaction_of (set opens n (Some p)) n ≡ Some p
-failed_here [] zero o p is = absurd (none-some o is)
-failed_here [] (suc n) o p is = absurd (none-some o is)
-failed_here (x ∷ opens) zero o p is = refl
-failed_here (x ∷ opens) (suc n) o p is = failed_here opens n o p is
 
 module _ {D : Type 0} (told : D → Told) (old : Parts D) (n : ℕ) (marking : Marking) (hit : Hit) (fits : IsFit told old n (hands.Marks marking)) (ready : old.pages.failed ≡ None)
     (next : slice_get marking.hits.items marking.next ≡ Some hit) where
@@ -84,7 +79,7 @@ module _ {D : Type 0} (told : D → Told) (old : Parts D) (n : ℕ) (marking : M
       entries = room;
       promised = (λ i. j.promised + share_of (Some (hands.Marks marking)) (own.1 i))
           ∙ conflict_promised marking own.0 j.promised entered.promised looked.promised old.journal.promised unneeded own.2 left released mark_promised_ look_promised
-          ∙ (λ i. old.journal.promised + share_of None (sym (failed_here old.transactions.opens n own.0 (failed_open own.0) own.1) i));
+          ∙ (λ i. old.journal.promised + share_of None (sym (set_here old.transactions.opens n own.0 (Some (failed_open own.0)) own.1) i));
       opens = λ m apart. get_or-set_other old.transactions.opens n m (Some (failed_open own.0)) None apart;
     }) (stepped.Done (replies.Refused (refusals.Conflict hit.id))) refl
         (meets_conflict told laws old j n marking hit own.0 was.in_hand.1 own.1 own.2 next conflict_here entries_then room) (λ names hands_ is. tt) (ready, ready)
@@ -121,48 +116,41 @@ module _ {D : Type 0} (told : D → Told) (old : Parts D) (n : ℕ) (marking : M
     abbrev later : Marking
     later = record { query = marking.query; look = None; hits = marking.hits; next = marking.next + 1 }
 
+    left_so : (after : Option Hand) → FitsHand pages.layout (transaction_of old.transactions.opens n) after → locks_held after ≡ 0
+        → j.promised + share_of (Some (hands.Marks marking)) (Some own.0) ≡ old.journal.promised + share_of after (Some own.0) → LeavesParts told old pages old.transactions j n (hands.Marks marking) after
+    left_so after in_hand held promised = record {
+      fits = fits;
+      ready = ready;
+      still = still;
+      leaves = others.leaves;
+      over = over_marked told old.transactions.tx marking.query.table old.pages pages was.over others;
+      in_hand = in_hand;
+      held = held;
+      right = refl;
+      entries = room;
+      promised = subst (λ (x : Option Open). j.promised + share_of (Some (hands.Marks marking)) x ≡ old.journal.promised + share_of after x) (sym own.1) promised;
+      opens = λ m apart. refl;
+    }
+
     goes_on_so : (h : Hit) (hs : List Hit) → drop (suc marking.next) marking.hits.items ≡ h ∷ hs → StepsSo told old now n (hands.Marks marking) (stepped.Moved points.Mark (hands.Marks later))
     goes_on_so h hs more =
         let one_less : length (drop marking.next marking.hits.items) ≡ length (drop (marking.next + 1) marking.hits.items) + 1 =
         omega (arith, length-drop marking.next marking.hits.items, length-drop (marking.next + 1) marking.hits.items, was.in_hand.1.left) in
         let left : marking.next + 1 < length marking.hits.items = omega (arith, ap length more, length-drop (suc marking.next) marking.hits.items) in
-        made_so told old pages old.transactions j n (hands.Marks marking) (Some (hands.Marks later)) (record {
-          fits = fits;
-          ready = ready;
-          still = still;
-          leaves = others.leaves;
-          over = over_marked told old.transactions.tx marking.query.table old.pages pages was.over others;
-          in_hand = marking_fits old.pages.layout pages.layout (transaction_of old.transactions.opens n) marking others.leaves.layout was.in_hand left;
-          held = refl;
-          right = refl;
-          entries = room;
-          promised = (λ i. j.promised + share_of (Some (hands.Marks marking)) (own.1 i))
-              ∙ mark_promised marking own.0 (length (drop (marking.next + 1) marking.hits.items)) j.promised looked.promised old.journal.promised own.2 one_less mark_promised_ look_promised
-              ∙ (λ i. old.journal.promised + share_of (Some (hands.Marks later)) (sym own.1 i));
-          opens = λ m apart. refl;
-        }) (stepped.Moved points.Mark (hands.Marks later)) refl (moves told laws old pages j n marking hit own.0 was.in_hand.1 own.1 own.2 next free_here marks_own slots_own others entries_now room h hs more)
-            (λ names hands_ is. refl) (ready, still)
+        made_so told old pages old.transactions j n (hands.Marks marking) (Some (hands.Marks later))
+        (left_so (Some (hands.Marks later)) (marking_fits old.pages.layout pages.layout (transaction_of old.transactions.opens n) marking others.leaves.layout was.in_hand left) refl
+        (mark_promised marking own.0 (length (drop (marking.next + 1) marking.hits.items)) j.promised looked.promised old.journal.promised own.2 one_less mark_promised_ look_promised))
+        (stepped.Moved points.Mark (hands.Marks later)) refl (moves told laws old pages j n marking hit own.0 was.in_hand.1 own.1 own.2 next free_here marks_own slots_own others entries_now room h hs more)
+        (λ names hands_ is. refl) (ready, still)
 
     ends_so : drop (suc marking.next) marking.hits.items ≡ [] → StepsSo told old now n (hands.Marks marking) (stepped.Done (replies.Deleted (marking.next + 1)))
     ends_so none =
         let last : length (drop marking.next marking.hits.items) ≡ 0 + 1 =
         omega (arith, length-drop marking.next marking.hits.items, length-drop (suc marking.next) marking.hits.items, ap length none, was.in_hand.1.left) in
-        made_so told old pages old.transactions j n (hands.Marks marking) None (record {
-          fits = fits;
-          ready = ready;
-          still = still;
-          leaves = others.leaves;
-          over = over_marked told old.transactions.tx marking.query.table old.pages pages was.over others;
-          in_hand = tt;
-          held = refl;
-          right = refl;
-          entries = room;
-          promised = (λ i. j.promised + share_of (Some (hands.Marks marking)) (own.1 i))
-              ∙ mark_promised marking own.0 0 j.promised looked.promised old.journal.promised own.2 last mark_promised_ look_promised
-              ∙ (λ i. old.journal.promised + (0 + open_share (sym own.1 i)));
-          opens = λ m apart. refl;
-        }) (stepped.Done (replies.Deleted (marking.next + 1))) refl (replies_so told laws old pages j n marking hit own.0 was.in_hand.1 own.1 own.2 next free_here marks_own slots_own others entries_now room none)
-            (λ names hands_ is. tt) (ready, still)
+        made_so told old pages old.transactions j n (hands.Marks marking) None
+        (left_so None tt refl (mark_promised marking own.0 0 j.promised looked.promised old.journal.promised own.2 last mark_promised_ look_promised))
+        (stepped.Done (replies.Deleted (marking.next + 1))) refl (replies_so told laws old pages j n marking hit own.0 was.in_hand.1 own.1 own.2 next free_here marks_own slots_own others entries_now room none)
+        (λ names hands_ is. tt) (ready, still)
 
     -- by whether one is left
     by_left : (rest : List Hit) → drop (suc marking.next) marking.hits.items ≡ rest → (last : Bool) → (marking.next + 1 == length marking.hits.items) ≡ last

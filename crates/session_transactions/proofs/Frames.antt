@@ -1,5 +1,5 @@
 -- What a mark leaves of the parts of a store, on any disk.
-use Rattle.std.proofs.Common.{◌≡◌, ◌≢◌, ℕ, ◌+◌, ◌<◌, ◌≤◌, Bool, false, List, drop, length, length-drop, Option, None, Some, refl, sym, ap, ◌∙◌, subst, arith}
+use Rattle.std.proofs.Common.{◌≡◌, ◌≢◌, ℕ, zero, suc, ◌+◌, ◌<◌, ◌≤◌, Bool, false, List, [], ◌∷◌, drop, set, length, length-drop, Option, None, Some, refl, sym, ap, ◌∙◌, subst, arith}
 use Rattle.std.specs.Prelude.{if◌then◌else◌}
 use Rattle.std.proofs.lemmas.Option.{none-some}
 use Rattle.disk_trait.specs.Told.{Told}
@@ -85,6 +85,13 @@ module _ {D : Type 0} (told : D → Told) (old : Parts D) (pages : View D) (tx :
     stays = stays;
     cause = cause;
   }
+
+-- the session has that one later
+pub set_here : (opens : List (Option Open)) (n : ℕ) (o : Open) (x : Option Open) → transaction_of opens n ≡ Some o → transaction_of (set opens n x) n ≡ x
+set_here [] zero o x is = absurd (none-some o is)
+set_here [] (suc n) o x is = absurd (none-some o is)
+set_here (p ∷ opens) zero o x is = refl
+set_here (p ∷ opens) (suc n) o x is = set_here opens n o x is
 
 -- ---- what is promised
 

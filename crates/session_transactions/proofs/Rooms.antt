@@ -43,6 +43,10 @@ module _ {D : Type 0} (parts : Parts D) (n : ℕ) (hand : Hand) (full : MAX_ENTR
     past = past e;
   }
 
+-- what a request is answered, by the session's transaction
+pub answered : (s : DatabaseState) (e : Entry) (o : Option OpenTransaction) → finite.get s.sessions e.session ≡ o → reply_to s e ≡ (effect_at o s e).1
+answered s e o got = ap (λ (r : DatabaseState × Answer). r.1) (effect_is s e ∙ ap (λ (o : Option OpenTransaction). effect_at o s e) got)
+
 -- ---- a commit, and a rollback
 
 commit_answer : (failed : Bool) → (if failed then RolledBack else Committed) ≡ (if not failed then Committed else RolledBack)
@@ -50,23 +54,16 @@ commit_answer true = refl
 commit_answer false = refl
 
 module _ {D : Type 0} (sessions : SessionsAreShown) (parts : Parts D) (n : ℕ) (full : MAX_ENTRIES ≤ length parts.journal.entries) where
-  commit_answered : (s : DatabaseState) (x : OpenTransaction) → finite.get s.sessions n ≡ Some x → reply_to s (request_entry n 0 requests.Commit) ≡ (if not x.failed then Committed else RolledBack)
-  commit_answered s x got = ap (λ (r : DatabaseState × Answer). r.1) (effect_is s (request_entry n 0 requests.Commit) ∙ ap (λ (o : Option OpenTransaction). effect_at o s (request_entry n 0 requests.Commit)) got)
-      ∙ commit_answer x.failed
-
   pub no_commit : IsSome (transaction_of parts.transactions.opens n) → (names : List (List ℕ)) (hands_ : List (Option Hand)) (p : Place) → hand_in hands_ n ≡ Some hands.Commits → ShowsPlace (store_of parts names hands_) p → LacksRoom p n
   no_commit is_open names hands_ p is shown =
       let own = some_open (transaction_of parts.transactions.opens n) is_open in
       let found = (sessions parts.pages.layout parts.pages.pages parts.transactions (database_at p) shown.database).shown n own.0 own.1 in
       lacks parts n hands.Commits full names hands_ p is shown (request_entry n 0 requests.Commit) _ _ (commit_only n (not found.0.failed) p.layout)
-      (commit_answered (database_at p) found.0 found.1) steps.Commit
-
-  rollback_answered : (s : DatabaseState) (x : OpenTransaction) → finite.get s.sessions n ≡ Some x → reply_to s (request_entry n 0 requests.Rollback) ≡ RolledBack
-  rollback_answered s x got = ap (λ (r : DatabaseState × Answer). r.1) (effect_is s (request_entry n 0 requests.Rollback) ∙ ap (λ (o : Option OpenTransaction). effect_at o s (request_entry n 0 requests.Rollback)) got)
+      (answered (database_at p) (request_entry n 0 requests.Commit) (Some found.0) found.1 ∙ commit_answer found.0.failed) steps.Commit
 
   pub no_rollback : IsSome (transaction_of parts.transactions.opens n) → (names : List (List ℕ)) (hands_ : List (Option Hand)) (p : Place) → hand_in hands_ n ≡ Some hands.RollsBack → ShowsPlace (store_of parts names hands_) p → LacksRoom p n
   no_rollback is_open names hands_ p is shown =
       let own = some_open (transaction_of parts.transactions.opens n) is_open in
       let found = (sessions parts.pages.layout parts.pages.pages parts.transactions (database_at p) shown.database).shown n own.0 own.1 in
       lacks parts n hands.RollsBack full names hands_ p is shown (request_entry n 0 requests.Rollback) RolledBack replies.RolledBack (rollback_only n p.layout)
-      (rollback_answered (database_at p) found.0 found.1) steps.Rollback
+      (answered (database_at p) (request_entry n 0 requests.Rollback) (Some found.0) found.1) steps.Rollback
