@@ -48,6 +48,10 @@ use Rattle.session_scans.proofs.Standing.{LooksThere, scans_at}
 use Rattle.session_scans.proofs.Steps.{DidScan, NotDamaged, moved_so, there, undone_so}
 use Rattle.session_scans.proofs.Words.{hand_is, promised_is, scan_is, scan_share}
 
+-- the damage that a step may tell
+abbrev pub IsDamagedThere : {D : Type 0} → (D → Told) → Parts D → FindHand → Type 0
+IsDamagedThere told parts scan = Tells told parts.pages → IsDamagedAt parts.pages.layout parts.pages.pages scan.judging.indexes scan.judging.stage
+
 -- ---- what a step is done or refused by, whatever is next
 
 module _ {D : Type 0} (told : D → Told) (Cause : Type 0) (old new : View D) where
@@ -144,7 +148,7 @@ module _ {D : Type 0} (told : D → Told) (laws : LookLaws) (parts : Parts D) (n
 
       -- the pages refuse it
       pub refused_by_pages : NotDamaged → IsHand scan.judging → (error : StoreError) → fault ≡ fault_of error
-          → Refused told (Tells told parts.pages → IsDamagedAt parts.pages.layout parts.pages.pages scan.judging.indexes scan.judging.stage) parts.pages pages error → NamesAPage parts.pages.layout error
+          → Refused told (IsDamagedThere told parts scan) parts.pages pages error → NamesAPage parts.pages.layout error
           → ScanStepsSo told parts (parts_before scan.judging.stage mid) n looking scan (stepped.Undone fault was)
       refused_by_pages law known error is refused names =
           let its : (o : Open) × (transaction_of parts.transactions.opens n ≡ Some o) = its_open told laws old n looking scan may.fit may.find may.fresh ready in

@@ -40,9 +40,7 @@ use Rattle.session_scans.proofs.Words.{first_in_none, looks}
 -- a scan is before its first step, or has begun
 pub begun_or_not : (stage : Stage) → (stage ≡ stages.Extent) ⊎ (stage ≢ stages.Extent)
 begun_or_not stages.Extent = inl refl
-begun_or_not (stages.Map at range) = inr (λ is. cc)
-begun_or_not (stages.Tuple at range spot) = inr (λ is. cc)
-begun_or_not stages.Judged = inr (λ is. cc)
+begun_or_not stage = inr (λ is. cc)
 
 abbrev pub refused_entry : ℕ → Query → Entry
 refused_entry n query = tagged_entry n query.table (requests.Look query) tags.NoMemory

@@ -188,9 +188,7 @@ module _ (laws : LookLaws) (s : ShownStore) (n : ℕ) (looking : Looking) (befor
   at_stage : (stage : Stage) → before.judging.stage ≡ stage → IsTaskOf s.layout table shows.blocks s.transactions.tx stored (Some o) (Some (hand_before looking before stage)) (shows.unseen.task n)
       → ScansAt s.layout pages_show shows.unseen n shows.blocks sight (deletes_of looking) before
   at_stage stages.Extent is at = first_scan (at_rest s.layout shows.blocks s stored o before (shows.unseen.task n) looking at) (there.fresh is) is
-  at_stage (stages.Map i range) is at = later_scan (in_scan s.layout shows.blocks s stored o before (shows.unseen.task n) looking at) (begun_at (stages.Map i range) is (λ sees judged. tt))
-  at_stage (stages.Tuple i range spot) is at = later_scan (in_scan s.layout shows.blocks s stored o before (shows.unseen.task n) looking at) (begun_at (stages.Tuple i range spot) is (λ sees judged. tt))
-  at_stage stages.Judged is at = later_scan (in_scan s.layout shows.blocks s stored o before (shows.unseen.task n) looking at) (begun_at stages.Judged is (λ sees judged. tt))
+  at_stage stage is at = later_scan (in_scan s.layout shows.blocks s stored o before (shows.unseen.task n) looking at) (begun_at stage is (λ sees judged. tt))
 
   pub scans_at : ScansAt s.layout pages_show shows.unseen n shows.blocks sight (deletes_of looking) before
   scans_at = at_stage before.judging.stage refl

@@ -27,7 +27,7 @@ use Rattle.snapshot_core.specs.declared.sessions.Open.{Open}
 use Rattle.snapshot_core.specs.SessionChanges.{failed_open}
 use Rattle.snapshot_core.specs.StoredVersions.{transaction_of}
 use Rattle.tx_table.specs.TxState.{IsOver}
-use Rattle.transactions.specs.TransactionsState.{with_failed}
+use Rattle.transactions.specs.TransactionsState.{TransactionsState, with_failed}
 use Rattle.coverage.specs.Machines.{Unseen, table_state}
 use Rattle.coverage.specs.TableCovered.{IsTableKept}
 use Rattle.bitmap_scan.specs.declared.stage.Stage.{Stage}
@@ -71,7 +71,7 @@ use Rattle.session_scans.proofs.GoesOn.{scan_goes_on}
 use Rattle.session_scans.proofs.Stepped.{MakesStep}
 use Rattle.session_scans.proofs.Led.{ScanLeft}
 use Rattle.session_scans.proofs.Refusals.{lacks_room, refused_entry}
-use Rattle.session_scans.proofs.Refused.{RefusedLeft, scan_refused}
+use Rattle.session_scans.proofs.Refused.{scan_refused}
 use Rattle.session_scans.proofs.Standing.{LooksThere, kept, scans_at, shows, sight}
 use Rattle.session_scans.proofs.Stands.{IsThere, all_stand}
 use Rattle.session_scans.proofs.Tells.{scan_tells}
@@ -134,11 +134,21 @@ module _ {D : Type 0} (told : D → Told) (laws : LookLaws) (old : Parts D) (pag
     pub there : LooksThere store n looking before o
     there = record { was = is; find = find; opened = opened; whole = whole; fresh = fresh }
 
-    others : (j : JournalState) (h : Option Hand) → LeavesOthers n store (store_then j h)
-    others j h = record { layout = keeps.leaves.layout; names = refl; first = refl; hands = (hand_changes hands_ n was h is).others; opens = λ m apart. refl }
+    -- with this as its transactions
+    pub left_with : Tells told old.pages → (tx : TransactionsState) → tx.tx.first ≡ old.transactions.tx.first → ((m : ℕ) → m ≢ n → transaction_of tx.opens m ≡ transaction_of old.transactions.opens m)
+        → (j : JournalState) (h : Option Hand) → ScanLeft store (shown_of (store_of (record old { pages = pages; transactions = tx; journal = j }) names (with_hand hands_ n h))) n tx
+    left_with tells tx first opens j h = record {
+      others = record { layout = keeps.leaves.layout; names = refl; first = first; hands = (hand_changes hands_ n was h is).others; opens = opens };
+      pages = keeps.pages tells;
+      transactions = refl;
+      locks = refl;
+      rights = refl;
+      queue = refl;
+      dropped = refl;
+    }
 
-    pub left : Tells told old.pages → (j : JournalState) (h : Option Hand) → ScanLeft store (store_then j h) n
-    left tells j h = record { others = others j h; pages = keeps.pages tells; transactions = refl; locks = refl; rights = refl; queue = refl; dropped = refl }
+    pub left : Tells told old.pages → (j : JournalState) (h : Option Hand) → ScanLeft store (store_then j h) n old.transactions
+    left tells j h = left_with tells old.transactions refl (λ m apart. refl) j h
 
     module _ (tells : Tells told old.pages) (p : Place) (shown : IsPlaceOf store p) (after : FindHand) (answer : Did) (made : DidScan told old pages o before after answer) where
       pub steps_there : MakesStep laws store n looking before after o there p shown answer
@@ -235,27 +245,6 @@ module _ {D : Type 0} (told : D → Told) (laws : LookLaws) (old : Parts D) (pag
     abbrev failed : Parts D
     failed = record old { pages = pages; transactions = with_failed old.transactions n o; journal = j }
 
-    module _ (names : List (List ℕ)) (hands_ : List (Option Hand)) (is : hand_in hands_ n ≡ Some was) (tells : Tells told old.pages) where
-      refused_left : RefusedLeft (store names hands_ is) (shown_of (store_of failed names (with_hand hands_ n None))) n o query
-      refused_left = record {
-        others = record {
-          layout = keeps.leaves.layout;
-          names = refl;
-          first = refl;
-          hands = (hand_changes hands_ n was None is).others;
-          opens = λ m apart. failed_apart old.transactions.opens n m o apart;
-        };
-        pages = keeps.pages tells;
-        transactions = refl;
-        locks = refl;
-        rights = refl;
-        queue = refl;
-        dropped = refl;
-        entries = short;
-        none = (hand_changes hands_ n was None is).own;
-        fits = short_fits;
-      }
-
     pub refused_so : StepsSo told old failed n was (stepped.Done (replies.Refused refusals.Memory))
     refused_so = made_so told old pages (with_failed old.transactions n o) j n was None (record {
       fits = fit;
@@ -270,7 +259,8 @@ module _ {D : Type 0} (told : D → Told) (laws : LookLaws) (old : Parts D) (pag
       opens = λ m apart. failed_apart old.transactions.opens n m o apart;
     }) (stepped.Done (replies.Refused refusals.Memory)) refl
         (λ names hands_ is tells first last p shown.
-        scan_refused laws (store names hands_ is) (shown_of (store_of failed names (with_hand hands_ n None))) n looking before o (there names hands_ is) p shown (refused_left names hands_ is tells))
+        scan_refused laws (store names hands_ is) (shown_of (store_of failed names (with_hand hands_ n None))) n looking before o (there names hands_ is) p shown
+        (left_with names hands_ is tells (with_failed old.transactions n o) refl (λ m apart. failed_apart old.transactions.opens n m o apart) j None) short (hand_changes hands_ n was None is).own short_fits)
         (λ names hands_ is. tt) (ready, still)
 
   -- ---- the journal lacks room
@@ -295,9 +285,8 @@ module _ {D : Type 0} (told : D → Told) (laws : LookLaws) (old : Parts D) (pag
 
   refused_by : NotDamaged → IsShown told old n was → IsHand before.judging → (error : StoreError)
       → Refused told (Tells told old.pages → IsDamagedAt old.pages.layout old.pages.pages before.judging.indexes before.judging.stage) old.pages pages error → Refused told (Untold told old.pages) old.pages pages error
-  refused_by law shown known errors.Disk refused = refused
-  refused_by law shown known (errors.Reopen faults) refused = refused
   refused_by law shown known (errors.Damaged at) refused = (refused.0, refused.1, refused.2, undamaged law shown known refused.0 refused.3)
+  refused_by law shown known error refused = refused
 
   pub undone_so : NotDamaged → IsShown told old n was → IsHand before.judging → (error : StoreError)
       → Refused told (Tells told old.pages → IsDamagedAt old.pages.layout old.pages.pages before.judging.indexes before.judging.stage) old.pages pages error → NamesAPage old.pages.layout error

@@ -45,16 +45,12 @@ use Rattle.session_scans.proofs.Words.{looks}
 -- a step of a scan doesn't prune
 pub reads : (stage : Stage) → point_at stage ≢ points.Prune
 reads stages.Extent is = cc
-reads (stages.Map at range) is = cc
-reads (stages.Tuple at range spot) is = cc
-reads stages.Judged is = cc
+reads stage is = cc
 
 -- where the account is empty, it stays so
 pub tells_nothing : (stage : Stage) (account : Account) → account ≡ no_account → account_at stage account ≡ no_account
 tells_nothing stages.Extent account is = refl
-tells_nothing (stages.Map at range) account is = is
-tells_nothing (stages.Tuple at range spot) account is = is
-tells_nothing stages.Judged account is = is
+tells_nothing stage account is = is
 
 -- a select or a delete begins with its scan
 begins_with : (looking : Looking) (query : Query) (p : Place) (n : ℕ) (v : TableState) (task : Task) (scan : TableScan) → IsScanOfQuery p n v query false (deletes_of looking) scan → task ≡ Scans scan

@@ -33,15 +33,11 @@ use Rattle.session_scans.specs.ScanSteps.{promised_before}
 
 pub hand_later : (looking : Looking) (scan : FindHand) (stage : Stage) → stage ≢ stages.Extent → hand_before looking scan stage ≡ scan_hand_of looking scan
 hand_later looking scan stages.Extent begun = absurd (begun refl)
-hand_later looking scan (stages.Map at range) begun = refl
-hand_later looking scan (stages.Tuple at range spot) begun = refl
-hand_later looking scan stages.Judged begun = refl
+hand_later looking scan stage begun = refl
 
 pub promised_later : (stage : Stage) (promised : ℕ) → stage ≢ stages.Extent → promised_before stage promised ≡ promised
 promised_later stages.Extent promised begun = absurd (begun refl)
-promised_later (stages.Map at range) promised begun = refl
-promised_later (stages.Tuple at range spot) promised begun = refl
-promised_later stages.Judged promised begun = refl
+promised_later stage promised begun = refl
 
 -- ---- the statement
 
@@ -109,15 +105,11 @@ scan_is lookings.Delete scan = record {
 
 pub hand_is : (looking : Looking) (scan : FindHand) (stage : Stage) → IsHandOf looking scan.judging.query (scan_share stage) (hand_before looking scan stage)
 hand_is looking scan stages.Extent = first_is looking scan.judging.query
-hand_is looking scan (stages.Map at range) = scan_is looking scan
-hand_is looking scan (stages.Tuple at range spot) = scan_is looking scan
-hand_is looking scan stages.Judged = scan_is looking scan
+hand_is looking scan stage = scan_is looking scan
 
 pub promised_is : (stage : Stage) (promised : ℕ) → 0 < promised → promised_before stage promised + 1 ≡ promised + scan_share stage
 promised_is stages.Extent promised some = omega (arith, some)
-promised_is (stages.Map at range) promised some = refl
-promised_is (stages.Tuple at range spot) promised some = refl
-promised_is stages.Judged promised some = refl
+promised_is stage promised some = refl
 
 module _ (layout : DiskLayout) (own : Option Open) where
   pub fits_first : (looking : Looking) (query : Query) → FitsLook layout own query → IsHandFor layout own (first_hand_of looking query)
