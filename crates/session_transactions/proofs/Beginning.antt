@@ -52,7 +52,8 @@ use Rattle.session_parts.proofs.Fronts.{fronts_same}
 use Rattle.session_parts.proofs.Requests.{begin_is_legal}
 use Rattle.session_parts.proofs.Steps.{lacks_number as no_number}
 use Rattle.session_parts.proofs.Undone.{fit_of_parts}
-use Rattle.session_transactions.proofs.AtOnce.{IsOnly, Restates, StaysBeside, does_so, heaps_follow, shown_then}
+use Rattle.session_parts.proofs.Leads.{begin_sees_alike, more_counts_few, next_has_no_rows}
+use Rattle.session_transactions.proofs.AtOnce.{IsOnly, Restates, StaysBeside, does_so, heaps_follow, shown_parts, shown_then}
 use Rattle.session_transactions.proofs.Frames.{LeavesParts, made_so}
 use Rattle.session_transactions.proofs.Rooms.{answered, lacks}
 
@@ -60,14 +61,6 @@ use Rattle.session_transactions.proofs.Rooms.{answered, lacks}
 
 pub begin_only : (n t : ℕ) (numbers : Vec ℕ) (layout : DiskLayout) → IsOnly n (hands.Begins numbers) (request_entry n 0 requests.Begin) (Begun t) (replies.Begun t) layout
 begin_only n t numbers layout = record { own = refl; none_answered = λ answers none. none; next = refl; last = refl; replied = refl }
-
--- a begin adds one number
-one_more : (b : Bool) (u t : ℕ) → IsTrue (b || (u == t)) → IsTrue b ⊎ (u ≡ t)
-one_more true u t h = inl refl
-one_more false u t h = elim (u == t) as (λ (c : Bool). (u == t) ≡ c → IsTrue c → IsTrue false ⊎ (u ≡ t)) [
-  | true ↦ λ is _. inr (eqb-true u t is)
-  | false ↦ λ _ none. absurd (true≢false (sym none))
-] refl h
 
 -- the laws that it takes
 pub record BeginLaws : Type 0 where
@@ -121,20 +114,11 @@ module _ {D : Type 0} (told : D → Told) (laws : BeginLaws) (old : Parts D) (n 
     restates tells s shows = record {
       later = set shows.stored old.transactions.tx.next status.Begun;
       has = statuses tells shows.stored shows.has;
-      alike = λ m p apart theirs_is. record {
-        snapshot = refl;
-        own = refl;
-        ended = λ u had. ap (λ (first : ℕ). is_committed (stands_by first (set shows.stored old.transactions.tx.next status.Begun) u)) first_same
-            ∙ laws.unseen old.pages.layout old.pages.pages old.transactions s shows.stored u shows shows.has some;
-      };
-      few = λ u counts. elim (one_more (counts_of old.transactions shows.stored u) u old.transactions.tx.next
-          (subst (λ (b : Bool). IsTrue b) (laws.counts old.pages.layout old.pages.pages old.transactions s shows.stored n u shows shows.has was.session idle some)
-          (subst (λ (t : TransactionsState). IsTrue (counts_of t (set shows.stored old.transactions.tx.next status.Begun) u)) begins counts))) [
-            | inl counted ↦ inl counted
-            | inr is ↦ inr (λ table spot row below stands same.
-                let put : row.id.t < old.transactions.tx.next = (laws.rows old.pages.layout old.pages.pages old.transactions s shows.stored table spot row shows shows.has below stands).put in
-                omega (arith, put, same, is))
-          ];
+      alike = begin_sees_alike laws.unseen (shown_parts old) (shown_parts (record old { pages = pages; transactions = tx; journal = j })) s shows.stored n shows shows.has some first_same;
+      few = more_counts_few (shown_parts old) (shown_parts (record old { pages = pages; transactions = tx; journal = j })) shows.stored (set shows.stored old.transactions.tx.next status.Begun) old.transactions.tx.next
+          (next_has_no_rows laws.rows (shown_parts old) s shows.stored shows shows.has)
+          (λ u. ap (λ (t : TransactionsState). counts_of t (set shows.stored old.transactions.tx.next status.Begun) u) begins
+          ∙ laws.counts old.pages.layout old.pages.pages old.transactions s shows.stored n u shows shows.has was.session idle some);
     }
 
     pub begun : StepsSo told old (record old { pages = pages; transactions = tx; journal = j }) n (hands.Begins numbers) (stepped.Done (replies.Begun t))

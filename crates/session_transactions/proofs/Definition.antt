@@ -19,7 +19,7 @@ use Rattle.coverage.specs.Table.{Marks, Resting, TableScan, TableState}
 use Rattle.coverage.specs.TableSteps.{OnlyTurns}
 use Rattle.script_semantics.specs.Place.{Hand as HandAt, Place, database_at}
 use Rattle.script_semantics.specs.Requests.{Course}
-use Rattle.script_semantics.specs.StatementSteps.{Ended, LacksRoom, Moved, StepsTo, course_of}
+use Rattle.script_semantics.specs.StatementSteps.{Ended, LacksRoom, Moved, Outcome, StepsTo, course_of}
 use Rattle.session_parts.specs.PlacesAfter.{TurnsIn, place_after, refusal_in}
 use Rattle.session_parts.specs.RefusalLaws.{refused_in}
 use Rattle.session_parts.proofs.Refusals.{mark_is_refused}
@@ -118,37 +118,31 @@ module _ (p : Place) (n : ℕ) (query : Query) (answers : List Answer) (first : 
     turn : IsMarkTurn p n query v
     turn = mark_turns p n query (p.tables query.table) stands.scan stands.row.id (map (λ (r : Row). r.id) stands.more) stands.at same_table (λ m. refl)
 
+    lacks : (outcome : Outcome) (further : Place) → StepsTo p n at outcome further → further.journal ≡ p.journal ++ entries_of first n query stands.row → LacksRoom p n
+    lacks outcome further steps is = record {
+      hand = at;
+      in_hand = stands.in_hand;
+      outcome = outcome;
+      further = further;
+      steps = steps;
+      past = subst (λ (l : List Entry). MAX_ENTRIES < length l) (sym is) past;
+    }
+
     lacks_for_mark : (after : DatabaseState) → effect (database_at p) (mark_entry n query.table stands.row) ≡ (after, Marked) → (more : List Row) → stands.more ≡ more → LacksRoom p n
-    lacks_for_mark after does [] is = record {
-      hand = at;
-      in_hand = stands.in_hand;
-      outcome = Ended (replies.Deleted (suc k));
-      further = place_after p n query.table None v (p.accounts n) (λ t. true) (course Marked after does).journal;
-      steps = ends after does v (λ t. true) is turn (task_then n (p.tables query.table) _ ∙ ap (λ (l : List Row). left_at stands.scan (map (λ (r : Row). r.id) l)) is);
-      past = subst (λ (l : List Entry). MAX_ENTRIES < length l) (sym (course_is Marked after does).journal) past;
-    }
-    lacks_for_mark after does (next ∷ rest) is = record {
-      hand = at;
-      in_hand = stands.in_hand;
-      outcome = Moved points.Mark;
-      further = place_after p n query.table (Some (record at { answers = (course Marked after does).answers })) v (p.accounts n) (λ t. true) (course Marked after does).journal;
-      steps = goes_on after does next rest v (λ t. true) is turn (λ rests.
-          let both : Marks stands.scan (next.id ∷ map (λ (r : Row). r.id) rest) ≡ Resting = sym (task_then n (p.tables query.table) _ ∙ ap (λ (l : List Row). left_at stands.scan (map (λ (r : Row). r.id) l)) is) ∙ rests in cc);
-      past = subst (λ (l : List Entry). MAX_ENTRIES < length l) (sym (course_is Marked after does).journal) past;
-    }
+    lacks_for_mark after does [] is = lacks (Ended (replies.Deleted (suc k))) (place_after p n query.table None v (p.accounts n) (λ t. true) (course Marked after does).journal)
+        (ends after does v (λ t. true) is turn (task_then n (p.tables query.table) _ ∙ ap (λ (l : List Row). left_at stands.scan (map (λ (r : Row). r.id) l)) is)) (course_is Marked after does).journal
+    lacks_for_mark after does (next ∷ rest) is =
+        lacks (Moved points.Mark) (place_after p n query.table (Some (record at { answers = (course Marked after does).answers })) v (p.accounts n) (λ t. true) (course Marked after does).journal)
+        (goes_on after does next rest v (λ t. true) is turn (λ rests.
+        let both : Marks stands.scan (next.id ∷ map (λ (r : Row). r.id) rest) ≡ Resting = sym (task_then n (p.tables query.table) _ ∙ ap (λ (l : List Row). left_at stands.scan (map (λ (r : Row). r.id) l)) is) ∙ rests in cc))
+        (course_is Marked after does).journal
 
     lacks_for_conflict : (after : DatabaseState) → effect (database_at p) (mark_entry n query.table stands.row) ≡ (after, Conflict stands.row.id) → LacksRoom p n
     lacks_for_conflict after does =
         let refused = mark_is_refused p n query.table 0 (statements.Delete query) (p.tables query.table) stands.scan stands.row.id (map (λ (r : Row). r.id) stands.more) (λ t. false) refl
         (λ is. cc) refl stands.at (record { failed = refl; fewer = λ u none. absurd (true≢false (sym none)) }) in
-        record {
-          hand = at;
-          in_hand = stands.in_hand;
-          outcome = Ended (replies.Refused (refusals.Conflict stands.row.id));
-          further = place_after p n query.table None (refused_in n (λ t. false) (p.tables query.table)) (p.accounts n) (λ t. true) (course (Conflict stands.row.id) after does).journal;
-          steps = conflicts after does (refused_in n (λ t. false) (p.tables query.table)) (λ t. true) refused.0 refused.1;
-          past = subst (λ (l : List Entry). MAX_ENTRIES < length l) (sym (course_is (Conflict stands.row.id) after does).journal) past;
-        }
+        lacks (Ended (replies.Refused (refusals.Conflict stands.row.id))) (place_after p n query.table None (refused_in n (λ t. false) (p.tables query.table)) (p.accounts n) (λ t. true) (course (Conflict stands.row.id) after does).journal)
+        (conflicts after does (refused_in n (λ t. false) (p.tables query.table)) (λ t. true) refused.0 refused.1) (course_is (Conflict stands.row.id) after does).journal
 
     pub lacks_room : LacksRoom p n
     lacks_room = by (is_conflict (database_at p) n stands.copy stands.row.id) (mark_effect (database_at p) n query.table stands.row stands.copy stands.got)

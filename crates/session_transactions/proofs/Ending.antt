@@ -51,7 +51,9 @@ use Rattle.session_parts.specs.FrontLaws.{IsEnding}
 use Rattle.std.specs.FinMap as finite
 use Rattle.block_model.specs.DatabaseState.{DatabaseState, OpenTransaction}
 use Rattle.session_transactions.proofs.Frames.{LeavesParts, set_here}
-use Rattle.session_transactions.proofs.AtOnce.{IsOnly, Restates, does_so, heaps_follow}
+use Rattle.session_transactions.proofs.AtOnce.{IsOnly, Restates, does_so, heaps_follow, shown_parts}
+use Rattle.session_parts.specs.Leaving.{CountsFew}
+use Rattle.session_parts.proofs.Leads.{end_sees_alike, fewer_counts_few, same_counts_few}
 
 -- ---- commit and rollback are one request each
 
@@ -83,16 +85,12 @@ status_is : (failed : Bool) → (if not failed then status.Committed else status
 status_is true = refl
 status_is false = refl
 
-both_true : (a b : Bool) → IsTrue (a && b) → IsTrue a
-both_true true b h = refl
-both_true false b h = h
-
 -- how a transaction ends: its status, and that no rows come to count by it
 pub record EndsSo {D : Type 0} (told : D → Told) (old : Parts D) (pages : View D) (tx : TransactionsState) (n : ℕ) (hand : Hand) (e : Entry) (answer : Answer) (reply : Reply) (own : Open) (end : Status) : Type 0 where
   pub ending : IsEnding e.request own.failed end
   pub statuses : OfStatuses told old.pages (λ stored. HasStatuses old.pages.layout pages.pages (set stored own.t end))
-  pub few : (s : DatabaseState) (stored : List Status) (u : ℕ) → ShowsDatabase old.pages.layout old.pages.pages old.transactions s → HasStatuses old.pages.layout old.pages.pages stored
-      → IsTrue (counts_of (with_open old.transactions n None) (set stored own.t end) u) → IsTrue (counts_of old.transactions stored u)
+  pub few : (s : DatabaseState) (stored : List Status) → ShowsDatabase old.pages.layout old.pages.pages old.transactions s → HasStatuses old.pages.layout old.pages.pages stored
+      → CountsFew (shown_parts old) (shown_parts (record old { transactions = with_open old.transactions n None })) stored (set stored own.t end)
   pub does : OfDatabase told old.pages old.transactions (λ s. DoesRequest old.pages.layout pages.pages tx s e answer)
   pub legal : (s : DatabaseState) → ShowsDatabase old.pages.layout old.pages.pages old.transactions s → IsLegalRequest s e
   pub only : (layout : DiskLayout) → IsOnly n hand e answer reply layout
@@ -122,13 +120,8 @@ module _ {D : Type 0} (told : D → Told) (laws : TransactionLaws) (old : Parts 
     restates tells s shows = record {
       later = set shows.stored own.t end;
       has = so.statuses tells shows.stored shows.has;
-      alike = λ m p apart theirs_is. record {
-        snapshot = refl;
-        own = refl;
-        ended = λ u had. ap (λ (first : ℕ). is_committed (stands_by first (set shows.stored own.t end) u)) first_same
-            ∙ laws.unseen old.pages.layout old.pages.pages old.transactions s shows.stored n m u own p end shows opened theirs_is apart had;
-      };
-      few = λ u counts. inl (so.few s shows.stored u shows shows.has (subst (λ (t : TransactionsState). IsTrue (counts_of t (set shows.stored own.t end) u)) ended_is counts));
+      alike = end_sees_alike laws.unseen (shown_parts old) (shown_parts new) s shows.stored n own end shows opened first_same;
+      few = λ u counts. so.few s shows.stored shows shows.has u (subst (λ (t : TransactionsState). IsTrue (counts_of t (set shows.stored own.t end) u)) ended_is counts);
     }
 
     ends_so : StepsSo told old new n hand (stepped.Done reply)
@@ -177,8 +170,8 @@ module _ {D : Type 0} (told : D → Told) (laws : TransactionLaws) (old : Parts 
       own.0 own.1 end (record {
         ending = is;
         statuses = statuses own.0 own.1;
-        few = λ s stored u shows has counted. subst (λ (b : Bool). IsTrue b) (laws.committed old.pages.layout old.pages.pages old.transactions s stored n u own.0 shows has own.1)
-            (subst (λ (end : Status). IsTrue (counts_of (with_open old.transactions n None) (set stored own.0.t end) u)) is counted);
+        few = λ s stored shows has. same_counts_few (shown_parts old) (shown_parts (record old { transactions = with_open old.transactions n None })) stored (set stored own.0.t end)
+            (λ u. ap (λ (end : Status). counts_of (with_open old.transactions n None) (set stored own.0.t end) u) is ∙ laws.committed old.pages.layout old.pages.pages old.transactions s stored n u own.0 shows has own.1);
         does = does;
         legal = λ s shows. let its = found s shows own.0 own.1 in (end_is_legal s n 0 its.0 its.1).commit;
         only = commit_only n committed;
@@ -195,8 +188,8 @@ module _ {D : Type 0} (told : D → Told) (laws : TransactionLaws) (old : Parts 
       ends_so hands.RollsBack fits refl refl refl (λ table there. none-some table there) (request_entry n 0 requests.Rollback) RolledBack replies.RolledBack own.0 own.1 status.RolledBack (record {
         ending = refl;
         statuses = statuses own.0 own.1;
-        few = λ s stored u shows has counted. both_true (counts_of old.transactions stored u) _
-            (subst (λ (b : Bool). IsTrue b) (laws.rolled_back old.pages.layout old.pages.pages old.transactions s stored n u own.0 shows has own.1) counted);
+        few = λ s stored shows has. fewer_counts_few (shown_parts old) (shown_parts (record old { transactions = with_open old.transactions n None })) stored (set stored own.0.t status.RolledBack) own.0.t
+            (λ u. laws.rolled_back old.pages.layout old.pages.pages old.transactions s stored n u own.0 shows has own.1);
         does = does;
         legal = λ s shows. let its = found s shows own.0 own.1 in (end_is_legal s n 0 its.0 its.1).rollback;
         only = rollback_only n;
