@@ -34,34 +34,6 @@ module _ {D : Type 0} (told : D → Told) (old : Parts D) (pages : View D) (n : 
   abbrev mid : Parts D
   mid = record old { pages = pages }
 
-  pub still_fit : IsFit told old n (hands.Marks marking) → IsFit told mid n (hands.Marks marking)
-  still_fit fits =
-      let was : FitsParts told old n (Some (hands.Marks marking)) = fit_of_parts told old n (hands.Marks marking) fits in (
-        fits.0,
-        fits.1,
-        fits.2,
-        fit_of_stores told mid n (Some (hands.Marks marking)) fits.0 fits.1 (record {
-          session = was.session;
-          over = over_still told old.transactions.tx old.pages pages was.over keeps;
-          in_hand = subst (λ (l : DiskLayout). FitsHand l (transaction_of old.transactions.opens n) (Some (hands.Marks marking))) (sym keeps.leaves.layout) was.in_hand;
-          limit = was.limit;
-          own = was.own;
-          held = λ table holds. absurd (none-some table (was.held table holds));
-          rights = was.rights ∙ ap (λ (l : DiskLayout). length l.schema.tables) (sym keeps.leaves.layout);
-          entries = was.entries;
-          share = was.share;
-        }) fits.2,
-      )
-
-  -- what was said of the row holds of the pages then
-  pub still_so : (first table : ℕ) (hit : Hit) (own : ℕ) (conflicts : Bool) → HitConflicts told old.pages first table hit own conflicts → HitConflicts told pages first table hit own conflicts
-  still_so first table hit own conflicts so tells stored blocks row has blocks_has there its_id =
-      let before : Tells told old.pages = sym keeps.leaves.tells ∙ tells in
-      let same : pages.pages ≡ old.pages.pages = keeps.pages before in
-      so before stored blocks row
-      (subst (λ (map : PageMap). HasStatuses old.pages.layout map stored) same (subst (λ (l : DiskLayout). HasStatuses l pages.pages stored) keeps.leaves.layout has))
-      (subst (λ (map : PageMap). HasBlocks old.pages.layout map table blocks) same (subst (λ (l : DiskLayout). HasBlocks l pages.pages table blocks) keeps.leaves.layout blocks_has)) there its_id
-
   pub still_in_use : (table : ℕ) (hit : Hit) → IsInUse old.pages.layout old.pages.pages table hit.spot → Tells told old.pages → IsInUse pages.layout pages.pages table hit.spot
   still_in_use table hit used tells = subst (λ (l : DiskLayout). IsInUse l pages.pages table hit.spot) (sym keeps.leaves.layout) (subst (λ (map : PageMap). IsInUse old.pages.layout map table hit.spot) (sym (keeps.pages tells)) used)
 
