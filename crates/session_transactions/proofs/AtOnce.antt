@@ -20,7 +20,7 @@ use Rattle.tx_table.specs.LeavesRest.{LeavesRest}
 use Rattle.tx_table.specs.Statuses.{HasStatuses, status_relation}
 use Rattle.transactions.specs.CountedRows.{counts as counts_of}
 use Rattle.transactions.specs.ShowsDatabase.{DoesRequest, OfDatabase, ShowsDatabase}
-use Rattle.index_contents.specs.IndexContents.{index_page, relation_of as index_relation}
+use Rattle.index_contents.specs.IndexContents.{relation_of as index_relation}
 use Rattle.script_semantics.specs.Place.{Hand as HandAt, Place, database_at}
 use Rattle.script_semantics.specs.Requests.{Course, Enters, MakesAll, NoneLeft, OneMore, entered, next_request}
 use Rattle.script_semantics.specs.StatementSteps.{Ended, IsAtOnce, StepsTo, course_of}

@@ -1,25 +1,23 @@
 -- The begin of a transaction as a step of its session.
-use Rattle.std.proofs.Common.{◌≡◌, ◌≢◌, ◌⊎◌, inl, inr, ℕ, ◌+◌, ◌<◌, ◌≤◌, ◌==◌, Bool, true, false, ◌||◌, List, [], ◌∷◌, ◌++◌, length, length-append, set, Option, None, Some, refl, sym, ap, ◌∙◌, subst, arith}
-use Rattle.std.specs.Prelude.{IsTrue, codes}
+use Rattle.std.proofs.Common.{◌≡◌, inl, ℕ, ◌+◌, ◌<◌, ◌≤◌, Bool, List, [], ◌∷◌, ◌++◌, length, length-append, set, Option, None, Some, refl, sym, ap, ◌∙◌, subst, arith}
+use Rattle.std.specs.Prelude.{codes}
 use Rattle.std.specs.Global.{Vec}
 use Rattle.std.specs.FinMap as finite
 use Rattle.std.proofs.lemmas.List.{get_or-set_other, get_or-set_same}
-use Rattle.std.proofs.lemmas.Bool.{eqb-true, true≢false}
 use Rattle.std.proofs.lemmas.Option.{none-some}
 use Rattle.block_model.specs.declared.reply.Refusal.TheVariants as refusals
 use Rattle.block_model.specs.declared.reply.Reply.{Reply}
 use Rattle.block_model.specs.declared.reply.Reply.TheVariants as replies
 use Rattle.block_model.specs.declared.request.Entry.{Entry}
 use Rattle.block_model.specs.declared.request.Request.TheVariants as requests
-use Rattle.block_model.specs.DatabaseState.{DatabaseState, OpenTransaction}
-use Rattle.block_model.specs.RequestEffect.{Answer, Begun, effect_at, effect_is, reply_to}
+use Rattle.block_model.specs.DatabaseState.{DatabaseState}
+use Rattle.block_model.specs.RequestEffect.{Begun}
 use Rattle.block_model.specs.SerialRun.{IsLegal, serial_run}
 use Rattle.disk_trait.specs.Told.{Told}
 use Rattle.store_layout.specs.DiskLayout.{DiskLayout}
 use Rattle.page_map.specs.Keeps.{Tells}
 use Rattle.page_map.specs.PageMap.{View}
 use Rattle.snapshot_core.specs.declared.statuses.Status.TheVariants as status
-use Rattle.snapshot_core.specs.Visibility.{is_committed}
 use Rattle.store_layout.specs.declared.limits.TheConstants.{MAX_ENTRIES, MAX_SESSIONS}
 use Rattle.store_layout.specs.StatementRequests.{request_entry}
 use Rattle.snapshot_core.specs.StoredVersions.{transaction_of}
@@ -30,7 +28,6 @@ use Rattle.transactions.specs.CountedRows.{counts as counts_of}
 use Rattle.transactions.specs.Laws.{BeginCounts, BeginIsUnseen, RowIsOfTransactions, SessionsAreShown}
 use Rattle.transactions.specs.ShowsDatabase.{DoesRequest, OfDatabase, ShowsDatabase}
 use Rattle.transactions.specs.TransactionsState.{TransactionsState, next_open, with_begun}
-use Rattle.session_parts.specs.Finds.{stands_by}
 use Rattle.script_semantics.specs.Place.{Place, database_at}
 use Rattle.script_semantics.specs.StatementSteps as steps
 use Rattle.script_semantics.specs.StatementSteps.{Ended, IsAtOnce, LacksRoom, StepsTo, numbers_of}
@@ -54,7 +51,7 @@ use Rattle.session_parts.proofs.Steps.{lacks_number as no_number}
 use Rattle.session_parts.proofs.Undone.{fit_of_parts}
 use Rattle.session_parts.proofs.Leads.{begin_sees_alike, more_counts_few, next_has_no_rows}
 use Rattle.session_transactions.proofs.AtOnce.{IsOnly, Restates, StaysBeside, does_so, heaps_follow, shown_parts, shown_then}
-use Rattle.session_transactions.proofs.Frames.{LeavesParts, made_so}
+use Rattle.session_transactions.proofs.Frames.{made_so}
 use Rattle.session_transactions.proofs.Rooms.{answered, lacks}
 
 -- ---- a begin is one request

@@ -1,16 +1,14 @@
 -- A mark behind the call that tells whether its row is in conflict, which changes no page.
-use Rattle.std.proofs.Common.{◌≡◌, ℕ, Bool, length, None, Some, refl, sym, ap, ◌∙◌, subst}
-use Rattle.std.proofs.lemmas.Option.{none-some}
+use Rattle.std.proofs.Common.{◌≡◌, ℕ, None, Some, refl, sym, ap, subst}
 use Rattle.std.specs.List.{slice_get}
 use Rattle.disk_trait.specs.Told.{Told}
 use Rattle.store_layout.specs.DiskLayout.{DiskLayout}
 use Rattle.page_map.specs.Keeps.{Keeps, Tells}
 use Rattle.page_map.specs.PageMap.{PageMap, View, block_at}
-use Rattle.heap_rows.specs.HeapBlocks.{HasBlocks}
 use Rattle.heap_rows.specs.RowPlaces.{IsInUse}
 use Rattle.snapshot_core.specs.StoredVersions.{transaction_of}
 use Rattle.tx_table.specs.Kept.{over_kept}
-use Rattle.tx_table.specs.Statuses.{HasStatuses, status_relation}
+use Rattle.tx_table.specs.Statuses.{status_relation}
 use Rattle.tx_table.specs.TxState.{IsOver, TxState}
 use Rattle.transactions.specs.Laws.{CopyStands, SessionsAreShown}
 use Rattle.session_parts.specs.declared.hand.Hand.TheVariants as hands
@@ -18,12 +16,10 @@ use Rattle.session_parts.specs.declared.hand.Hit.{Hit}
 use Rattle.session_parts.specs.declared.hand.Marking.{Marking}
 use Rattle.session_parts.specs.declared.hand.Stepped.{Stepped}
 use Rattle.session_parts.specs.declared.parts.Parts.{Parts}
-use Rattle.session_parts.specs.HandFits.{FitsHand}
 use Rattle.session_parts.specs.Stepping.{IsFit, IsShown}
 use Rattle.session_parts.specs.StoreStates.{shown_of, store_of}
 use Rattle.session_parts.specs.UndoneLaws.{FitsParts, StepsSo}
-use Rattle.session_parts.proofs.Undone.{fit_of_parts, fit_of_stores, steps_behind}
-use Rattle.session_transactions.specs.HitConflicts.{HitConflicts}
+use Rattle.session_parts.proofs.Undone.{fit_of_parts, steps_behind}
 use Rattle.session_transactions.proofs.Standing.{MarksAt, marks_at, under_way}
 
 -- the transactions stay over the pages

@@ -1,5 +1,5 @@
 -- The end of a transaction as a step of its session.
-use Rattle.std.proofs.Common.{◌≡◌, ◌≢◌, inl, ℕ, zero, suc, ◌+◌, ◌≤◌, Bool, true, false, not, ◌&&◌, List, [], ◌∷◌, ◌++◌, length, length-append, set, Option, None, Some, refl, sym, ap, ◌∙◌, subst, arith}
+use Rattle.std.proofs.Common.{◌≡◌, ℕ, ◌+◌, ◌≤◌, Bool, true, false, not, List, [], ◌∷◌, ◌++◌, length, length-append, set, Option, None, Some, refl, sym, ap, ◌∙◌, subst, arith}
 use Rattle.std.specs.Prelude.{IsSome, IsTrue, if◌then◌else◌}
 use Rattle.std.proofs.lemmas.List.{get_or-set_other}
 use Rattle.std.proofs.lemmas.Bool.{true≢false}
@@ -20,7 +20,6 @@ use Rattle.session_parts.specs.JournalState.{JournalState}
 use Rattle.session_parts.specs.Stepping.{IsFit}
 use Rattle.session_parts.proofs.Requests.{end_is_legal}
 use Rattle.snapshot_core.specs.declared.statuses.Status.{Status}
-use Rattle.snapshot_core.specs.Visibility.{is_committed}
 use Rattle.store_layout.specs.declared.limits.TheConstants.{MAX_ENTRIES}
 use Rattle.store_layout.specs.StatementRequests.{request_entry}
 use Rattle.snapshot_core.specs.declared.sessions.Open.{Open}
@@ -32,8 +31,7 @@ use Rattle.transactions.specs.Sessions.{IsCopyOf}
 use Rattle.transactions.specs.Laws.{CommitCounts, EndIsUnseen, RollbackCounts, SessionsAreShown}
 use Rattle.transactions.specs.ShowsDatabase.{DoesRequest, OfDatabase, ShowsDatabase}
 use Rattle.transactions.specs.TransactionsState.{OfOpen, TransactionsState, with_open}
-use Rattle.session_parts.specs.Finds.{stands_by}
-use Rattle.script_semantics.specs.Place.{Place, database_at}
+use Rattle.script_semantics.specs.Place.{Place}
 use Rattle.script_semantics.specs.StatementSteps as steps
 use Rattle.script_semantics.specs.StatementSteps.{Ended, IsAtOnce, LacksRoom}
 use Rattle.session_parts.specs.FrontsStand.{FrontsStand}
@@ -45,12 +43,12 @@ use Rattle.session_parts.specs.declared.parts.Parts.{Parts}
 use Rattle.session_parts.specs.HandFits.{locks_held, right_held}
 use Rattle.session_parts.specs.Hands.{statement_of}
 use Rattle.session_parts.specs.HandsInTables.{table_in}
-use Rattle.session_parts.specs.Shares.{hand_share, open_share, share_of}
+use Rattle.session_parts.specs.Shares.{hand_share, open_share}
 use Rattle.session_parts.specs.UndoneLaws.{StepsSo}
 use Rattle.session_parts.specs.FrontLaws.{IsEnding}
 use Rattle.std.specs.FinMap as finite
 use Rattle.block_model.specs.DatabaseState.{DatabaseState, OpenTransaction}
-use Rattle.session_transactions.proofs.Frames.{LeavesParts, set_here}
+use Rattle.session_transactions.proofs.Frames.{set_here}
 use Rattle.session_transactions.proofs.AtOnce.{IsOnly, Restates, does_so, heaps_follow, shown_parts}
 use Rattle.session_parts.specs.Leaving.{CountsFew}
 use Rattle.session_parts.proofs.Leads.{end_sees_alike, fewer_counts_few, same_counts_few}

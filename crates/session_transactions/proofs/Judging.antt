@@ -1,5 +1,5 @@
 -- Whether a row is in conflict, by its deleter and how that stands.
-use Rattle.std.proofs.Common.{◌≡◌, ◌≢◌, ℕ, ◌==◌, Bool, true, false, not, ◌&&◌, List, refl, sym, ap, ◌∙◌, eq-eqb, ne_eqb}
+use Rattle.std.proofs.Common.{◌≡◌, ◌≢◌, ℕ, ◌==◌, Bool, false, not, ◌&&◌, List, sym, ap, ◌∙◌, ne_eqb}
 use Rattle.std.specs.Prelude.{if◌then◌else◌}
 use Rattle.page_layout.specs.RowBytes.{StoredRow}
 use Rattle.snapshot_core.specs.declared.statuses.Status.{Status}

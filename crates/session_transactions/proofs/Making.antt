@@ -1,5 +1,5 @@
 -- A mark that is made, as a step of its session.
-use Rattle.std.proofs.Common.{◌≡◌, ◌≢◌, ◌⊎◌, inl, inr, ℕ, suc, ◌+◌, ◌<◌, ◌≤◌, Bool, true, false, cond, List, [], ◌∷◌, ◌++◌, length, drop, map, replicate, All, Option, None, Some, refl, sym, ap, ◌∙◌, subst, append_assoc, arith}
+use Rattle.std.proofs.Common.{◌≡◌, ◌≢◌, ◌⊎◌, inl, inr, ℕ, suc, ◌+◌, ◌<◌, ◌≤◌, Bool, true, false, cond, List, [], ◌∷◌, ◌++◌, length, drop, map, replicate, All, Option, None, Some, refl, sym, ap, ◌∙◌, subst, arith}
 use Rattle.std.specs.Prelude.{IsTrue, if◌then◌else◌}
 use Rattle.std.specs.List.{slice_get}
 use Rattle.std.specs.FinMap as finite
@@ -16,7 +16,6 @@ use Rattle.block_model.specs.declared.row.Row.{Row}
 use Rattle.block_model.specs.declared.row.RowId.{RowId}
 use Rattle.block_model.specs.DatabaseState.{DatabaseState, OpenTransaction}
 use Rattle.block_model.specs.RequestEffect.{Answer, Conflict, Found, Marked, after_failure, after_mark, effect, effect_at, effect_is, is_conflict, with_transaction}
-use Rattle.block_model.specs.SerialRun.{IsLegal, serial_run}
 use Rattle.disk_trait.specs.Told.{Told}
 use Rattle.block_model.specs.declared.place.Spot.{Spot}
 use Rattle.block_model.specs.declared.reply.Point.TheVariants as points
@@ -40,18 +39,18 @@ use Rattle.store_layout.specs.StatementRequests.{request_entry}
 use Rattle.snapshot_core.specs.declared.sessions.Open.{Open}
 use Rattle.snapshot_core.specs.StoredVersions.{transaction_of}
 use Rattle.transactions.specs.CountedRows.{counts as counts_of}
-use Rattle.transactions.specs.Laws.{CopyStands, IsMarking, MarkIsShown, MarkIsUnseen, SessionsAreShown}
+use Rattle.transactions.specs.Laws.{CopyStands, MarkIsShown, MarkIsUnseen, SessionsAreShown}
 use Rattle.transactions.specs.StoredRows.{MarksRowAt, conflicts_with}
 use Rattle.transactions.specs.TransactionsState.{TransactionsState}
-use Rattle.transactions.specs.ShowsDatabase.{DoesRequest, ShowsDatabase}
+use Rattle.transactions.specs.ShowsDatabase.{DoesRequest}
 use Rattle.coverage.specs.Machines.{ShownTable, table_state, task_turned}
 use Rattle.coverage.specs.TableSteps.{OnlyTurns}
-use Rattle.coverage.specs.Table.{Marks, Resting, TableScan, TableState, Task, pick}
+use Rattle.coverage.specs.Table.{Marks, Resting, TableState, Task, pick}
 use Rattle.coverage.proofs.Views.{pick_other, pick_same}
 use Rattle.script_semantics.specs.ShownRows.{shown_by}
 use Rattle.script_semantics.specs.Place.{Hand as HandAt, Place, database_at}
 use Rattle.script_semantics.specs.Requests.{Course}
-use Rattle.script_semantics.specs.StatementSteps.{Ended, Moved, Steps, StepsTo, course_of}
+use Rattle.script_semantics.specs.StatementSteps.{Ended, Moved, Steps, StepsTo}
 use Rattle.session_parts.specs.declared.hand.Hand.{Hand}
 use Rattle.session_parts.specs.declared.hand.Hand.TheVariants as hands
 use Rattle.session_parts.specs.declared.hand.Hit.{Hit}
@@ -66,27 +65,25 @@ use Rattle.session_parts.specs.Hands.{HandShows, hits_left, ids_of}
 use Rattle.session_parts.specs.HandsAsk.{IsNoInsert}
 use Rattle.session_parts.specs.HandsInTables.{IsMarkingAt, IsMarkingBy, IsTaskOf, table_in}
 use Rattle.session_parts.specs.JournalState.{JournalState}
-use Rattle.session_parts.specs.Leaving.{CountsFew, LeadsTo, LeavesOthers, RowsStay, SameLocks, SlotsStay, StepsInTable}
+use Rattle.session_parts.specs.Leaving.{CountsFew, LeadsTo, LeavesOthers, RowsStay, SlotsStay, StepsInTable}
 use Rattle.session_parts.specs.PlacesAfter.{place_after}
 use Rattle.session_parts.specs.ShowsPlace.{AreInCopy, IsOfTransaction, IsPlaceOf, ShowsTable}
 use Rattle.session_parts.specs.Stepping.{MakesItsStep}
 use Rattle.session_parts.specs.StoreLaws.{HasHand}
 use Rattle.session_parts.specs.StoreStates.{ShownStore, hand_in, shown_of, store_of, with_hand}
-use Rattle.session_parts.proofs.Fronts.{fronts_within, mark_stays_within}
+use Rattle.session_parts.proofs.Fronts.{mark_stays_within}
 use Rattle.session_parts.proofs.Leads.{mark_leaves_slots}
 use Rattle.session_parts.proofs.Slots.{marked_slot}
 use Rattle.session_parts.proofs.Places.{table_step_is_shown}
-use Rattle.session_parts.proofs.Requests.{copies_stay}
 use Rattle.session_parts.proofs.Stores.{hand_changes}
 use Rattle.session_parts.proofs.Tables.{own_table_goes_on, same_contents, shown_alike}
 use Rattle.session_transactions.specs.HitConflicts.{HitConflicts}
 use Rattle.session_transactions.specs.Looks.{look_entries}
 use Rattle.session_transactions.proofs.Answered.{steps_in_table, is_marking, does as its_does, leads as its_leads, longer as its_longer}
 use Rattle.session_transactions.proofs.Definition.{answers_are, course, ends, goes_on}
-use Rattle.session_transactions.proofs.Entries.{all_within, entries_of, legal_mark}
 use Rattle.session_transactions.proofs.Hits.{first_of, hits_from}
 use Rattle.session_transactions.proofs.Turns.{IsMarkTurn, at_task, left_at, mark_turns, task_then}
-use Rattle.session_transactions.proofs.Standing.{MarksAt, entries_are, is_first, marks_at}
+use Rattle.session_transactions.proofs.Standing.{MarksAt, is_first, marks_at}
 
 -- the laws of transactions that it takes
 pub record MarkLaws : Type 0 where

@@ -1,18 +1,15 @@
 -- A mark that meets a conflict, as a step of its session.
-use Rattle.std.proofs.Common.{◌≡◌, ◌≢◌, ℕ, ◌≤◌, ◌==◌, Bool, true, false, not, ◌&&◌, List, [], ◌∷◌, ◌++◌, length, map, Option, None, Some, refl, sym, ap, ◌∙◌, subst, append_assoc}
+use Rattle.std.proofs.Common.{◌≡◌, ℕ, ◌≤◌, ◌==◌, Bool, true, false, not, ◌&&◌, List, [], ◌∷◌, ◌++◌, length, map, Option, None, Some, refl, sym, ap, ◌∙◌, subst}
 use Rattle.std.specs.List.{slice_get}
-use Rattle.std.specs.FinMap as finite
 use Rattle.std.proofs.lemmas.List.{get_or-set_other}
-use Rattle.std.proofs.lemmas.Option.{none-some, same_Some}
+use Rattle.std.proofs.lemmas.Option.{none-some}
 use Rattle.block_model.specs.declared.reply.Refusal.TheVariants as refusals
 use Rattle.block_model.specs.declared.reply.Reply.TheVariants as replies
 use Rattle.block_model.specs.declared.request.Entry.{Entry}
 use Rattle.block_model.specs.declared.request.Request.TheVariants as requests
 use Rattle.block_model.specs.declared.row.Row.{Row}
 use Rattle.block_model.specs.declared.row.RowId.{RowId}
-use Rattle.block_model.specs.DatabaseState.{DatabaseState}
-use Rattle.block_model.specs.RequestEffect.{Answer, Conflict, effect}
-use Rattle.block_model.specs.SerialRun.{IsLegal, serial_run}
+use Rattle.block_model.specs.RequestEffect.{Conflict, effect}
 use Rattle.disk_trait.specs.Told.{Told}
 use Rattle.page_map.specs.Keeps.{Tells}
 use Rattle.snapshot_core.specs.declared.statuses.Status.{Status}
@@ -23,16 +20,15 @@ use Rattle.snapshot_core.specs.declared.sessions.Open.{Open}
 use Rattle.snapshot_core.specs.SessionChanges.{failed_open}
 use Rattle.snapshot_core.specs.StoredVersions.{transaction_of}
 use Rattle.transactions.specs.CountedRows.{counts as counts_of}
-use Rattle.transactions.specs.Laws.{ConflictIsShown, CopyStands, FailureCounts, IsMarking, SessionsAreShown}
-use Rattle.transactions.specs.ShowsDatabase.{DoesRequest, ShowsDatabase}
+use Rattle.transactions.specs.Laws.{ConflictIsShown, CopyStands, FailureCounts, SessionsAreShown}
+use Rattle.transactions.specs.ShowsDatabase.{DoesRequest}
 use Rattle.transactions.specs.TransactionsState.{with_failed}
 use Rattle.coverage.specs.Machines.{Unseen, task_turned}
 use Rattle.coverage.specs.Refusals.{HasConflict}
 use Rattle.coverage.specs.Table.{Resting, TableState}
 use Rattle.coverage.proofs.Views.{pick_other, pick_same}
 use Rattle.script_semantics.specs.Place.{Place, database_at}
-use Rattle.script_semantics.specs.Requests.{Course}
-use Rattle.script_semantics.specs.StatementSteps.{Ended, Steps, StepsTo, course_of}
+use Rattle.script_semantics.specs.StatementSteps.{Ended, Steps, StepsTo}
 use Rattle.session_parts.specs.declared.hand.Hand.{Hand}
 use Rattle.session_parts.specs.declared.hand.Hand.TheVariants as hands
 use Rattle.session_parts.specs.declared.hand.Hit.{Hit}
@@ -42,28 +38,26 @@ use Rattle.session_parts.specs.declared.parts.Parts.{Parts}
 use Rattle.session_parts.specs.HandFits.{IsMarkingFor}
 use Rattle.session_parts.specs.Hands.{HandShows}
 use Rattle.session_parts.specs.HandsAsk.{IsNoInsert}
-use Rattle.session_parts.specs.HandsInTables.{IsTaskOf, table_in}
+use Rattle.session_parts.specs.HandsInTables.{IsTaskOf}
 use Rattle.session_parts.specs.JournalState.{JournalState}
-use Rattle.session_parts.specs.Leaving.{CountsFew, LeadsTo, LeavesOthers, SameLocks, StepsInTable}
+use Rattle.session_parts.specs.Leaving.{CountsFew, LeadsTo, LeavesOthers}
 use Rattle.session_parts.specs.PlacesAfter.{TurnsIn, place_after, refusal_in}
 use Rattle.session_parts.specs.RefusalLaws.{CountsNoMore, refused_in}
 use Rattle.session_parts.specs.ShowsPlace.{IsPlaceOf, ShowsTable}
 use Rattle.session_parts.specs.Stepping.{MakesItsStep}
 use Rattle.session_parts.specs.StoreLaws.{HasHand}
 use Rattle.session_parts.specs.StoreStates.{ShownStore, hand_in, shown_of, store_of, with_hand}
-use Rattle.session_parts.proofs.Fronts.{failure_stays_within, fronts_within}
+use Rattle.session_parts.proofs.Fronts.{failure_stays_within}
 use Rattle.session_parts.proofs.Leads.{failure_counts_no_more, fewer_counts_few, nothing_leaves_slots}
 use Rattle.session_parts.proofs.Places.{table_step_is_shown}
 use Rattle.session_parts.proofs.Refusals.{mark_is_refused}
-use Rattle.session_parts.proofs.Requests.{copies_stay}
 use Rattle.session_parts.proofs.Stores.{hand_changes}
 use Rattle.session_parts.proofs.Tables.{own_table_goes_on}
 use Rattle.session_transactions.specs.HitConflicts.{HitConflicts}
 use Rattle.session_transactions.specs.Looks.{look_entries}
 use Rattle.session_transactions.proofs.Answered.{steps_in_table, is_marking, does as its_does, leads as its_leads, longer as its_longer}
 use Rattle.session_transactions.proofs.Definition.{conflicts}
-use Rattle.session_transactions.proofs.Entries.{all_within, entries_of, legal_mark}
-use Rattle.session_transactions.proofs.Standing.{MarksAt, entries_are, is_first, marks_at}
+use Rattle.session_transactions.proofs.Standing.{MarksAt, is_first, marks_at}
 
 -- the laws of transactions that it takes
 pub record ConflictLaws : Type 0 where

@@ -11,7 +11,6 @@ use Rattle.session_parts.specs.declared.parts.Parts.{Parts}
 use Rattle.session_parts.specs.declared.hand.Stepped.TheVariants as stepped
 use Rattle.session_parts.specs.UndoneLaws.{StepsSo}
 use Rattle.session_parts.specs.StepIs.{stepped_in}
-use Rattle.session_parts.specs.StoreFaults.{fault_of}
 use Rattle.session_parts.proofs.Undone.{fit_of_parts}
 use Rattle.session_transactions.proofs.Behind.{behind, in_use, over_still, still_in_use}
 use Rattle.session_transactions.proofs.Undoing.{refused_by}
