@@ -17,7 +17,7 @@ use Rattle.transactions.specs.CountedRows.{counts as counts_of}
 use Rattle.transactions.specs.TransactionsState.{TransactionsState}
 use Rattle.coverage.specs.Accounts.{Account, no_account}
 use Rattle.coverage.specs.Machines.{table_state, task_turned}
-use Rattle.coverage.specs.Table.{Resting, Scans, TableScan, TableState, Task}
+use Rattle.coverage.specs.Table.{Resting, Scans, TableState, Task}
 use Rattle.coverage.specs.TableSteps.{Onward, Stays}
 use Rattle.coverage.proofs.Views.{pick_same}
 use Rattle.bitmap_scan.specs.declared.stage.Stage.{Stage}
@@ -147,13 +147,10 @@ module _ (laws : LookLaws) (old new : ShownStore) (n : ℕ) (looking : Looking) 
     remembers = remembers;
   }
 
-  busy : {scan : TableScan} → Scans scan ≡ Resting → ⊥
-  busy rests = cc
-
   pub scan_goes_on : (q : Place) × IsPlaceOf new q × Steps p n (Moved point) q
   scan_goes_on =
       let made = (stepped laws old n looking before after o there p shown (did.Moved point) steps).1 in
-      moves_on laws old new n looking before after o there p shown left few same_entries same point named now made.0 next busy (made.0.onward next (Stays next made.1))
+      moves_on laws old new n looking before after o there p shown left few same_entries same point named now made.0 next (λ rests. cc) (made.0.onward next (Stays next made.1))
       (scan_hand_of looking after) is (scan_is looking after).asks ((scan_is looking after).in_table old.layout)
       (scan_task old.layout before.judging.query.table (shows laws old n looking before o there p shown).blocks old.transactions.tx shown.database.stored o looking after next (ap (λ (q : Query). q.table) same) scans_then)
       (scan_is_shown looking after) (scan_is_own (transaction_of new.transactions.opens n) (finite.get (database_at p).sessions n) looking after)

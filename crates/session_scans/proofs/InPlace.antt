@@ -1,5 +1,5 @@
 -- a scan in the hand that it stays in
-use Rattle.std.proofs.Common.{◌≡◌, ◌≢◌, ℕ, List, Option, None, Some, refl, sym, ap, ◌∙◌, subst}
+use Rattle.std.proofs.Common.{◌≡◌, ℕ, List, Option, None, Some, refl, sym, ap, ◌∙◌, subst}
 use Rattle.std.specs.Prelude.{IfSome, IsSome}
 use Rattle.std.proofs.lemmas.Option.{same_Some}
 use Rattle.disk_trait.specs.Told.{Told}
@@ -22,7 +22,7 @@ use Rattle.session_scans.specs.declared.scanning.Scanned.TheVariants as scanned
 use Rattle.session_scans.specs.Finishes.{Finishes}
 use Rattle.session_scans.specs.Looks.{IsInScan, OfScan, hand_before, scan_hand_of, scan_of}
 use Rattle.session_scans.specs.ScanSteps.{MayScan, ScanStepsSo, parts_before}
-use Rattle.session_scans.specs.ScansInPlace.{DoesScan, DoesScanIn, RunsShort}
+use Rattle.session_scans.specs.ScansInPlace.{DoesScan, DoesScanIn}
 
 -- ---- which scan it is
 

@@ -1,5 +1,5 @@
 -- the last step of a delete's scan, behind which it goes on to mark what it found
-use Rattle.std.proofs.Common.{◌≡◌, ℕ, ◌<◌, ◌≤◌, Bool, List, [], ◌∷◌, length, Option, Some, All, refl, sym, ap, subst, ◌∙◌, arith}
+use Rattle.std.proofs.Common.{◌≡◌, ℕ, ◌<◌, ◌≤◌, List, [], ◌∷◌, length, Option, Some, All, refl, sym, ap, subst, ◌∙◌, arith}
 use Rattle.std.specs.Prelude.{IsTrue}
 use Rattle.std.specs.Global.{Vec}
 use Rattle.std.specs.Cmp.{eq_by_cmp_equiv}
@@ -11,7 +11,6 @@ use Rattle.std.proofs.lemmas.Map.Keys.{IsDistinct-IsPermutation}
 use Rattle.std.proofs.lemmas.Option.{same_Some}
 use Rattle.block_model.specs.declared.place.Spot.{Spot}
 use Rattle.block_model.specs.declared.reply.Point.{Point}
-use Rattle.block_model.specs.declared.request.Entry.{Entry}
 use Rattle.block_model.specs.declared.row.Query.{Query}
 use Rattle.block_model.specs.declared.row.Row.{Row}
 use Rattle.block_model.specs.declared.row.RowId.{RowId}
@@ -24,46 +23,36 @@ use Rattle.heap_rows.specs.RowPlaces.{slot_at}
 use Rattle.store_layout.specs.declared.limits.TheConstants.{MAX_ENTRIES}
 use Rattle.store_layout.specs.declared.statement.Statement.TheVariants as statements
 use Rattle.snapshot_core.specs.declared.sessions.Open.{Open}
-use Rattle.snapshot_core.specs.StoredVersions.{transaction_of}
-use Rattle.transactions.specs.CountedRows.{counts as counts_of}
-use Rattle.transactions.specs.TransactionsState.{TransactionsState}
-use Rattle.coverage.specs.Accounts.{Account, no_account}
 use Rattle.coverage.specs.Machines.{table_state, task_turned}
 use Rattle.coverage.specs.RowOrder.{AreInOrder, IsAmong}
-use Rattle.coverage.specs.Table.{Marks, Resting, Scans, TableScan, TableState, Task}
+use Rattle.coverage.specs.Table.{Marks, Scans, TableScan, TableState, Task}
 use Rattle.coverage.specs.TableSteps.{ListsFound, Onward, ToMarks}
-use Rattle.coverage.proofs.Views.{pick_same}
 use Rattle.bitmap_scan.specs.Finds as scans
 use Rattle.bitmap_scan.specs.Finds.{FindHand, is_found}
-use Rattle.bitmap_scan.specs.ScanSteps.{account_at, point_at}
+use Rattle.bitmap_scan.specs.ScanSteps.{point_at}
 use Rattle.bitmap_scan.proofs.FoundRows.{slot_of_row}
 use Rattle.bitmap_scan.proofs.Stepping.{onward_turned}
-use Rattle.script_semantics.specs.Place.{Hand as HandAt, Place, database_at, new_hand}
-use Rattle.script_semantics.specs.StatementSteps.{MakesAt, Moved, Steps, StepsTo, course_of}
-use Rattle.session_parts.specs.HandsAsk.{IsNoInsert}
-use Rattle.session_parts.specs.declared.hand.Hand.{Hand}
+use Rattle.script_semantics.specs.Place.{Place, database_at, new_hand}
+use Rattle.script_semantics.specs.StatementSteps.{Moved, Steps}
 use Rattle.session_parts.specs.declared.hand.Hand.TheVariants as hands
 use Rattle.session_parts.specs.declared.hand.Hit.{Hit}
 use Rattle.session_parts.specs.declared.hand.Marking.{Marking}
-use Rattle.session_parts.specs.Hands.{HandShows, hits_left, ids_of}
-use Rattle.session_parts.specs.HandsInTables.{IsMarkingAt, IsMarkingBy, IsTaskOf, table_in}
-use Rattle.session_parts.specs.Leaving.{LeadsTo}
-use Rattle.session_parts.specs.PlacesAfter.{place_after}
-use Rattle.session_parts.specs.ShowsPlace.{IsLeftToMark, IsOfTransaction, IsPlaceOf}
+use Rattle.session_parts.specs.Hands.{hits_left, ids_of}
+use Rattle.session_parts.specs.HandsInTables.{IsMarkingAt}
+use Rattle.session_parts.specs.ShowsPlace.{IsLeftToMark, IsPlaceOf}
 use Rattle.session_parts.specs.StoreStates.{ShownStore, hand_in}
 use Rattle.session_parts.proofs.Leads.{scan_saw_rows}
-use Rattle.session_parts.proofs.Steps.{turn_goes_on}
 use Rattle.session_scans.specs.declared.looking.Looking.TheVariants as lookings
 use Rattle.session_scans.specs.FoundLists.{ListsHits, hit_of, rows_of}
 use Rattle.session_scans.specs.LookLaws.{LookLaws}
 use Rattle.session_scans.proofs.Found.{found_here, goes, ids_distinct, now, read, rows_are, rows_sorted, scan_then, sees_found, sees_standing}
 use Rattle.session_scans.proofs.GoesOn.{moves_on}
 use Rattle.session_scans.proofs.Stepped.{MakesStep}
-use Rattle.session_scans.proofs.Led.{IsInHand, ScanLeft, nothing_entered, place_shown}
+use Rattle.session_scans.proofs.Led.{ScanLeft}
 use Rattle.session_scans.proofs.Ordered.{among_them, one_among, one_at, row_ids, rows_in_order, same_ids}
-use Rattle.session_scans.proofs.Standing.{LooksThere, account_is, in_hand, pages_show, scans_at, shows, w}
+use Rattle.session_scans.proofs.Standing.{LooksThere, pages_show, scans_at, shows, w}
 use Rattle.session_scans.proofs.Stands.{IsThere}
-use Rattle.session_scans.proofs.Turns.{copy, reads, tells_nothing, turns_there}
+use Rattle.session_scans.proofs.Turns.{copy}
 
 module _ (laws : LookLaws) (old new : ShownStore) (n : ℕ) (before after : FindHand) (o : Open) (there : LooksThere old n lookings.Delete before o) (p : Place) (shown : IsPlaceOf old p) (left : ScanLeft old new n old.transactions)
     (few : length old.entries ≤ MAX_ENTRIES) (same_entries : new.entries ≡ old.entries) (same : after.judging.query ≡ before.judging.query) (point : Point) (named : point ≡ point_at before.judging.stage)
@@ -153,13 +142,10 @@ module _ (laws : LookLaws) (old new : ShownStore) (n : ℕ) (before after : Find
         (ap (λ (q : Query). row_ids (rows_found (copy laws old n lookings.Delete before o there p shown).0 q)) same
         ∙ ap row_ids (sym (rows_are laws old n lookings.Delete before after o there p shown same point steps stand ascend (rows_of ordered) (ordered, lists.1, refl))) ∙ sym ids_are)
 
-    busy : {scan : TableScan} {ids : List RowId} → Marks scan ids ≡ Resting → ⊥
-    busy rests = cc
-
     pub goes_to_marks : (q : Place) × IsPlaceOf new q × Steps p n (Moved point) q
     goes_to_marks =
         let its_goes = goes laws old n lookings.Delete before after o there p shown same point steps in
-        moves_on laws old new n lookings.Delete before after o there p shown left few same_entries same point named (now laws old n lookings.Delete before after o there p shown same point steps) its_goes next busy
+        moves_on laws old new n lookings.Delete before after o there p shown left few same_entries same point named (now laws old n lookings.Delete before after o there p shown same point steps) its_goes next (λ rests. cc)
         (its_goes.onward next (onward_there next (to_marks hits.items some (sym ids_are)))) (hands.Marks marking) is tt (λ other there_is. sym (same_Some after.judging.query.table other there_is))
         ((λ own. marking_at), (λ away. absurd (away (ap (λ (q : Query). q.table) same)))) (new_hand (statements.Delete after.judging.query), refl, refl, (refl, refl), refl)
         (left_to_mark (finite.get (database_at p).sessions n) (copy laws old n lookings.Delete before o there p shown).1)

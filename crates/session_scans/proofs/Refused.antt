@@ -30,11 +30,8 @@ use Rattle.bitmap_scan.specs.Finds.{FindHand}
 use Rattle.script_semantics.specs.Place.{Hand as HandAt, Place, database_at, new_hand}
 use Rattle.script_semantics.specs.StatementSteps.{Ended, Steps, StepsTo}
 use Rattle.session_parts.specs.HandsAsk.{IsNoInsert}
-use Rattle.session_parts.specs.declared.hand.Hand.{Hand}
-use Rattle.session_parts.specs.Hands.{HandShows}
 use Rattle.session_parts.specs.HandsInTables.{IsTaskOf, table_in}
-use Rattle.session_parts.specs.LeadLaws.{HasInHand}
-use Rattle.session_parts.specs.Leaving.{CountsFew, LeadsTo, LeavesOthers, SameLocks, StepsAtOnce, StepsInTable, AsksForNone}
+use Rattle.session_parts.specs.Leaving.{CountsFew, LeadsTo, StepsAtOnce, AsksForNone}
 use Rattle.session_parts.specs.PlacesAfter.{place_after, place_at_once}
 use Rattle.session_parts.specs.RefusalLaws.{CountsNoMore, refused_in}
 use Rattle.session_parts.specs.ShowsPlace.{IsPlaceOf, ShowsTable}
@@ -47,11 +44,10 @@ use Rattle.session_parts.proofs.Tables.{own_table_goes_on}
 use Rattle.session_scans.specs.declared.looking.Looking.{Looking}
 use Rattle.session_scans.specs.LookLaws.{LookLaws}
 use Rattle.session_scans.specs.Looks.{statement_for}
-use Rattle.session_scans.proofs.Led.{order_stays, ScanLeft, in_its_table}
+use Rattle.session_scans.proofs.Led.{ScanLeft, in_its_table}
 use Rattle.session_scans.proofs.Standing.{LooksThere, in_hand, shows}
 use Rattle.session_scans.proofs.Tells.{none_in_hand, none_then}
 use Rattle.session_scans.proofs.Turns.{copy}
-use Rattle.session_scans.proofs.Words.{hand_is}
 use Rattle.session_scans.proofs.Refusals.{begun_or_not, entries_then, first_step, later_step, none_before, refused_entry, turns}
 
 -- ---- the place then

@@ -42,14 +42,12 @@ use Rattle.bitmap_scan.specs.TableScans.{Beside, task_of}
 use Rattle.script_semantics.specs.Place.{Place}
 use Rattle.session_parts.specs.declared.faults.StoreFault.TheVariants as stops
 use Rattle.session_parts.specs.declared.hand.Hand.{Hand}
-use Rattle.session_parts.specs.declared.hand.Stepped.{Stepped}
 use Rattle.session_parts.specs.declared.hand.Stepped.TheVariants as stepped
 use Rattle.session_parts.specs.declared.parts.Parts.{Parts}
 use Rattle.session_parts.specs.DamagedPages.{NamesAPage}
 use Rattle.session_parts.specs.HandFits.{FitsHand, locks_held}
 use Rattle.session_parts.specs.Hands.{statement_of}
 use Rattle.session_parts.specs.JournalState.{JournalState}
-use Rattle.session_parts.specs.Leaving.{LeavesOthers}
 use Rattle.session_parts.specs.Shares.{hand_share, share_of}
 use Rattle.session_parts.specs.ShowsPlace.{IsPlaceOf}
 use Rattle.session_parts.specs.StepAnswers.{most_entered}

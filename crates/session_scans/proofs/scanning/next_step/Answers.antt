@@ -1,10 +1,8 @@
 use Rattle.std.proofs.Common.{◌+◌, ◌<◌, ◌≤◌, length, sym, ap, ◌∙◌, arith}
 use Rattle.std.proofs.lemmas.Bool.{false≢true}
-use Rattle.page_map.specs.Keeps.{Tells}
 use Rattle.store_layout.specs.declared.limits.TheConstants.{MAX_ENTRIES}
 use Rattle.page_locks.specs.declared.did.Did.TheVariants as did
 use Rattle.tx_table.proofs.Parts.{before_then}
-use Rattle.bitmap_scan.specs.ScanAnswers.{IsDamagedAt}
 use Rattle.session_parts.specs.StoreFaults.{fault_of}
 use Rattle.session_scans.proofs.Machine.{IsDamagedThere, made_behind, may_then, names_there, next_then, refused_by_pages, refused_read, spent_there}
 use Rattle.session_scans.proofs.scanning.next_step.Goals as goal

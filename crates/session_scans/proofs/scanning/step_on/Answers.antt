@@ -1,6 +1,4 @@
 use Rattle.page_locks.specs.declared.did.Did.TheVariants as did
-use Rattle.page_map.specs.Keeps.{Tells}
-use Rattle.bitmap_scan.specs.ScanAnswers.{IsDamagedAt}
 use Rattle.session_scans.proofs.Finished.{finished_so}
 use Rattle.session_scans.proofs.Machine.{IsDamagedThere, did_scan, done_well, goes_on, names_there, refused_by_pages, refused_there, remembered_by, runs_short, short_well}
 use Rattle.session_scans.proofs.scanning.step_on.Goals as goal
