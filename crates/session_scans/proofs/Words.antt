@@ -84,48 +84,12 @@ shown_in : (looking : Looking) (query : Query) (shown : Option HandAt) (account 
 shown_in looking query shown account at is statement answers empty = record { in_hand = is ∙ ap Some (λ i. record { statement = statement i; answers = answers i }); account_is = empty }
 
 pub first_is : (looking : Looking) (query : Query) → IsHandOf looking query 0 (first_hand_of looking query)
-first_is lookings.Select query = record {
-  statement = refl;
-  holds = refl;
-  right = λ layout. refl;
-  asks = tt;
-  share = refl;
-  look = λ layout own fits. fits;
-  in_table = λ layout other is. absurd (none-some other is);
-  shows = λ shown account s. shown_in lookings.Select query shown account s.0 s.1 s.2 s.3 s.4;
-}
-first_is lookings.Delete query = record {
-  statement = refl;
-  holds = refl;
-  right = λ layout. refl;
-  asks = tt;
-  share = refl;
-  look = λ layout own fits. fits;
-  in_table = λ layout other is. absurd (none-some other is);
-  shows = λ shown account s. shown_in lookings.Delete query shown account s.0 s.1 s.2 s.3 s.4;
-}
+first_is lookings.Select query = record { statement = refl; holds = refl; right = λ layout. refl; asks = tt; share = refl; look = λ layout own fits. fits; in_table = λ layout other is. absurd (none-some other is); shows = λ shown account s. shown_in lookings.Select query shown account s.0 s.1 s.2 s.3 s.4 }
+first_is lookings.Delete query = record { statement = refl; holds = refl; right = λ layout. refl; asks = tt; share = refl; look = λ layout own fits. fits; in_table = λ layout other is. absurd (none-some other is); shows = λ shown account s. shown_in lookings.Delete query shown account s.0 s.1 s.2 s.3 s.4 }
 
 pub scan_is : (looking : Looking) (scan : FindHand) → IsHandOf looking scan.judging.query 1 (scan_hand_of looking scan)
-scan_is lookings.Select scan = record {
-  statement = refl;
-  holds = refl;
-  right = λ layout. refl;
-  asks = tt;
-  share = refl;
-  look = λ layout own fits. (fits.0, fits.1.judging.table);
-  in_table = λ layout other is. sym (same_Some scan.judging.query.table other is);
-  shows = λ shown account s. shown_in lookings.Select scan.judging.query shown account s.0 s.1 s.2 s.3 s.4;
-}
-scan_is lookings.Delete scan = record {
-  statement = refl;
-  holds = refl;
-  right = λ layout. refl;
-  asks = tt;
-  share = refl;
-  look = λ layout own fits. (fits.0, fits.1.judging.table);
-  in_table = λ layout other is. sym (same_Some scan.judging.query.table other is);
-  shows = λ shown account s. shown_in lookings.Delete scan.judging.query shown account s.0 s.1 s.2 s.3 s.4;
-}
+scan_is lookings.Select scan = record { statement = refl; holds = refl; right = λ layout. refl; asks = tt; share = refl; look = λ layout own fits. (fits.0, fits.1.judging.table); in_table = λ layout other is. sym (same_Some scan.judging.query.table other is); shows = λ shown account s. shown_in lookings.Select scan.judging.query shown account s.0 s.1 s.2 s.3 s.4 }
+scan_is lookings.Delete scan = record { statement = refl; holds = refl; right = λ layout. refl; asks = tt; share = refl; look = λ layout own fits. (fits.0, fits.1.judging.table); in_table = λ layout other is. sym (same_Some scan.judging.query.table other is); shows = λ shown account s. shown_in lookings.Delete scan.judging.query shown account s.0 s.1 s.2 s.3 s.4 }
 
 pub hand_is : (looking : Looking) (scan : FindHand) (stage : Stage) → IsHandOf looking scan.judging.query (scan_share stage) (hand_before looking scan stage)
 hand_is looking scan stages.Extent = first_is looking scan.judging.query
