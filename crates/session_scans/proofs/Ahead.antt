@@ -32,9 +32,7 @@ use Rattle.session_scans.proofs.Standing.{LooksThere, ScansAt, pages_show, rests
 -- a scan that has begun needs nothing more
 begins_later : (stage : Stage) (shown : ShownTable) (u : Unseen) (beside : Beside) → stage ≢ stages.Extent → BeginsAt stage shown u beside
 begins_later stages.Extent shown u beside begun = absurd (begun refl)
-begins_later (stages.Map at range) shown u beside begun = tt
-begins_later (stages.Tuple at range spot) shown u beside begun = tt
-begins_later stages.Judged shown u beside begun = tt
+begins_later stage shown u beside begun = tt
 
 scans_rest : {scan : TableScan} → Scans scan ≡ Resting → ⊥
 scans_rest is = cc

@@ -36,7 +36,7 @@ use Rattle.session_scans.proofs.Frames.{promised_on}
 use Rattle.session_scans.proofs.Marked.{marking, marks_so}
 use Rattle.session_scans.proofs.Refusals.{refused_entry}
 use Rattle.session_scans.proofs.Steps.{DidScan, anew_so, refused_so, tells_so}
-use Rattle.session_scans.proofs.Words.{first_shares, promised_is, scan_share, share_is}
+use Rattle.session_scans.proofs.Words.{first_is, hand_is, promised_is, scan_share}
 
 module _ {D : Type 0} (told : D → Told) (laws : LookLaws) (parts : Parts D) (pages : View D) (n : ℕ) (looking : Looking) (before : FindHand) (may : MayScan told parts n looking before)
     (o : Open) (opened : transaction_of parts.transactions.opens n ≡ Some o) (keeps : Keeps told parts.pages pages) (after : FindHand) (point : Point)
@@ -56,7 +56,7 @@ module _ {D : Type 0} (told : D → Told) (laws : LookLaws) (parts : Parts D) (p
   promised_then : (now : Option Hand) (j : JournalState) → j.promised + 1 ≡ parts.journal.promised + hand_share now
       → j.promised + share_of (Some was) (transaction_of old.transactions.opens n) ≡ old.journal.promised + share_of now (transaction_of old.transactions.opens n)
   promised_then now j is = promised_on (transaction_of old.transactions.opens n) (Some was) now j.promised old.journal.promised parts.journal.promised (scan_share before.judging.stage)
-      (share_is looking before before.judging.stage) (promised_is before.judging.stage parts.journal.promised may.promised) is
+      (hand_is looking before before.judging.stage).share (promised_is before.judging.stage parts.journal.promised may.promised) is
 
   -- of the query that it had
   looked : (entries : List Entry) → entries ≡ parts.journal.entries ++ look_entry n after.judging.query ∷ [] → entries ≡ parts.journal.entries ++ look_entry n before.judging.query ∷ []
@@ -83,11 +83,11 @@ module _ {D : Type 0} (told : D → Told) (laws : LookLaws) (parts : Parts D) (p
       as_told answer (stepped.Done (replies.Refused refusals.Memory)) new (record mid { transactions = with_failed parts.transactions n o; journal = new.journal }) answer_is
       (refuses.rest ∙ ap (λ (t : TransactionsState). record mid { transactions = t; journal = new.journal }) (refuses.failed o opened))
       (refused_so told laws old pages n looking before may.fit may.find may.fresh o opened keeps made.ready made.still new.journal (refused new.journal.entries refuses.entries) room
-      (scan_share before.judging.stage) parts.journal.promised (share_is looking before before.judging.stage) (promised_is before.judging.stage parts.journal.promised may.promised) refuses.promised)
+      (scan_share before.judging.stage) parts.journal.promised (hand_is looking before before.judging.stage).share (promised_is before.judging.stage parts.journal.promised may.promised) refuses.promised)
   finished_so answer new (BeginsAnew full answer_is releases) =
       as_told answer (stepped.Undone (stops.Spent (length parts.journal.entries)) (first_hand_of looking after.judging.query)) new (record mid { journal = new.journal }) answer_is releases.rest
       (anew_so told laws old pages n looking before may.fit may.find may.fresh o opened keeps new.journal releases.entries after point made (ahead full) full
-      (promised_then (Some (first_hand_of looking after.judging.query)) new.journal (omega (arith, releases.promised, first_shares looking after.judging.query))))
+      (promised_then (Some (first_hand_of looking after.judging.query)) new.journal (omega (arith, releases.promised, (first_is looking after.judging.query).share))))
 
 -- and no page is changed
 module _ {D : Type 0} (old : Parts D) (n : ℕ) (looking : Looking) (query : Query) (found : List (Row × Spot)) (point : Point) (answer : Stepped) (new : Parts D) where

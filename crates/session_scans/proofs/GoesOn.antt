@@ -17,8 +17,8 @@ use Rattle.transactions.specs.CountedRows.{counts as counts_of}
 use Rattle.transactions.specs.TransactionsState.{TransactionsState}
 use Rattle.coverage.specs.Accounts.{Account, no_account}
 use Rattle.coverage.specs.Machines.{table_state, task_turned}
-use Rattle.coverage.specs.Table.{Resting, Scans, TableScan, TableState, Task}
-use Rattle.coverage.specs.TableSteps.{Stays}
+use Rattle.coverage.specs.Table.{Resting, Scans, TableState, Task}
+use Rattle.coverage.specs.TableSteps.{Onward, Stays}
 use Rattle.coverage.proofs.Views.{pick_same}
 use Rattle.bitmap_scan.specs.declared.stage.Stage.{Stage}
 use Rattle.bitmap_scan.specs.declared.stage.Stage.TheVariants as stages
@@ -46,114 +46,111 @@ use Rattle.session_scans.proofs.Led.{IsInHand, ScanLeft, nothing_entered, place_
 use Rattle.session_scans.proofs.Standing.{LooksThere, ScansAt, account_is, in_hand, pages_show, scans_at, shows, sight}
 use Rattle.session_scans.proofs.Stands.{IsThere}
 use Rattle.session_scans.proofs.Stepped.{MakesStep, stepped}
-use Rattle.session_scans.proofs.Turns.{reads, scan_after, tells_nothing, turns_there}
-use Rattle.session_scans.proofs.Words.{scan_in, scan_is_own, scan_is_shown, scan_no_insert}
+use Rattle.session_scans.proofs.Turns.{between, done, reads, scan_after, tells_nothing, turns_there}
+use Rattle.session_scans.proofs.Words.{scan_is, scan_is_own, scan_is_shown}
 
 -- one that has begun scans
 pub begun_task : (layout : DiskLayout) (stage : Stage) (hand : ScanHand) (beside : Beside) → stage ≢ stages.Extent → task_of layout stage hand beside ≡ Scans (table_scan layout hand beside)
 begun_task layout stages.Extent hand beside apart = absurd (apart refl)
-begun_task layout (stages.Map at range) hand beside apart = refl
-begun_task layout (stages.Tuple at range spot) hand beside apart = refl
-begun_task layout stages.Judged hand beside apart = refl
+begun_task layout stage hand beside apart = refl
 
 -- a step under a scan's point enters nothing
 pub enters_nothing : (p : Place) (n : ℕ) (hand : HandAt) (stage : Stage) → MakesAt (point_at stage) p n hand (course_of p hand)
 enters_nothing p n hand stages.Extent = refl
-enters_nothing p n hand (stages.Map at range) = refl
-enters_nothing p n hand (stages.Tuple at range spot) = refl
-enters_nothing p n hand stages.Judged = refl
+enters_nothing p n hand stage = refl
 
 scan_task : (layout : DiskLayout) (number : ℕ) (blocks : List (List Slot)) (tx : TxState) (stored : List Status) (o : Open) (looking : Looking) (after : FindHand) (task : Task) → after.judging.query.table ≡ number
     → IsScanAt layout blocks (sight_of tx stored o) (deletes_of looking) after task → IsTaskOf layout number blocks tx stored (Some o) (Some (scan_hand_of looking after)) task
 scan_task layout number blocks tx stored o lookings.Select after task is at = ((λ own. at), (λ away. absurd (away is)))
 scan_task layout number blocks tx stored o lookings.Delete after task is at = ((λ own. at), (λ away. absurd (away is)))
 
-module _ (laws : LookLaws) (old new : ShownStore) (n : ℕ) (looking : Looking) (before after : FindHand) (o : Open) (there : LooksThere old n looking before o) (p : Place) (shown : IsPlaceOf old p) where
+-- a step behind which the session has this in hand, which is at that in its table
+module _ (laws : LookLaws) (old new : ShownStore) (n : ℕ) (looking : Looking) (before after : FindHand) (o : Open) (there : LooksThere old n looking before o) (p : Place) (shown : IsPlaceOf old p)
+    (left : ScanLeft old new n old.transactions) (few : length old.entries ≤ MAX_ENTRIES) (same_entries : new.entries ≡ old.entries) (same : after.judging.query ≡ before.judging.query) (point : Point) (named : point ≡ point_at before.judging.stage)
+    (now : ℕ → ℕ → Option Bool) (goes : ScanGoes n (pages_show laws old n looking before o there p shown) (shows laws old n looking before o there p shown).unseen point (account_at before.judging.stage)
+    (scan_after laws old n looking before o there p shown after same now point))
+    (next : Task) (busy : next ≢ Resting) (comes : Onward (between laws old n looking before o there p shown after same now point goes) (Scans (done laws old n looking before o there p shown after same now point goes)) next)
+    (then : Hand) (is : hand_in new.hands n ≡ Some then) (asks : IsNoInsert (Some then)) (is_in : (other : ℕ) → table_in old.layout (Some then) ≡ Some other → other ≡ after.judging.query.table)
+    (task : IsTaskOf old.layout before.judging.query.table (shows laws old n looking before o there p shown).blocks old.transactions.tx shown.database.stored (Some o) (Some then) next)
+    (shows_then : HandShows (Some then) (Some (new_hand (statement_for looking after.judging.query))) no_account)
+    (own : IsOfTransaction (transaction_of new.transactions.opens n) (finite.get (database_at p).sessions n) then) where
+  abbrev number : ℕ
+  number = before.judging.query.table
+
+  abbrev hand : HandAt
+  hand = new_hand (statement_for looking before.judging.query)
+
+  abbrev account : Account
+  account = account_at before.judging.stage (p.accounts n)
+
+  empty : account ≡ no_account
+  empty = tells_nothing before.judging.stage (p.accounts n) (account_is laws old n looking before o there p shown)
+
+  in_hand_then : IsInHand old new n number (shows laws old n looking before o there p shown).blocks shown.database.stored next
+  in_hand_then = record {
+    asks = subst IsNoInsert (sym is) asks;
+    is_in = λ other there_is. is_in other (sym (ap (table_in old.layout) is) ∙ there_is) ∙ ap (λ (q : Query). q.table) same;
+    task = subst (λ (h : Option Hand). IsTaskOf old.layout number (shows laws old n looking before o there p shown).blocks new.transactions.tx shown.database.stored (transaction_of new.transactions.opens n) h next) (sym is)
+        (subst (λ (t : TransactionsState). IsTaskOf old.layout number (shows laws old n looking before o there p shown).blocks t.tx shown.database.stored (transaction_of t.opens n) (Some then) next) (sym left.transactions)
+        (subst (λ (x : Option Open). IsTaskOf old.layout number (shows laws old n looking before o there p shown).blocks old.transactions.tx shown.database.stored x (Some then) next) (sym there.opened) task));
+  }
+
+  leads : LeadsTo old new p n (Some hand) account
+  leads = nothing_entered old new n p shown left same_entries (Some hand) account
+      (subst (λ (h : Option Hand). HandShows h (Some hand) account) (sym is)
+      (subst (λ (a : Account). HandShows (Some then) (Some hand) a) (sym empty)
+      (subst (λ (q : Query). HandShows (Some then) (Some (new_hand (statement_for looking q))) no_account) same shows_then)))
+      (λ h here. subst (λ (x : Hand). IsOfTransaction (transaction_of new.transactions.opens n) (finite.get (database_at p).sessions n) x) (same_Some then h (sym is ∙ here)) own)
+
+  pub moves_on : (q : Place) × IsPlaceOf new q × Steps p n (Moved point) q
+  moves_on =
+      let turns = turns_there laws old n looking before o there p shown after same now point goes next comes (λ is_prune. reads before.judging.stage (sym named ∙ is_prune)) in
+      let v : TableState = table_state (pages_show laws old n looking before o there p shown) (task_turned n next (shows laws old n looking before o there p shown).unseen) in
+      let counts : ℕ → Bool = counts_of new.transactions shown.database.stored in (
+        place_after p n number (Some hand) v account counts new.entries,
+        place_shown laws old new n looking before o there p shown left next (Some hand) account in_hand_then leads turns.0 empty,
+        record {
+          hand = hand;
+          in_hand = in_hand laws old n looking before o there p shown;
+          steps = subst (λ (e : List Entry). StepsTo p n hand (Moved point) (place_after p n number (Some hand) v account counts e)) (shown.journal ∙ sym same_entries)
+              (turn_goes_on p n number hand v account counts point (course_of p hand) turns.0 turns.1
+              (λ rests. busy (sym (pick_same n next ((shows laws old n looking before o there p shown).unseen.task n)) ∙ rests))
+              (subst (λ (q : Point). MakesAt q p n hand (course_of p hand)) (sym named) (enters_nothing p n hand before.judging.stage)));
+          fits = subst (λ (e : List Entry). length e ≤ MAX_ENTRIES) (sym same_entries) few;
+        },
+      )
+
+-- the scan goes on
+module _ (laws : LookLaws) (old new : ShownStore) (n : ℕ) (looking : Looking) (before after : FindHand) (o : Open) (there : LooksThere old n looking before o) (p : Place) (shown : IsPlaceOf old p)
+    (left : ScanLeft old new n old.transactions) (few : length old.entries ≤ MAX_ENTRIES) (same_entries : new.entries ≡ old.entries) (same : after.judging.query ≡ before.judging.query)
+    (point : Point) (named : point ≡ point_at before.judging.stage) (steps : MakesStep laws old n looking before after o there p shown (did.Moved point)) (begun : after.judging.stage ≢ stages.Extent)
+    (is : hand_in new.hands n ≡ Some (scan_hand_of looking after))
+    (stand : All (IsThere before.judging.query.table (shows laws old n looking before o there p shown).blocks) after.found) (remembers : Remembers (sight laws old n looking before o there p shown) after.last) where
   abbrev at : ScansAt old.layout (pages_show laws old n looking before o there p shown) (shows laws old n looking before o there p shown).unseen n (shows laws old n looking before o there p shown).blocks
       (sight laws old n looking before o there p shown) (deletes_of looking) before
   at = scans_at laws old n looking before o there p shown
 
-  module _ (left : ScanLeft old new n) (few : length old.entries ≤ MAX_ENTRIES) (same_entries : new.entries ≡ old.entries) (same : after.judging.query ≡ before.judging.query)
-      (point : Point) (named : point ≡ point_at before.judging.stage) (steps : MakesStep laws old n looking before after o there p shown (did.Moved point)) (begun : after.judging.stage ≢ stages.Extent)
-      (is : hand_in new.hands n ≡ Some (scan_hand_of looking after))
-      (stand : All (IsThere before.judging.query.table (shows laws old n looking before o there p shown).blocks) after.found) (remembers : Remembers (sight laws old n looking before o there p shown) after.last) where
-    abbrev number : ℕ
-    number = before.judging.query.table
+  abbrev now : ℕ → ℕ → Option Bool
+  now = (stepped laws old n looking before after o there p shown (did.Moved point) steps).0
 
-    abbrev hand : HandAt
-    hand = new_hand (statement_for looking before.judging.query)
+  abbrev next : Task
+  next = Scans (scan_after laws old n looking before o there p shown after same now point)
 
-    abbrev account : Account
-    account = account_at before.judging.stage (p.accounts n)
+  scans_then : IsScanAt old.layout (shows laws old n looking before o there p shown).blocks (sight laws old n looking before o there p shown) (deletes_of looking) after next
+  scans_then = record {
+    begun = begun;
+    sees = at.sees;
+    judged = now;
+    task_is = sym (begun_task old.layout after.judging.stage after.judging (scanning at.sees now (deletes_of looking) after) begun);
+    now = at.now;
+    stand = subst (λ (q : Query). All (IsThere q.table (shows laws old n looking before o there p shown).blocks) after.found) (sym same) stand;
+    remembers = remembers;
+  }
 
-    abbrev now : ℕ → ℕ → Option Bool
-    now = (stepped laws old n looking before after o there p shown (did.Moved point) steps).0
-
-    abbrev goes : ScanGoes n (pages_show laws old n looking before o there p shown) (shows laws old n looking before o there p shown).unseen point (account_at before.judging.stage)
-        (scan_after laws old n looking before o there p shown after same now point)
-    goes = (stepped laws old n looking before after o there p shown (did.Moved point) steps).1.0
-
-    abbrev next : Task
-    next = Scans (scan_after laws old n looking before o there p shown after same now point)
-
-    empty : account ≡ no_account
-    empty = tells_nothing before.judging.stage (p.accounts n) (account_is laws old n looking before o there p shown)
-
-    scans_then : IsScanAt old.layout (shows laws old n looking before o there p shown).blocks (sight laws old n looking before o there p shown) (deletes_of looking) after next
-    scans_then = record {
-      begun = begun;
-      sees = at.sees;
-      judged = now;
-      task_is = sym (begun_task old.layout after.judging.stage after.judging (scanning at.sees now (deletes_of looking) after) begun);
-      now = at.now;
-      stand = subst (λ (q : Query). All (IsThere q.table (shows laws old n looking before o there p shown).blocks) after.found) (sym same) stand;
-      remembers = remembers;
-    }
-
-    task_then : IsTaskOf old.layout number (shows laws old n looking before o there p shown).blocks new.transactions.tx shown.database.stored (transaction_of new.transactions.opens n) (hand_in new.hands n) next
-    task_then = subst (λ (h : Option Hand). IsTaskOf old.layout number (shows laws old n looking before o there p shown).blocks new.transactions.tx shown.database.stored (transaction_of new.transactions.opens n) h next) (sym is)
-        (subst (λ (t : TransactionsState). IsTaskOf old.layout number (shows laws old n looking before o there p shown).blocks t.tx shown.database.stored (transaction_of t.opens n) (Some (scan_hand_of looking after)) next) (sym left.transactions)
-        (subst (λ (x : Option Open). IsTaskOf old.layout number (shows laws old n looking before o there p shown).blocks old.transactions.tx shown.database.stored x (Some (scan_hand_of looking after)) next) (sym there.opened)
-        (scan_task old.layout number (shows laws old n looking before o there p shown).blocks old.transactions.tx shown.database.stored o looking after next (ap (λ (q : Query). q.table) same) scans_then)))
-
-    in_hand_then : IsInHand old new n number (shows laws old n looking before o there p shown).blocks shown.database.stored next
-    in_hand_then = record {
-      asks = subst IsNoInsert (sym is) (scan_no_insert looking after);
-      is_in = λ other there_is. scan_in old.layout other looking after (sym (ap (table_in old.layout) is) ∙ there_is) ∙ ap (λ (q : Query). q.table) same;
-      task = task_then;
-    }
-
-    shows_then : HandShows (hand_in new.hands n) (Some hand) account
-    shows_then = subst (λ (h : Option Hand). HandShows h (Some hand) account) (sym is)
-        (subst (λ (a : Account). HandShows (Some (scan_hand_of looking after)) (Some hand) a) (sym empty)
-        (subst (λ (q : Query). HandShows (Some (scan_hand_of looking after)) (Some (new_hand (statement_for looking q))) no_account) same (scan_is_shown looking after)))
-
-    leads : LeadsTo old new p n (Some hand) account
-    leads = nothing_entered old new n p shown left same_entries (Some hand) account shows_then
-        (λ h here. subst (λ (x : Hand). IsOfTransaction (transaction_of new.transactions.opens n) (finite.get (database_at p).sessions n) x)
-        (same_Some (scan_hand_of looking after) h (sym is ∙ here)) (scan_is_own (transaction_of new.transactions.opens n) (finite.get (database_at p).sessions n) looking after))
-
-    entries_are : p.journal ≡ new.entries
-    entries_are = shown.journal ∙ sym same_entries
-
-    busy : {scan : TableScan} → Scans scan ≡ Resting → ⊥
-    busy rests = cc
-
-    pub scan_goes_on : (q : Place) × IsPlaceOf new q × Steps p n (Moved point) q
-    scan_goes_on =
-        let comes = goes.onward next (Stays next (stepped laws old n looking before after o there p shown (did.Moved point) steps).1.1) in
-        let turns = turns_there laws old n looking before o there p shown after same now point goes next comes (λ is_prune. reads before.judging.stage (sym named ∙ is_prune)) in
-        let v : TableState = table_state (pages_show laws old n looking before o there p shown) (task_turned n next (shows laws old n looking before o there p shown).unseen) in
-        let counts : ℕ → Bool = counts_of new.transactions shown.database.stored in (
-          place_after p n number (Some hand) v account counts new.entries,
-          place_shown laws old new n looking before o there p shown left next (Some hand) account in_hand_then leads turns.0 empty,
-          record {
-            hand = hand;
-            in_hand = in_hand laws old n looking before o there p shown;
-            steps = subst (λ (e : List Entry). StepsTo p n hand (Moved point) (place_after p n number (Some hand) v account counts e)) entries_are
-                (turn_goes_on p n number hand v account counts point (course_of p hand) turns.0 turns.1
-                (λ rests. busy (sym (pick_same n next ((shows laws old n looking before o there p shown).unseen.task n)) ∙ rests))
-                (subst (λ (q : Point). MakesAt q p n hand (course_of p hand)) (sym named) (enters_nothing p n hand before.judging.stage)));
-            fits = subst (λ (e : List Entry). length e ≤ MAX_ENTRIES) (sym same_entries) few;
-          },
-        )
+  pub scan_goes_on : (q : Place) × IsPlaceOf new q × Steps p n (Moved point) q
+  scan_goes_on =
+      let made = (stepped laws old n looking before after o there p shown (did.Moved point) steps).1 in
+      moves_on laws old new n looking before after o there p shown left few same_entries same point named now made.0 next (λ rests. cc) (made.0.onward next (Stays next made.1))
+      (scan_hand_of looking after) is (scan_is looking after).asks ((scan_is looking after).in_table old.layout)
+      (scan_task old.layout before.judging.query.table (shows laws old n looking before o there p shown).blocks old.transactions.tx shown.database.stored o looking after next (ap (λ (q : Query). q.table) same) scans_then)
+      (scan_is_shown looking after) (scan_is_own (transaction_of new.transactions.opens n) (finite.get (database_at p).sessions n) looking after)

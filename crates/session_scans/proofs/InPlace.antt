@@ -1,5 +1,5 @@
 -- a scan in the hand that it stays in
-use Rattle.std.proofs.Common.{◌≡◌, ◌≢◌, ℕ, List, Option, None, Some, refl, sym, ap, ◌∙◌, subst}
+use Rattle.std.proofs.Common.{◌≡◌, ℕ, List, Option, None, Some, refl, sym, ap, ◌∙◌, subst}
 use Rattle.std.specs.Prelude.{IfSome, IsSome}
 use Rattle.std.proofs.lemmas.Option.{same_Some}
 use Rattle.disk_trait.specs.Told.{Told}
@@ -22,7 +22,7 @@ use Rattle.session_scans.specs.declared.scanning.Scanned.TheVariants as scanned
 use Rattle.session_scans.specs.Finishes.{Finishes}
 use Rattle.session_scans.specs.Looks.{IsInScan, OfScan, hand_before, scan_hand_of, scan_of}
 use Rattle.session_scans.specs.ScanSteps.{MayScan, ScanStepsSo, parts_before}
-use Rattle.session_scans.specs.ScansInPlace.{DoesScan, DoesScanIn, RunsShort}
+use Rattle.session_scans.specs.ScansInPlace.{DoesScan, DoesScanIn}
 
 -- ---- which scan it is
 
@@ -49,16 +49,10 @@ module _ (looking : Looking) (hand : Hand) where
 -- a select's hand is of a select, and a delete's of a delete
 pub of_select : (looking : Looking) (hand : Hand) (scan : FindHand) → IsInScan looking hand → hand ≡ hands.Selects scan → (other : FindHand) → hands.Selects other ≡ scan_hand_of looking other
 of_select lookings.Select hand scan in_scan is other = refl
-of_select lookings.Delete hand scan in_scan is other = absurd (apart (sym is ∙ in_scan.1))
-  where
-    apart : hands.Selects scan ≢ hands.Deletes in_scan.0
-    apart is = cc
+of_select lookings.Delete hand scan in_scan is other = let both : hands.Selects scan ≡ hands.Deletes in_scan.0 = sym is ∙ in_scan.1 in absurd cc
 
 pub of_delete : (looking : Looking) (hand : Hand) (scan : FindHand) → IsInScan looking hand → hand ≡ hands.Deletes scan → (other : FindHand) → hands.Deletes other ≡ scan_hand_of looking other
-of_delete lookings.Select hand scan in_scan is other = absurd (apart (sym is ∙ in_scan.1))
-  where
-    apart : hands.Deletes scan ≢ hands.Selects in_scan.0
-    apart is = cc
+of_delete lookings.Select hand scan in_scan is other = let both : hands.Deletes scan ≡ hands.Selects in_scan.0 = sym is ∙ in_scan.1 in absurd cc
 of_delete lookings.Delete hand scan in_scan is other = refl
 
 -- ---- its step
@@ -73,47 +67,38 @@ module _ {D : Type 0} (told : D → Told) (old new : Parts D) (n : ℕ) (looking
     pub still_in : IsInScan looking was → IsInScan looking now
     still_in in_scan = let it = does in_scan.0 in_scan.1 in (it.0, it.1)
 
+    -- where this is the answer
+    its : (other : Scanned) → answer ≡ other → (scan : FindHand) → was ≡ scan_hand_of looking scan → (after : FindHand) × (now ≡ scan_hand_of looking after) × DoesScan told old new n looking scan after other
+    its other is scan was_is = let it = does scan was_is in (it.0, it.1, subst (λ (a : Scanned). DoesScan told old new n looking scan it.0 a) is it.2)
+
     pub moved_in : (point : Point) → answer ≡ scanned.Moved point → OfScan looking was (λ scan. ScanStepsSo told old new n looking scan (stepped.Moved point now))
-    moved_in point is scan was_is =
-        let it = does scan was_is in
-        subst (λ (h : Hand). ScanStepsSo told old new n looking scan (stepped.Moved point h)) (sym it.1)
-        (subst (λ (a : Scanned). DoesScan told old new n looking scan it.0 a) is it.2)
+    moved_in point is scan was_is = let it = its (scanned.Moved point) is scan was_is in subst (λ (h : Hand). ScanStepsSo told old new n looking scan (stepped.Moved point h)) (sym it.1) it.2
 
     pub finished_in : (point : Point) → answer ≡ scanned.Finished point → (then : Parts D) (came : Stepped)
         → OfScan looking now (λ scan. Finishes new n looking scan.judging.query scan.found point came then) → OfScan looking was (λ scan. ScanStepsSo told old then n looking scan came)
-    finished_in point is then came finishes scan was_is =
-        let it = does scan was_is in
-        subst (λ (a : Scanned). DoesScan told old new n looking scan it.0 a) is it.2 came then (finishes it.0 it.1)
+    finished_in point is then came finishes scan was_is = let it = its (scanned.Finished point) is scan was_is in it.2 came then (finishes it.0 it.1)
 
     module _ (is : answer ≡ scanned.Short) where
       pub may_still_in : IsInScan looking was → OfScan looking now (λ scan. MayScan told new n looking scan)
       may_still_in in_scan other now_is =
-          let it = does in_scan.0 in_scan.1 in
-          let short : RunsShort told old new n looking in_scan.0 it.0 = subst (λ (a : Scanned). DoesScan told old new n looking in_scan.0 it.0 a) is it.2 in
-          subst (λ (s : FindHand). MayScan told new n looking s) (sym short.same ∙ one_scan looking now it.0 other it.1 now_is) short.may
+          let it = its scanned.Short is in_scan.0 in_scan.1 in
+          subst (λ (s : FindHand). MayScan told new n looking s) (sym it.2.same ∙ one_scan looking now it.0 other it.1 now_is) it.2.may
 
       pub still_ready : IsInScan looking was → new.pages.failed ≡ None
-      still_ready in_scan =
-          let it = does in_scan.0 in_scan.1 in
-          let short : RunsShort told old new n looking in_scan.0 it.0 = subst (λ (a : Scanned). DoesScan told old new n looking in_scan.0 it.0 a) is it.2 in
-          short.ready
+      still_ready in_scan = (its scanned.Short is in_scan.0 in_scan.1).2.ready
 
       pub short_in : (then : Parts D) (came : Stepped) → OfScan looking now (λ scan. ScanStepsSo told new then n looking scan came) → OfScan looking was (λ scan. ScanStepsSo told old then n looking scan came)
       short_in then came so scan was_is =
-          let it = does scan was_is in
-          let short : RunsShort told old new n looking scan it.0 = subst (λ (a : Scanned). DoesScan told old new n looking scan it.0 a) is it.2 in
-          short.so came then (subst (λ (s : FindHand). ScanStepsSo told new then n looking s came) short.same (so it.0 it.1))
+          let it = its scanned.Short is scan was_is in
+          it.2.so came then (subst (λ (s : FindHand). ScanStepsSo told new then n looking s came) it.2.same (so it.0 it.1))
 
     pub undone_in : (fault : StoreFault) → answer ≡ scanned.Undone fault → (then : Parts D) (left : Hand) → OfScan looking now (λ scan. left ≡ hand_before looking scan scan.judging.stage)
         → OfScan looking now (λ scan. then ≡ parts_before scan.judging.stage new) → OfScan looking was (λ scan. ScanStepsSo told old then n looking scan (stepped.Undone fault left))
     undone_in fault is then left left_is then_is scan was_is =
-        let it = does scan was_is in
-        let undone : (it.0 ≡ scan) × ScanStepsSo told old (parts_before scan.judging.stage new) n looking scan (stepped.Undone fault (hand_before looking scan scan.judging.stage)) =
-        subst (λ (a : Scanned). DoesScan told old new n looking scan it.0 a) is it.2 in
-        let left_was : left ≡ hand_before looking scan scan.judging.stage = left_is it.0 it.1 ∙ ap (λ (s : FindHand). hand_before looking s s.judging.stage) undone.0 in
-        let then_was : then ≡ parts_before scan.judging.stage new = then_is it.0 it.1 ∙ ap (λ (s : FindHand). parts_before s.judging.stage new) undone.0 in
-        subst (λ (h : Hand). ScanStepsSo told old then n looking scan (stepped.Undone fault h)) (sym left_was)
-        (subst (λ (p : Parts D). ScanStepsSo told old p n looking scan (stepped.Undone fault (hand_before looking scan scan.judging.stage))) (sym then_was) undone.1)
+        let it = its (scanned.Undone fault) is scan was_is in
+        subst (λ (h : Hand). ScanStepsSo told old then n looking scan (stepped.Undone fault h)) (sym (left_is it.0 it.1 ∙ ap (λ (s : FindHand). hand_before looking s s.judging.stage) it.2.0))
+        (subst (λ (p : Parts D). ScanStepsSo told old p n looking scan (stepped.Undone fault (hand_before looking scan scan.judging.stage)))
+        (sym (then_is it.0 it.1 ∙ ap (λ (s : FindHand). parts_before s.judging.stage new) it.2.0)) it.2.1)
 
 -- ---- its last step
 

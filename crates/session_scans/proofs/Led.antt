@@ -38,13 +38,13 @@ use Rattle.session_scans.specs.declared.looking.Looking.{Looking}
 use Rattle.session_scans.specs.LookLaws.{LookLaws}
 use Rattle.session_scans.specs.Looks.{statement_for}
 use Rattle.session_scans.proofs.Standing.{LooksThere, shows, account_is}
-use Rattle.session_scans.proofs.Words.{in_table}
+use Rattle.session_scans.proofs.Words.{hand_is}
 
--- a step of the scan changed nothing but the journal and what the session has in hand
-pub record ScanLeft (old new : ShownStore) (n : ℕ) : Type 0 where
+-- a step of the scan changed nothing but the journal, what the session has in hand, and perhaps its transaction
+pub record ScanLeft (old new : ShownStore) (n : ℕ) (tx : TransactionsState) : Type 0 where
   pub others : LeavesOthers n old new
   pub pages : new.pages ≡ old.pages
-  pub transactions : new.transactions ≡ old.transactions
+  pub transactions : new.transactions ≡ tx
   pub locks : new.locks ≡ old.locks
   pub rights : new.rights ≡ old.rights
   pub queue : new.queue ≡ old.queue
@@ -62,7 +62,7 @@ pub order_stays : (old new : ShownStore) → new.pages ≡ old.pages → (index 
 order_stays old new same index ordered = subst (λ (m : PageMap). IsIndexInOrder old.layout.sizes.index_blocks (index_page old.layout m index)) (sym same) ordered
 
 -- nothing is entered
-pub nothing_entered : (old new : ShownStore) (n : ℕ) (p : Place) → IsPlaceOf old p → ScanLeft old new n → new.entries ≡ old.entries → (at : Option HandAt) (account : Account) → HandShows (hand_in new.hands n) at account
+pub nothing_entered : (old new : ShownStore) (n : ℕ) (p : Place) → IsPlaceOf old p → ScanLeft old new n old.transactions → new.entries ≡ old.entries → (at : Option HandAt) (account : Account) → HandShows (hand_in new.hands n) at account
     → ((hand : Hand) → hand_in new.hands n ≡ Some hand → IsOfTransaction (transaction_of new.transactions.opens n) (finite.get (database_at p).sessions n) hand) → LeadsTo old new p n at account
 nothing_entered old new n p shown left same at account hand own =
     let same_entries : new.entries ≡ p.journal = same ∙ sym shown.journal in
@@ -78,7 +78,19 @@ nothing_entered old new n p shown left same at account hand own =
       order = λ index below ordered. order_stays old new left.pages index ordered;
     }
 
-module _ (laws : LookLaws) (old new : ShownStore) (n : ℕ) (looking : Looking) (before : FindHand) (o : Open) (there : LooksThere old n looking before o) (p : Place) (shown : IsPlaceOf old p) (left : ScanLeft old new n)
+-- it takes place in the table of its query alone
+pub in_its_table : (old new : ShownStore) (n : ℕ) (looking : Looking) (before : FindHand) (o : Open) (tx : TransactionsState) → LooksThere old n looking before o → ScanLeft old new n tx
+    → ((other : ℕ) → table_in old.layout (hand_in new.hands n) ≡ Some other → other ≡ before.judging.query.table) → StepsInTable n before.judging.query.table old new
+in_its_table old new n looking before o tx there left is_in = record {
+  below = there.find.judging.table;
+  pages = λ place apart. ap (λ (m : PageMap). page_at m place) left.pages;
+  locks = SameLocks left.locks;
+  rights = λ other apart. ap (λ (r : List (Option ℕ)). right_of r other) left.rights;
+  was_in = λ other is. (hand_is looking before before.judging.stage).in_table old.layout other (sym (ap (table_in old.layout) there.was) ∙ is);
+  is_in = is_in;
+}
+
+module _ (laws : LookLaws) (old new : ShownStore) (n : ℕ) (looking : Looking) (before : FindHand) (o : Open) (there : LooksThere old n looking before o) (p : Place) (shown : IsPlaceOf old p) (left : ScanLeft old new n old.transactions)
     (next : Task) (at : Option HandAt) (account : Account) (in_hand : IsInHand old new n before.judging.query.table (shows laws old n looking before o there p shown).blocks shown.database.stored next) (leads : LeadsTo old new p n at account) where
   abbrev number : ℕ
   number = before.judging.query.table
@@ -95,16 +107,6 @@ module _ (laws : LookLaws) (old new : ShownStore) (n : ℕ) (looking : Looking) 
   abbrev pub after : TableState
   after = table_state (shown_by old.layout old.pages old.locks number here.blocks) u
 
-  steps_in : StepsInTable n number old new
-  steps_in = record {
-    below = there.find.judging.table;
-    pages = λ place apart. ap (λ (m : PageMap). page_at m place) left.pages;
-    locks = SameLocks left.locks;
-    rights = λ other apart. ap (λ (r : List (Option ℕ)). right_of r other) left.rights;
-    was_in = λ other is. in_table old.layout other looking before before.judging.stage (sym (ap (table_in old.layout) there.was) ∙ is);
-    is_in = in_hand.is_in;
-  }
-
   module _ (turns : TurnsIn p n (statement_for looking before.judging.query) number after account) where
     own_table : ShowsTable new stored number after
     own_table = own_table_goes_on old new stored n number (p.tables number) after u here.blocks here left.others turns.step
@@ -120,6 +122,6 @@ module _ (laws : LookLaws) (old new : ShownStore) (n : ℕ) (looking : Looking) 
     led = place_after p n number at after account (counts_of new.transactions stored) new.entries
 
     pub place_shown : account ≡ no_account → IsPlaceOf new led
-    place_shown empty = table_step_is_shown old new p n number at after account shown left.others steps_in
+    place_shown empty = table_step_is_shown old new p n number at after account shown left.others (in_its_table old new n looking before o old.transactions there left in_hand.is_in)
         (same_counts_few old new stored stored (λ t. ap (λ (x : TransactionsState). counts_of x stored t) left.transactions)) leads own_table
         (record { queue = left.queue; dropped = left.dropped; told = ap (λ (a : Account). a.dropped) (empty ∙ sym (account_is laws old n looking before o there p shown)); hand = in_hand.asks })

@@ -46,7 +46,11 @@ use Rattle.session_scans.proofs.Mays.{behind, may_still}
 use Rattle.session_scans.proofs.Short.{is_spent, its_open}
 use Rattle.session_scans.proofs.Standing.{LooksThere, scans_at}
 use Rattle.session_scans.proofs.Steps.{DidScan, NotDamaged, moved_so, there, undone_so}
-use Rattle.session_scans.proofs.Words.{promised_is, scan_share, scan_shares, share_is}
+use Rattle.session_scans.proofs.Words.{hand_is, promised_is, scan_is, scan_share}
+
+-- the damage that a step may tell
+abbrev pub IsDamagedThere : {D : Type 0} → (D → Told) → Parts D → FindHand → Type 0
+IsDamagedThere told parts scan = Tells told parts.pages → IsDamagedAt parts.pages.layout parts.pages.pages scan.judging.indexes scan.judging.stage
 
 -- ---- what a step is done or refused by, whatever is next
 
@@ -125,7 +129,7 @@ module _ {D : Type 0} (told : D → Told) (laws : LookLaws) (parts : Parts D) (n
     goes_on o opened after point made =
         moved_so told laws old pages n looking scan may.fit may.find may.fresh o opened keeps parts.journal refl after point made
         (promised_on (transaction_of parts.transactions.opens n) (Some was) (Some (scan_hand_of looking after)) parts.journal.promised old.journal.promised parts.journal.promised (scan_share scan.judging.stage)
-        (share_is looking scan scan.judging.stage) (promised_is scan.judging.stage parts.journal.promised may.promised) (ap (λ (k : ℕ). parts.journal.promised + k) (sym (scan_shares looking after))))
+        (hand_is looking scan scan.judging.stage).share (promised_is scan.judging.stage parts.journal.promised may.promised) (ap (λ (k : ℕ). parts.journal.promised + k) (sym ((scan_is looking after).share))))
 
     -- what the look found of its next step
     pub next_then : (after : FindHand) → after ≡ scan → (does : Point → Did) → (Tells told parts.pages → NextIs parts.pages.layout parts.pages.pages scan does) → Tells told pages → NextIs pages.layout pages.pages after does
@@ -144,7 +148,7 @@ module _ {D : Type 0} (told : D → Told) (laws : LookLaws) (parts : Parts D) (n
 
       -- the pages refuse it
       pub refused_by_pages : NotDamaged → IsHand scan.judging → (error : StoreError) → fault ≡ fault_of error
-          → Refused told (Tells told parts.pages → IsDamagedAt parts.pages.layout parts.pages.pages scan.judging.indexes scan.judging.stage) parts.pages pages error → NamesAPage parts.pages.layout error
+          → Refused told (IsDamagedThere told parts scan) parts.pages pages error → NamesAPage parts.pages.layout error
           → ScanStepsSo told parts (parts_before scan.judging.stage mid) n looking scan (stepped.Undone fault was)
       refused_by_pages law known error is refused names =
           let its : (o : Open) × (transaction_of parts.transactions.opens n ≡ Some o) = its_open told laws old n looking scan may.fit may.find may.fresh ready in

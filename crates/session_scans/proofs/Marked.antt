@@ -35,10 +35,10 @@ use Rattle.session_scans.specs.FoundLists.{ListsHits, hit_of}
 use Rattle.session_scans.specs.LookLaws.{LookLaws}
 use Rattle.session_scans.specs.Looks.{hand_before}
 use Rattle.session_scans.specs.ScanSteps.{IsFresh}
-use Rattle.session_scans.proofs.Frames.{LeavesParts, leaves_others, stays_fit}
+use Rattle.session_scans.proofs.Frames.{made_so}
 use Rattle.session_scans.proofs.Marking.{goes_to_marks}
 use Rattle.session_scans.proofs.Steps.{DidScan, few, fits, left, left_parts, look, stand_there, steps_there, store, store_then, there}
-use Rattle.session_scans.proofs.Words.{statement_is}
+use Rattle.session_scans.proofs.Words.{hand_is}
 
 module _ {D : Type 0} (told : D → Told) (laws : LookLaws) (old : Parts D) (pages : View D) (n : ℕ) (before : FindHand) (find : IsFindOf old.pages.layout before)
     (fresh : before.judging.stage ≡ stages.Extent → IsFresh before) (o : Open) (opened : transaction_of old.transactions.opens n ≡ Some o) (keeps : Keeps told old.pages pages)
@@ -68,26 +68,20 @@ module _ {D : Type 0} (told : D → Told) (laws : LookLaws) (old : Parts D) (pag
 
     module _ (promised : j.promised + share_of (Some (hand_before lookings.Delete before before.judging.stage)) (transaction_of old.transactions.opens n)
         ≡ old.journal.promised + share_of (Some (hands.Marks marking)) (transaction_of old.transactions.opens n)) where
-      marks_left : LeavesParts told old (record old { pages = pages; journal = j }) n (hand_before lookings.Delete before before.judging.stage) (Some (hands.Marks marking))
-      marks_left = left_parts told laws old pages n lookings.Delete before fit find fresh o opened keeps j (Some (hands.Marks marking)) fits_marks refl
-          (few told laws old pages n lookings.Delete before fit find fresh o opened keeps j same_entries) promised
-
       delete_marks : StepsSo told old (record old { pages = pages; journal = j }) n (hand_before lookings.Delete before before.judging.stage) (stepped.Moved point (hands.Marks marking))
-      delete_marks = record {
-        steps = λ names hands_ is tells first last p shown.
-            goes_to_marks laws (store told laws old pages n lookings.Delete before fit find fresh o opened keeps names hands_ is)
-            (store_then told laws old pages n lookings.Delete before fit find fresh o opened keeps names hands_ is j (Some (hands.Marks marking))) n before after o
-            (there told laws old pages n lookings.Delete before fit find fresh o opened keeps names hands_ is) p shown
-            (left told laws old pages n lookings.Delete before fit find fresh o opened keeps names hands_ is tells j (Some (hands.Marks marking)))
-            (fits told laws old pages n lookings.Delete before fit find fresh o opened keeps).entries same_entries made.same point made.point.0
-            (steps_there told laws old pages n lookings.Delete before fit find fresh o opened keeps names hands_ is tells p shown after (did.Finished point) made)
-            (stand_there told laws old pages n lookings.Delete before fit find fresh o opened keeps names hands_ is tells p shown after (did.Finished point) made) ascend hits copy lists some
-            (hand_changes hands_ n (hand_before lookings.Delete before before.judging.stage) (Some (hands.Marks marking)) is).own;
-        fit = stays_fit told old (record old { pages = pages; journal = j }) n (hand_before lookings.Delete before before.judging.stage) (Some (hands.Marks marking)) marks_left (stepped.Moved point (hands.Marks marking)) refl;
-        others = leaves_others told old (record old { pages = pages; journal = j }) n (hand_before lookings.Delete before before.judging.stage) (Some (hands.Marks marking)) marks_left (stepped.Moved point (hands.Marks marking)) refl;
-        stays = λ names hands_ is. ap statements.Delete made.same ∙ sym (statement_is lookings.Delete before before.judging.stage);
-        cause = (made.ready, made.still);
-      }
+      delete_marks = made_so told old pages old.transactions j n (hand_before lookings.Delete before before.judging.stage) (Some (hands.Marks marking))
+          (left_parts told laws old pages n lookings.Delete before fit find fresh o opened keeps j (Some (hands.Marks marking)) fits_marks refl
+          (few told laws old pages n lookings.Delete before fit find fresh o opened keeps j same_entries) promised) (stepped.Moved point (hands.Marks marking)) refl
+          (λ names hands_ is tells first last p shown.
+          goes_to_marks laws (store told laws old pages n lookings.Delete before fit find fresh o opened keeps names hands_ is)
+          (store_then told laws old pages n lookings.Delete before fit find fresh o opened keeps names hands_ is j (Some (hands.Marks marking))) n before after o
+          (there told laws old pages n lookings.Delete before fit find fresh o opened keeps names hands_ is) p shown
+          (left told laws old pages n lookings.Delete before fit find fresh o opened keeps names hands_ is tells j (Some (hands.Marks marking)))
+          (fits told laws old pages n lookings.Delete before fit find fresh o opened keeps).entries same_entries made.same point made.point.0
+          (steps_there told laws old pages n lookings.Delete before fit find fresh o opened keeps names hands_ is tells p shown after (did.Finished point) made)
+          (stand_there told laws old pages n lookings.Delete before fit find fresh o opened keeps names hands_ is tells p shown after (did.Finished point) made) ascend hits copy lists some
+          (hand_changes hands_ n (hand_before lookings.Delete before before.judging.stage) (Some (hands.Marks marking)) is).own)
+          (λ names hands_ is. ap statements.Delete made.same ∙ sym (hand_is lookings.Delete before before.judging.stage).statement) (made.ready, made.still)
 
   -- where the statement is a delete
   pub marks_so : (looking : Looking) → looking ≡ lookings.Delete → (fit : IsFit told old n (hand_before looking before before.judging.stage))

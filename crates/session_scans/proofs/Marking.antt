@@ -1,5 +1,5 @@
 -- the last step of a delete's scan, behind which it goes on to mark what it found
-use Rattle.std.proofs.Common.{◌≡◌, ℕ, ◌<◌, ◌≤◌, Bool, List, [], ◌∷◌, length, Option, Some, All, refl, sym, ap, subst, ◌∙◌, arith}
+use Rattle.std.proofs.Common.{◌≡◌, ℕ, ◌<◌, ◌≤◌, List, [], ◌∷◌, length, Option, Some, All, refl, sym, ap, subst, ◌∙◌, arith}
 use Rattle.std.specs.Prelude.{IsTrue}
 use Rattle.std.specs.Global.{Vec}
 use Rattle.std.specs.Cmp.{eq_by_cmp_equiv}
@@ -11,7 +11,6 @@ use Rattle.std.proofs.lemmas.Map.Keys.{IsDistinct-IsPermutation}
 use Rattle.std.proofs.lemmas.Option.{same_Some}
 use Rattle.block_model.specs.declared.place.Spot.{Spot}
 use Rattle.block_model.specs.declared.reply.Point.{Point}
-use Rattle.block_model.specs.declared.request.Entry.{Entry}
 use Rattle.block_model.specs.declared.row.Query.{Query}
 use Rattle.block_model.specs.declared.row.Row.{Row}
 use Rattle.block_model.specs.declared.row.RowId.{RowId}
@@ -24,48 +23,38 @@ use Rattle.heap_rows.specs.RowPlaces.{slot_at}
 use Rattle.store_layout.specs.declared.limits.TheConstants.{MAX_ENTRIES}
 use Rattle.store_layout.specs.declared.statement.Statement.TheVariants as statements
 use Rattle.snapshot_core.specs.declared.sessions.Open.{Open}
-use Rattle.snapshot_core.specs.StoredVersions.{transaction_of}
-use Rattle.transactions.specs.CountedRows.{counts as counts_of}
-use Rattle.transactions.specs.TransactionsState.{TransactionsState}
-use Rattle.coverage.specs.Accounts.{Account, no_account}
 use Rattle.coverage.specs.Machines.{table_state, task_turned}
 use Rattle.coverage.specs.RowOrder.{AreInOrder, IsAmong}
-use Rattle.coverage.specs.Table.{Marks, Resting, Scans, TableScan, TableState, Task}
+use Rattle.coverage.specs.Table.{Marks, Scans, TableScan, TableState, Task}
 use Rattle.coverage.specs.TableSteps.{ListsFound, Onward, ToMarks}
-use Rattle.coverage.proofs.Views.{pick_same}
 use Rattle.bitmap_scan.specs.Finds as scans
 use Rattle.bitmap_scan.specs.Finds.{FindHand, is_found}
-use Rattle.bitmap_scan.specs.ScanSteps.{account_at, point_at}
+use Rattle.bitmap_scan.specs.ScanSteps.{point_at}
 use Rattle.bitmap_scan.proofs.FoundRows.{slot_of_row}
 use Rattle.bitmap_scan.proofs.Stepping.{onward_turned}
-use Rattle.script_semantics.specs.Place.{Hand as HandAt, Place, database_at, new_hand}
-use Rattle.script_semantics.specs.StatementSteps.{MakesAt, Moved, Steps, StepsTo, course_of}
-use Rattle.session_parts.specs.HandsAsk.{IsNoInsert}
-use Rattle.session_parts.specs.declared.hand.Hand.{Hand}
+use Rattle.script_semantics.specs.Place.{Place, database_at, new_hand}
+use Rattle.script_semantics.specs.StatementSteps.{Moved, Steps}
 use Rattle.session_parts.specs.declared.hand.Hand.TheVariants as hands
 use Rattle.session_parts.specs.declared.hand.Hit.{Hit}
 use Rattle.session_parts.specs.declared.hand.Marking.{Marking}
-use Rattle.session_parts.specs.Hands.{HandShows, hits_left, ids_of}
-use Rattle.session_parts.specs.HandsInTables.{IsMarkingAt, IsMarkingBy, IsTaskOf, table_in}
-use Rattle.session_parts.specs.Leaving.{LeadsTo}
-use Rattle.session_parts.specs.PlacesAfter.{place_after}
-use Rattle.session_parts.specs.ShowsPlace.{IsLeftToMark, IsOfTransaction, IsPlaceOf}
+use Rattle.session_parts.specs.Hands.{hits_left, ids_of}
+use Rattle.session_parts.specs.HandsInTables.{IsMarkingAt}
+use Rattle.session_parts.specs.ShowsPlace.{IsLeftToMark, IsPlaceOf}
 use Rattle.session_parts.specs.StoreStates.{ShownStore, hand_in}
 use Rattle.session_parts.proofs.Leads.{scan_saw_rows}
-use Rattle.session_parts.proofs.Steps.{turn_goes_on}
 use Rattle.session_scans.specs.declared.looking.Looking.TheVariants as lookings
 use Rattle.session_scans.specs.FoundLists.{ListsHits, hit_of, rows_of}
 use Rattle.session_scans.specs.LookLaws.{LookLaws}
 use Rattle.session_scans.proofs.Found.{found_here, goes, ids_distinct, now, read, rows_are, rows_sorted, scan_then, sees_found, sees_standing}
-use Rattle.session_scans.proofs.GoesOn.{enters_nothing}
+use Rattle.session_scans.proofs.GoesOn.{moves_on}
 use Rattle.session_scans.proofs.Stepped.{MakesStep}
-use Rattle.session_scans.proofs.Led.{IsInHand, ScanLeft, nothing_entered, place_shown}
+use Rattle.session_scans.proofs.Led.{ScanLeft}
 use Rattle.session_scans.proofs.Ordered.{among_them, one_among, one_at, row_ids, rows_in_order, same_ids}
-use Rattle.session_scans.proofs.Standing.{LooksThere, account_is, in_hand, pages_show, scans_at, shows, w}
+use Rattle.session_scans.proofs.Standing.{LooksThere, pages_show, scans_at, shows, w}
 use Rattle.session_scans.proofs.Stands.{IsThere}
-use Rattle.session_scans.proofs.Turns.{copy, reads, tells_nothing, turns_there}
+use Rattle.session_scans.proofs.Turns.{copy}
 
-module _ (laws : LookLaws) (old new : ShownStore) (n : ℕ) (before after : FindHand) (o : Open) (there : LooksThere old n lookings.Delete before o) (p : Place) (shown : IsPlaceOf old p) (left : ScanLeft old new n)
+module _ (laws : LookLaws) (old new : ShownStore) (n : ℕ) (before after : FindHand) (o : Open) (there : LooksThere old n lookings.Delete before o) (p : Place) (shown : IsPlaceOf old p) (left : ScanLeft old new n old.transactions)
     (few : length old.entries ≤ MAX_ENTRIES) (same_entries : new.entries ≡ old.entries) (same : after.judging.query ≡ before.judging.query) (point : Point) (named : point ≡ point_at before.judging.stage)
     (steps : MakesStep laws old n lookings.Delete before after o there p shown (did.Finished point))
     (stand : All (IsThere before.judging.query.table (shows laws old n lookings.Delete before o there p shown).blocks) after.found) (ascend : scans.Ascend 0 0 after.found)
@@ -75,12 +64,6 @@ module _ (laws : LookLaws) (old new : ShownStore) (n : ℕ) (before after : Find
 
   abbrev number : ℕ
   number = query.table
-
-  abbrev hand : HandAt
-  hand = new_hand (statements.Delete query)
-
-  abbrev account : Account
-  account = account_at before.judging.stage (p.accounts n)
 
   abbrev marking : Marking
   marking = record { query = after.judging.query; look = Some more_copy; hits = hits; next = 0 }
@@ -93,9 +76,6 @@ module _ (laws : LookLaws) (old new : ShownStore) (n : ℕ) (before after : Find
 
   abbrev here : TableState
   here = w laws old n lookings.Delete before o there p shown
-
-  empty : account ≡ no_account
-  empty = tells_nothing before.judging.stage (p.accounts n) (account_is laws old n lookings.Delete before o there p shown)
 
   ids_are : ids_of hits.items ≡ row_ids (rows_of ordered)
   ids_are = ap ids_of lists.2 ∙ same_ids ordered
@@ -156,58 +136,19 @@ module _ (laws : LookLaws) (old new : ShownStore) (n : ℕ) (before after : Find
       saw = scan_saw_rows old.transactions.tx shown.database.stored o found_scan.sees (shows laws old n lookings.Delete before o there p shown).blocks (scans_at laws old n lookings.Delete before o there p shown).now;
     }
 
-    marking_by : IsMarkingBy new.transactions.tx shown.database.stored (transaction_of new.transactions.opens n) (shows laws old n lookings.Delete before o there p shown).blocks marking next
-    marking_by = subst (λ (t : TransactionsState). IsMarkingBy t.tx shown.database.stored (transaction_of t.opens n) (shows laws old n lookings.Delete before o there p shown).blocks marking next) (sym left.transactions)
-        (subst (λ (x : Option Open). IsMarkingBy old.transactions.tx shown.database.stored x (shows laws old n lookings.Delete before o there p shown).blocks marking next) (sym there.opened) marking_at)
-
-    in_hand_then : IsInHand old new n number (shows laws old n lookings.Delete before o there p shown).blocks shown.database.stored next
-    in_hand_then = record {
-      asks = subst IsNoInsert (sym is) tt;
-      is_in = λ other there_is. sym (same_Some after.judging.query.table other (sym (ap (table_in old.layout) is) ∙ there_is)) ∙ ap (λ (q : Query). q.table) same;
-      task = subst (λ (h : Option Hand). IsTaskOf old.layout number (shows laws old n lookings.Delete before o there p shown).blocks new.transactions.tx shown.database.stored (transaction_of new.transactions.opens n) h next) (sym is)
-          ((λ own. marking_by), (λ away. absurd (away (ap (λ (q : Query). q.table) same))));
-    }
-
-    shows_then : HandShows (hand_in new.hands n) (Some hand) account
-    shows_then = subst (λ (h : Option Hand). HandShows h (Some hand) account) (sym is) (hand, refl, ap statements.Delete (sym same), (refl, refl), empty)
-
     -- it has to mark what the query finds in the session's copy
     left_to_mark : (x : Option OpenTransaction) → x ≡ Some (copy laws old n lookings.Delete before o there p shown).0 → IsLeftToMark x (hands.Marks marking)
     left_to_mark x got = subst (λ (y : Option OpenTransaction). IsLeftToMark y (hands.Marks marking)) (sym got)
         (ap (λ (q : Query). row_ids (rows_found (copy laws old n lookings.Delete before o there p shown).0 q)) same
         ∙ ap row_ids (sym (rows_are laws old n lookings.Delete before after o there p shown same point steps stand ascend (rows_of ordered) (ordered, lists.1, refl))) ∙ sym ids_are)
 
-    leads : LeadsTo old new p n (Some hand) account
-    leads = nothing_entered old new n p shown left same_entries (Some hand) account shows_then
-        (λ h here_is. subst (λ (x : Hand). IsOfTransaction (transaction_of new.transactions.opens n) (finite.get (database_at p).sessions n) x) (same_Some (hands.Marks marking) h (sym is ∙ here_is))
-        (left_to_mark (finite.get (database_at p).sessions n) (copy laws old n lookings.Delete before o there p shown).1))
-
-    entries_are : p.journal ≡ new.entries
-    entries_are = shown.journal ∙ sym same_entries
-
-    busy : {scan : TableScan} {ids : List RowId} → Marks scan ids ≡ Resting → ⊥
-    busy rests = cc
-
     pub goes_to_marks : (q : Place) × IsPlaceOf new q × Steps p n (Moved point) q
     goes_to_marks =
-        let its_now = now laws old n lookings.Delete before after o there p shown same point steps in
         let its_goes = goes laws old n lookings.Delete before after o there p shown same point steps in
-        let comes = its_goes.onward next (onward_there next (to_marks hits.items some (sym ids_are))) in
-        let turns = turns_there laws old n lookings.Delete before o there p shown after same its_now point its_goes next comes (λ is_prune. reads before.judging.stage (sym named ∙ is_prune)) in
-        let v : TableState = table_state (pages_show laws old n lookings.Delete before o there p shown) (task_turned n next (shows laws old n lookings.Delete before o there p shown).unseen) in
-        let counts : ℕ → Bool = counts_of new.transactions shown.database.stored in (
-          place_after p n number (Some hand) v account counts new.entries,
-          place_shown laws old new n lookings.Delete before o there p shown left next (Some hand) account in_hand_then leads turns.0 empty,
-          record {
-            hand = hand;
-            in_hand = in_hand laws old n lookings.Delete before o there p shown;
-            steps = subst (λ (e : List Entry). StepsTo p n hand (Moved point) (place_after p n number (Some hand) v account counts e)) entries_are
-                (turn_goes_on p n number hand v account counts point (course_of p hand) turns.0 turns.1
-                (λ rests. busy (sym (pick_same n next ((shows laws old n lookings.Delete before o there p shown).unseen.task n)) ∙ rests))
-                (subst (λ (q : Point). MakesAt q p n hand (course_of p hand)) (sym named) (enters_nothing p n hand before.judging.stage)));
-            fits = subst (λ (e : List Entry). length e ≤ MAX_ENTRIES) (sym same_entries) few;
-          },
-        )
+        moves_on laws old new n lookings.Delete before after o there p shown left few same_entries same point named (now laws old n lookings.Delete before after o there p shown same point steps) its_goes next (λ rests. cc)
+        (its_goes.onward next (onward_there next (to_marks hits.items some (sym ids_are)))) (hands.Marks marking) is tt (λ other there_is. sym (same_Some after.judging.query.table other there_is))
+        ((λ own. marking_at), (λ away. absurd (away (ap (λ (q : Query). q.table) same)))) (new_hand (statements.Delete after.judging.query), refl, refl, (refl, refl), refl)
+        (left_to_mark (finite.get (database_at p).sessions n) (copy laws old n lookings.Delete before o there p shown).1)
       where
         onward_there : (task : Task) → Onward here (Scans found_scan) task
             → Onward (table_state (pages_show laws old n lookings.Delete before o there p shown) (task_turned n (Scans (goes laws old n lookings.Delete before after o there p shown same point steps).done) (shows laws old n lookings.Delete before o there p shown).unseen)) (Scans found_scan) task

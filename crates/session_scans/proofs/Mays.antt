@@ -25,7 +25,7 @@ use Rattle.session_scans.specs.declared.looking.Looking.{Looking}
 use Rattle.session_scans.specs.Looks.{first_hand_of, hand_before, scan_hand_of}
 use Rattle.session_scans.specs.ScanSteps.{MayScan, ScanStepsSo, parts_before}
 use Rattle.session_scans.proofs.Frames.{over_still}
-use Rattle.session_scans.proofs.Words.{first_fits, hand_later, promised_later, scan_fits, scan_shares}
+use Rattle.session_scans.proofs.Words.{first_is, hand_later, promised_later, scan_fits, scan_is}
 
 module _ {D : Type 0} (told : D → Told) where
   -- ---- behind a call that changes no page
@@ -92,7 +92,7 @@ module _ {D : Type 0} (told : D → Told) where
     before_first = first_find (judging_first parts.pages.layout query) (slots_a_page parts.pages.layout query.table)
 
     pub table_below : query.table < length parts.pages.layout.schema.tables
-    table_below = (first_fits parts.pages.layout (transaction_of parts.transactions.opens n) looking query (fit_of_parts told parts n (first_hand_of looking query) fit).in_hand).1
+    table_below = ((first_is looking query).look parts.pages.layout (transaction_of parts.transactions.opens n) (fit_of_parts told parts n (first_hand_of looking query) fit).in_hand).1
 
     pub is_find : IsFindOf parts.pages.layout before_first
     is_find = record { judging = record { table = table_below; indexes = refl; room = length-replicate parts.pages.layout.sizes.heap_blocks _ }; room = omega arith }
@@ -138,7 +138,7 @@ module _ {D : Type 0} (told : D → Told) where
           find = of.1;
           work = of.2;
           fresh = λ is. absurd (begun is);
-          promised = omega (arith, fits.share, scan_shares looking scan);
+          promised = omega (arith, fits.share, (scan_is looking scan).share);
           fit = subst (λ (x : Parts D). IsFit told x n (hand_before looking scan scan.judging.stage)) (sym parts_are) (subst (λ (h : Hand). IsFit told parts n h) (sym hand_is) fit);
           shown = subst (λ (x : Parts D). IsShown told x n (hand_before looking scan scan.judging.stage)) (sym parts_are) (subst (λ (h : Hand). IsShown told parts n h) (sym hand_is) shown);
         }

@@ -74,23 +74,19 @@ module _ (b k : ℕ) where
 
   scan_puts_none : (layout : DiskLayout) (stage : Stage) (hand : ScanHand) (beside : Beside) → HasPut b k (scans.task_of layout stage hand beside) → ⊥
   scan_puts_none layout stages.Extent hand beside has = has
-  scan_puts_none layout (stages.Map at range) hand beside has = has
-  scan_puts_none layout (stages.Tuple at range spot) hand beside has = has
-  scan_puts_none layout stages.Judged hand beside has = has
+  scan_puts_none layout stage hand beside has = has
 
   first_puts_none : (wish : Wish) (at : ℕ) → HasPut b k (summarises.before_first wish at) → ⊥
   first_puts_none wishes.New at has = has
-  first_puts_none (wishes.Block block) at has = has
-  first_puts_none wishes.Complete at has = has
+  first_puts_none wish at has = has
 
   next_puts_none : (at left : ℕ) → HasPut b k (summarises.next_index at left) → ⊥
   next_puts_none at zero has = has
   next_puts_none at (suc left) has = has
 
   last_puts_none : (wish : Wish) (at left : ℕ) → HasPut b k (summarises.behind_last wish at left) → ⊥
-  last_puts_none wishes.New at left has = has
-  last_puts_none (wishes.Block block) at left has = has
   last_puts_none wishes.Complete at left has = next_puts_none at left has
+  last_puts_none wish at left has = has
 
   summarise_puts_none : (layout : DiskLayout) (at : ℕ) (a : SummariseState) (standing : Standing) → HasPut b k (summarises.task_at layout at a standing) → ⊥
   summarise_puts_none layout at a standings.Begins has = first_puts_none a.wish at has
@@ -99,11 +95,7 @@ module _ (b k : ℕ) where
 
   desummarise_puts_none : (at range : ℕ) (stage : DesummariseStage) → HasPut b k (desummarises.task_at at range stage) → ⊥
   desummarise_puts_none at range desummarise_stages.Right has = has
-  desummarise_puts_none at range desummarise_stages.Map has = has
-  desummarise_puts_none at range (desummarise_stages.Clear x) has = has
-  desummarise_puts_none at range (desummarise_stages.Drop x) has = has
-  desummarise_puts_none at range desummarise_stages.Lacked has = has
-  desummarise_puts_none at range desummarise_stages.Cleared has = has
+  desummarise_puts_none at range stage has = has
 
   cleaned_puts_none : (indexes : ℕ) → HasPut b k (vacuums.task_done indexes) → ⊥
   cleaned_puts_none zero has = has
@@ -141,14 +133,8 @@ module _ (b k : ℕ) where
 
     pub put_by : (hand : Option Hand) → IsTaskOf layout table blocks tx stored transaction hand task → HasPut b k task → IsPutBy hand b k task
     put_by None at has = absurd (subst (HasPut b k) at has)
-    put_by (Some (hands.Begins numbers)) at has = absurd (subst (HasPut b k) at has)
-    put_by (Some hands.Commits) at has = absurd (subst (HasPut b k) at has)
-    put_by (Some hands.RollsBack) at has = absurd (subst (HasPut b k) at has)
-    put_by (Some (hands.Puts number values)) at has = absurd (subst (HasPut b k) at has)
     put_by (Some (hands.Inserts insert)) at has = put_insert insert at has
-    put_by (Some (hands.Selecting query)) at has = absurd (subst (HasPut b k) at has)
     put_by (Some (hands.Selects scan)) at has = absurd (in_none scan.judging.query.table (IsScanBy layout blocks tx stored transaction false scan task) (scan_by_none transaction false scan) at has)
-    put_by (Some (hands.Deleting query)) at has = absurd (subst (HasPut b k) at has)
     put_by (Some (hands.Deletes scan)) at has = absurd (in_none scan.judging.query.table (IsScanBy layout blocks tx stored transaction true scan task) (scan_by_none transaction true scan) at has)
     put_by (Some (hands.Marks marking)) at has =
         absurd (in_none marking.query.table (IsMarkingBy tx stored transaction blocks marking task) (marks_by_none transaction marking) at has)
@@ -166,10 +152,10 @@ module _ (b k : ℕ) where
     put_by (Some (hands.Completes c)) at has =
         absurd (in_none c.table (IsCompletingAt layout c task)
         (λ (there : IsCompletingAt layout c task) put. summarise_puts_none layout c.next there.0 there.0.standing (subst (HasPut b k) there.2 put)) at has)
-    put_by (Some hands.Working) at has = absurd (subst (HasPut b k) at has)
     put_by (Some (hands.Works requested)) at has =
         absurd (in_none (index_at layout requested.summarise.index).table (IsSummariseAt layout requested.summarise task)
         (λ (there : IsSummariseAt layout requested.summarise task) put. summarise_puts_none layout there.0 requested.summarise requested.summarise.standing (subst (HasPut b k) there.2 put)) at has)
+    put_by (Some hand) at has = absurd (subst (HasPut b k) at has)
 
 -- ---- in a table that is kept it stands there
 

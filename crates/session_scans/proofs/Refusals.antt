@@ -35,14 +35,12 @@ use Rattle.session_scans.specs.LookLaws.{LookLaws}
 use Rattle.session_scans.specs.Looks.{deletes_of, hand_before, statement_for}
 use Rattle.session_scans.proofs.GoesOn.{begun_task}
 use Rattle.session_scans.proofs.Standing.{LooksThere, in_hand, scans_at, shows}
-use Rattle.session_scans.proofs.Words.{first_in_none, may_lack, not_work, on_table, refused_is, takes_memory}
+use Rattle.session_scans.proofs.Words.{first_in_none, looks}
 
 -- a scan is before its first step, or has begun
 pub begun_or_not : (stage : Stage) → (stage ≡ stages.Extent) ⊎ (stage ≢ stages.Extent)
 begun_or_not stages.Extent = inl refl
-begun_or_not (stages.Map at range) = inr (λ is. cc)
-begun_or_not (stages.Tuple at range spot) = inr (λ is. cc)
-begun_or_not stages.Judged = inr (λ is. cc)
+begun_or_not stage = inr (λ is. cc)
 
 abbrev pub refused_entry : ℕ → Query → Entry
 refused_entry n query = tagged_entry n query.table (requests.Look query) tags.NoMemory
@@ -63,7 +61,7 @@ module _ (laws : LookLaws) (old : ShownStore) (n : ℕ) (looking : Looking) (bef
   entries_then = p.journal ++ refused_entry n query ∷ []
 
   request_is : p.journal ++ refused_request n tags.NoMemory (statement_for looking query) ≡ entries_then
-  request_is = ap (λ (l : List Entry). p.journal ++ l) (refused_is looking query n tags.NoMemory)
+  request_is = ap (λ (l : List Entry). p.journal ++ l) ((looks looking query).refused_is n tags.NoMemory)
 
   module _ (first : before.judging.stage ≡ stages.Extent) where
     pub none_before : (i : ℕ) → table_in old.layout (hand_in old.hands n) ≡ Some i → ⊥
@@ -79,7 +77,7 @@ module _ (laws : LookLaws) (old : ShownStore) (n : ℕ) (looking : Looking) (bef
 
     pub first_step : (counts : ℕ → Bool) → StepsTo p n hand (Ended (replies.Refused refusals.Memory)) (place_at_once p n counts entries_then)
     first_step counts = subst (λ (l : List Entry). StepsTo p n hand (Ended (replies.Refused refusals.Memory)) (place_at_once p n counts l)) request_is
-        (lacks_memory p n hand counts (may_lack looking query p n) rests)
+        (lacks_memory p n hand counts ((looks looking query).may_lack p n) rests)
 
   module _ (begun : before.judging.stage ≢ stages.Extent) where
     abbrev its_scan : TableScan
@@ -91,12 +89,12 @@ module _ (laws : LookLaws) (old : ShownStore) (n : ℕ) (looking : Looking) (bef
 
     module _ (t : ℕ) (counts : ℕ → Bool) (no_more : CountsNoMore (p.tables number) counts t) where
       pub turns : (turns : TurnsIn p n (statement_for looking query) number (refused_in n counts (p.tables number)) (p.accounts n)) × (refusal_in turns ≡ Some LacksMemory)
-      turns = scan_is_refused p n number t (statement_for looking query) (p.tables number) its_scan counts refl (not_work looking query) (on_table looking query p n) scans_there refl no_more
+      turns = scan_is_refused p n number t (statement_for looking query) (p.tables number) its_scan counts refl (looks looking query).not_work ((looks looking query).on_table p n) scans_there refl no_more
 
       pub later_step : (others : ℕ → Bool)
           → StepsTo p n hand (Ended (replies.Refused refusals.Memory)) (place_after p n number None (refused_in n counts (p.tables number)) (p.accounts n) others entries_then)
       later_step others = subst (λ (l : List Entry). StepsTo p n hand (Ended (replies.Refused refusals.Memory)) (place_after p n number None (refused_in n counts (p.tables number)) (p.accounts n) others l)) request_is
-          (turn_is_refused p n number hand (refused_in n counts (p.tables number)) (p.accounts n) others LacksMemory tags.NoMemory refusals.Memory turns.0 turns.1 (ForMemory (takes_memory looking query)))
+          (turn_is_refused p n number hand (refused_in n counts (p.tables number)) (p.accounts n) others LacksMemory tags.NoMemory refusals.Memory turns.0 turns.1 (ForMemory (looks looking query).takes_memory))
 
   -- the journal may lack room for it
   module _ (full : MAX_ENTRIES < length old.entries + 1) where

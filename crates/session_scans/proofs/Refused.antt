@@ -30,11 +30,8 @@ use Rattle.bitmap_scan.specs.Finds.{FindHand}
 use Rattle.script_semantics.specs.Place.{Hand as HandAt, Place, database_at, new_hand}
 use Rattle.script_semantics.specs.StatementSteps.{Ended, Steps, StepsTo}
 use Rattle.session_parts.specs.HandsAsk.{IsNoInsert}
-use Rattle.session_parts.specs.declared.hand.Hand.{Hand}
-use Rattle.session_parts.specs.Hands.{HandShows}
 use Rattle.session_parts.specs.HandsInTables.{IsTaskOf, table_in}
-use Rattle.session_parts.specs.LeadLaws.{HasInHand}
-use Rattle.session_parts.specs.Leaving.{CountsFew, LeadsTo, LeavesOthers, SameLocks, StepsAtOnce, StepsInTable, AsksForNone}
+use Rattle.session_parts.specs.Leaving.{CountsFew, LeadsTo, StepsAtOnce, AsksForNone}
 use Rattle.session_parts.specs.PlacesAfter.{place_after, place_at_once}
 use Rattle.session_parts.specs.RefusalLaws.{CountsNoMore, refused_in}
 use Rattle.session_parts.specs.ShowsPlace.{IsPlaceOf, ShowsTable}
@@ -47,30 +44,18 @@ use Rattle.session_parts.proofs.Tables.{own_table_goes_on}
 use Rattle.session_scans.specs.declared.looking.Looking.{Looking}
 use Rattle.session_scans.specs.LookLaws.{LookLaws}
 use Rattle.session_scans.specs.Looks.{statement_for}
-use Rattle.session_scans.proofs.Led.{order_stays}
+use Rattle.session_scans.proofs.Led.{ScanLeft, in_its_table}
 use Rattle.session_scans.proofs.Standing.{LooksThere, in_hand, shows}
-use Rattle.session_scans.proofs.Tells.{none_in_hand}
+use Rattle.session_scans.proofs.Tells.{none_in_hand, none_then}
 use Rattle.session_scans.proofs.Turns.{copy}
-use Rattle.session_scans.proofs.Words.{in_table}
 use Rattle.session_scans.proofs.Refusals.{begun_or_not, entries_then, first_step, later_step, none_before, refused_entry, turns}
 
 -- ---- the place then
 
--- the session's transaction has failed, and the look is entered so; no page changed
-pub record RefusedLeft (old new : ShownStore) (n : ℕ) (o : Open) (query : Query) : Type 0 where
-  pub others : LeavesOthers n old new
-  pub pages : new.pages ≡ old.pages
-  pub transactions : new.transactions ≡ with_failed old.transactions n o
-  pub locks : new.locks ≡ old.locks
-  pub rights : new.rights ≡ old.rights
-  pub queue : new.queue ≡ old.queue
-  pub dropped : new.dropped ≡ old.dropped
-  pub entries : new.entries ≡ old.entries ++ refused_entry n query ∷ []
-  pub none : hand_in new.hands n ≡ None
-  pub fits : length new.entries ≤ MAX_ENTRIES
-
+-- the session's transaction has failed, and the look is entered so
 module _ (laws : LookLaws) (old new : ShownStore) (n : ℕ) (looking : Looking) (before : FindHand) (o : Open) (there : LooksThere old n looking before o) (p : Place) (shown : IsPlaceOf old p)
-    (left : RefusedLeft old new n o before.judging.query) where
+    (left : ScanLeft old new n (with_failed old.transactions n o)) (entered : new.entries ≡ old.entries ++ refused_entry n before.judging.query ∷ []) (none : hand_in new.hands n ≡ None)
+    (room : length new.entries ≤ MAX_ENTRIES) where
   abbrev query : Query
   query = before.judging.query
 
@@ -107,19 +92,12 @@ module _ (laws : LookLaws) (old new : ShownStore) (n : ℕ) (looking : Looking) 
   legal : IsLegalRequest d e
   legal = look_is_legal d n number its_copy.0 query tags.NoMemory its_copy.1 (its_copy.2.failed ∙ there.whole) refl
 
-  has_none : HasInHand old new n None (p.accounts n) (after_request d e)
-  has_none = record {
-    hand = subst (λ (h : Option Hand). HandShows h None (p.accounts n)) (sym left.none) refl;
-    own = λ h is. absurd (none-some h (sym left.none ∙ is));
-    order = λ index below ordered. order_stays old new left.pages index ordered;
-  }
-
   asks_none : AsksForNone n old new p (p.accounts n)
-  asks_none = record { queue = left.queue; dropped = left.dropped; told = refl; hand = subst IsNoInsert (sym left.none) tt }
+  asks_none = record { queue = left.queue; dropped = left.dropped; told = refl; hand = subst IsNoInsert (sym none) tt }
 
   leads : LeadsTo old new p n None (p.accounts n)
-  leads = request_leads old new p n None (p.accounts n) e NoMemory shown refl legal left.entries does tt
-      (failure_stays_within old new n o there.opened left.transactions (λ place. ap (λ (m : PageMap). page_at m place) left.pages)) has_none
+  leads = request_leads old new p n None (p.accounts n) e NoMemory shown refl legal entered does tt
+      (failure_stays_within old new n o there.opened left.transactions (λ place. ap (λ (m : PageMap). page_at m place) left.pages)) (none_then old new n (p.accounts n) (after_request d e) left.pages none)
 
   abbrev counts : ℕ → Bool
   counts = counts_of new.transactions stored
@@ -131,10 +109,10 @@ module _ (laws : LookLaws) (old new : ShownStore) (n : ℕ) (looking : Looking) 
   few = fewer_counts_few old new stored stored o.t fewer
 
   entries_are : entries_then laws old n looking before o there p shown ≡ new.entries
-  entries_are = ap (λ (l : List Entry). l ++ e ∷ []) shown.journal ∙ sym left.entries
+  entries_are = ap (λ (l : List Entry). l ++ e ∷ []) shown.journal ∙ sym entered
 
   is_none : (other : ℕ) → table_in old.layout (hand_in new.hands n) ≡ Some other → ⊥
-  is_none other is = none-some other (sym (ap (table_in old.layout) left.none) ∙ is)
+  is_none other is = none-some other (sym (ap (table_in old.layout) none) ∙ is)
 
   -- before the first step no table is touched
   module _ (first : before.judging.stage ≡ stages.Extent) where
@@ -151,12 +129,12 @@ module _ (laws : LookLaws) (old new : ShownStore) (n : ℕ) (looking : Looking) 
     first_refused = (
       place_at_once p n counts new.entries,
       step_at_once_is_shown old new p n stored shown left.others at_once (subst (λ (m : PageMap). HasStatuses old.layout m stored) (sym left.pages) shown.database.has)
-          (same_sees_alike old new stored n left.others.first) few left.none leads asks_none,
+          (same_sees_alike old new stored n left.others.first) few none leads asks_none,
       record {
         hand = hand;
         in_hand = in_hand laws old n looking before o there p shown;
         steps = subst (λ (l : List Entry). StepsTo p n hand (Ended (replies.Refused refusals.Memory)) (place_at_once p n counts l)) entries_are (first_step laws old n looking before o there p shown first counts);
-        fits = left.fits;
+        fits = room;
       },
     )
 
@@ -171,19 +149,9 @@ module _ (laws : LookLaws) (old new : ShownStore) (n : ℕ) (looking : Looking) 
     abbrev unseen : Unseen
     unseen = record (task_turned n Resting here.unseen) { counts = counts }
 
-    steps_in : StepsInTable n number old new
-    steps_in = record {
-      below = there.find.judging.table;
-      pages = λ place apart. ap (λ (m : PageMap). page_at m place) left.pages;
-      locks = SameLocks left.locks;
-      rights = λ other apart. ap (λ (r : List (Option ℕ)). right_of r other) left.rights;
-      was_in = λ other is. in_table old.layout other looking before before.judging.stage (sym (ap (table_in old.layout) there.was) ∙ is);
-      is_in = λ other is. absurd (is_none other is);
-    }
-
     own_task : IsTaskOf old.layout number here.blocks new.transactions.tx stored (transaction_of new.transactions.opens n) (hand_in new.hands n) (unseen.task n)
     own_task = subst (λ (q : Task). IsTaskOf old.layout number here.blocks new.transactions.tx stored (transaction_of new.transactions.opens n) (hand_in new.hands n) q) (sym (pick_same n Resting (here.unseen.task n)))
-        (none_in_hand old new n number here.blocks stored left.none).task
+        (none_in_hand old new n number here.blocks stored none).task
 
     own_table : ShowsTable new stored number v
     own_table = own_table_goes_on old new stored n number (p.tables number) v unseen here.blocks here left.others (turns laws old n looking before o there p shown begun o.t counts no_more).0.step
@@ -195,13 +163,13 @@ module _ (laws : LookLaws) (old new : ShownStore) (n : ℕ) (looking : Looking) 
     later_refused : (q : Place) × IsPlaceOf new q × Steps p n (Ended (replies.Refused refusals.Memory)) q
     later_refused = (
       place_after p n number None v (p.accounts n) counts new.entries,
-      table_step_is_shown old new p n number None v (p.accounts n) shown left.others steps_in few leads own_table asks_none,
+      table_step_is_shown old new p n number None v (p.accounts n) shown left.others (in_its_table old new n looking before o (with_failed old.transactions n o) there left (λ other is. absurd (is_none other is))) few leads own_table asks_none,
       record {
         hand = hand;
         in_hand = in_hand laws old n looking before o there p shown;
         steps = subst (λ (l : List Entry). StepsTo p n hand (Ended (replies.Refused refusals.Memory)) (place_after p n number None v (p.accounts n) counts l)) entries_are
             (later_step laws old n looking before o there p shown begun o.t counts no_more counts);
-        fits = left.fits;
+        fits = room;
       },
     )
 

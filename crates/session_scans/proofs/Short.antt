@@ -1,6 +1,5 @@
 -- a statement for whose scan memory is short, or the journal has no room, before its first step or later
-use Rattle.std.proofs.Common.{◌≡◌, ℕ, ◌+◌, ◌<◌, ◌≤◌, ◌++◌, ◌∷◌, [], length, Option, None, Some, refl, sym, ap, ◌∙◌, subst}
-use Rattle.std.specs.Prelude.{IsSome}
+use Rattle.std.proofs.Common.{◌≡◌, ℕ, ◌+◌, ◌<◌, ◌≤◌, ◌++◌, ◌∷◌, [], length, None, Some, sym, ap, ◌∙◌, subst}
 use Rattle.disk_trait.specs.Told.{Told}
 use Rattle.block_model.specs.declared.reply.Refusal.TheVariants as refusals
 use Rattle.block_model.specs.declared.reply.Reply.TheVariants as replies
@@ -27,7 +26,7 @@ use Rattle.session_scans.specs.ScanSteps.{IsFresh}
 use Rattle.session_scans.proofs.Frames.{some_open}
 use Rattle.session_scans.proofs.Refusals.{refused_entry}
 use Rattle.session_scans.proofs.Steps.{refused_so, spent_so}
-use Rattle.session_scans.proofs.Words.{fits_look}
+use Rattle.session_scans.proofs.Words.{hand_is}
 
 module _ {D : Type 0} (told : D → Told) (laws : LookLaws) (old : Parts D) (n : ℕ) (looking : Looking) (scan : FindHand) (fit : IsFit told old n (hand_before looking scan scan.judging.stage))
     (find : IsFindOf old.pages.layout scan) (fresh : scan.judging.stage ≡ stages.Extent → IsFresh scan) (ready : old.pages.failed ≡ None) where
@@ -36,10 +35,7 @@ module _ {D : Type 0} (told : D → Told) (laws : LookLaws) (old : Parts D) (n :
 
   pub its_open : (o : Open) × (transaction_of old.transactions.opens n ≡ Some o)
   its_open = some_open (transaction_of old.transactions.opens n)
-      (fits_look old.pages.layout (transaction_of old.transactions.opens n) looking scan scan.judging.stage (fit_of_parts told old n was fit).in_hand).0
-
-  pub is_open : IsSome (transaction_of old.transactions.opens n)
-  is_open = subst (λ (own : Option Open). IsSome own) (sym its_open.1) refl
+      ((hand_is looking scan scan.judging.stage).look old.pages.layout (transaction_of old.transactions.opens n) (fit_of_parts told old n was fit).in_hand).0
 
   as_told : (answer other : Stepped) (new then : Parts D) → answer ≡ other → new ≡ then → StepsSo told old then n was other → StepsSo told old new n was answer
   as_told answer other new then answer_is new_is so =

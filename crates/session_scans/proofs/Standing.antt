@@ -38,7 +38,7 @@ use Rattle.session_scans.specs.LookLaws.{LookLaws}
 use Rattle.session_scans.specs.Looks.{deletes_of, first_hand_of, hand_before, scan_hand_of, statement_for}
 use Rattle.session_scans.specs.ScanSteps.{IsFresh}
 use Rattle.session_scans.proofs.Puts.{IsPutBy, put_by, put_stands}
-use Rattle.session_scans.proofs.Words.{IsShownInHand, shows_is}
+use Rattle.session_scans.proofs.Words.{IsShownInHand, hand_is}
 
 -- the session has this scan in hand, or is before its first step; its table is one of the layout; and its transaction hasn't failed
 pub record LooksThere (s : ShownStore) (n : ℕ) (looking : Looking) (before : FindHand) (o : Open) : Type 0 where
@@ -97,7 +97,7 @@ module _ (laws : LookLaws) (s : ShownStore) (n : ℕ) (looking : Looking) (befor
   kept = subst IsTableKept shows.shown shows.kept
 
   hand_shown : IsShownInHand looking before.judging.query (p.hands n) (p.accounts n)
-  hand_shown = shows_is (p.hands n) (p.accounts n) looking before before.judging.stage (subst (λ (h : Option Hand). HandShows h (p.hands n) (p.accounts n)) there.was (shown.hands n))
+  hand_shown = (hand_is looking before before.judging.stage).shows (p.hands n) (p.accounts n) (subst (λ (h : Option Hand). HandShows h (p.hands n) (p.accounts n)) there.was (shown.hands n))
 
   pub in_hand : p.hands n ≡ Some (new_hand (statement_for looking before.judging.query))
   in_hand = hand_shown.in_hand
@@ -188,9 +188,7 @@ module _ (laws : LookLaws) (s : ShownStore) (n : ℕ) (looking : Looking) (befor
   at_stage : (stage : Stage) → before.judging.stage ≡ stage → IsTaskOf s.layout table shows.blocks s.transactions.tx stored (Some o) (Some (hand_before looking before stage)) (shows.unseen.task n)
       → ScansAt s.layout pages_show shows.unseen n shows.blocks sight (deletes_of looking) before
   at_stage stages.Extent is at = first_scan (at_rest s.layout shows.blocks s stored o before (shows.unseen.task n) looking at) (there.fresh is) is
-  at_stage (stages.Map i range) is at = later_scan (in_scan s.layout shows.blocks s stored o before (shows.unseen.task n) looking at) (begun_at (stages.Map i range) is (λ sees judged. tt))
-  at_stage (stages.Tuple i range spot) is at = later_scan (in_scan s.layout shows.blocks s stored o before (shows.unseen.task n) looking at) (begun_at (stages.Tuple i range spot) is (λ sees judged. tt))
-  at_stage stages.Judged is at = later_scan (in_scan s.layout shows.blocks s stored o before (shows.unseen.task n) looking at) (begun_at stages.Judged is (λ sees judged. tt))
+  at_stage stage is at = later_scan (in_scan s.layout shows.blocks s stored o before (shows.unseen.task n) looking at) (begun_at stage is (λ sees judged. tt))
 
   pub scans_at : ScansAt s.layout pages_show shows.unseen n shows.blocks sight (deletes_of looking) before
   scans_at = at_stage before.judging.stage refl

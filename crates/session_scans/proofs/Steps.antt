@@ -27,7 +27,7 @@ use Rattle.snapshot_core.specs.declared.sessions.Open.{Open}
 use Rattle.snapshot_core.specs.SessionChanges.{failed_open}
 use Rattle.snapshot_core.specs.StoredVersions.{transaction_of}
 use Rattle.tx_table.specs.TxState.{IsOver}
-use Rattle.transactions.specs.TransactionsState.{with_failed}
+use Rattle.transactions.specs.TransactionsState.{TransactionsState, with_failed}
 use Rattle.coverage.specs.Machines.{Unseen, table_state}
 use Rattle.coverage.specs.TableCovered.{IsTableKept}
 use Rattle.bitmap_scan.specs.declared.stage.Stage.{Stage}
@@ -42,14 +42,12 @@ use Rattle.bitmap_scan.specs.TableScans.{Beside, task_of}
 use Rattle.script_semantics.specs.Place.{Place}
 use Rattle.session_parts.specs.declared.faults.StoreFault.TheVariants as stops
 use Rattle.session_parts.specs.declared.hand.Hand.{Hand}
-use Rattle.session_parts.specs.declared.hand.Stepped.{Stepped}
 use Rattle.session_parts.specs.declared.hand.Stepped.TheVariants as stepped
 use Rattle.session_parts.specs.declared.parts.Parts.{Parts}
 use Rattle.session_parts.specs.DamagedPages.{NamesAPage}
 use Rattle.session_parts.specs.HandFits.{FitsHand, locks_held}
 use Rattle.session_parts.specs.Hands.{statement_of}
 use Rattle.session_parts.specs.JournalState.{JournalState}
-use Rattle.session_parts.specs.Leaving.{LeavesOthers}
 use Rattle.session_parts.specs.Shares.{hand_share, share_of}
 use Rattle.session_parts.specs.ShowsPlace.{IsPlaceOf}
 use Rattle.session_parts.specs.StepAnswers.{most_entered}
@@ -66,16 +64,16 @@ use Rattle.session_scans.specs.LookLaws.{LookLaws}
 use Rattle.session_scans.specs.Looks.{deletes_of, first_hand_of, hand_before, scan_hand_of, statement_for}
 use Rattle.session_scans.specs.ScanSteps.{IsFresh}
 use Rattle.session_scans.proofs.Ahead.{not_the_last}
-use Rattle.session_scans.proofs.Frames.{LeavesParts, failed_apart, failed_here, leaves_others, over_still, promised_failed, stays_fit, under_way}
+use Rattle.session_scans.proofs.Frames.{LeavesParts, failed_apart, failed_here, made_so, over_still, promised_failed, under_way}
 use Rattle.session_scans.proofs.GoesOn.{scan_goes_on}
 use Rattle.session_scans.proofs.Stepped.{MakesStep}
 use Rattle.session_scans.proofs.Led.{ScanLeft}
 use Rattle.session_scans.proofs.Refusals.{lacks_room, refused_entry}
-use Rattle.session_scans.proofs.Refused.{RefusedLeft, scan_refused}
+use Rattle.session_scans.proofs.Refused.{scan_refused}
 use Rattle.session_scans.proofs.Standing.{LooksThere, kept, scans_at, shows, sight}
 use Rattle.session_scans.proofs.Stands.{IsThere, all_stand}
 use Rattle.session_scans.proofs.Tells.{scan_tells}
-use Rattle.session_scans.proofs.Words.{FitsLook, first_holds, first_statement, fits_first, fits_look, fits_scan, full_for, holds_none, scan_holds, scan_statement, statement_is, holds_no_right}
+use Rattle.session_scans.proofs.Words.{FitsLook, IsHandOf, first_is, fits_first, fits_scan, hand_is, looks, scan_is, scan_share}
 
 -- in a table that is kept a scan finds no damage
 abbrev pub NotDamaged : Type 0
@@ -108,8 +106,11 @@ module _ {D : Type 0} (told : D → Told) (laws : LookLaws) (old : Parts D) (pag
   pub fits : FitsParts told old n (Some was)
   fits = fit_of_parts told old n was fit
 
+  abbrev its : IsHandOf looking query (scan_share stage) was
+  its = hand_is looking before stage
+
   pub look : FitsLook old.pages.layout (transaction_of old.transactions.opens n) query
-  look = fits_look old.pages.layout (transaction_of old.transactions.opens n) looking before stage fits.in_hand
+  look = its.look old.pages.layout (transaction_of old.transactions.opens n) fits.in_hand
 
   pub whole : o.failed ≡ false
   whole = under_way (transaction_of old.transactions.opens n) o opened look.0
@@ -131,11 +132,21 @@ module _ {D : Type 0} (told : D → Told) (laws : LookLaws) (old : Parts D) (pag
     pub there : LooksThere store n looking before o
     there = record { was = is; find = find; opened = opened; whole = whole; fresh = fresh }
 
-    others : (j : JournalState) (h : Option Hand) → LeavesOthers n store (store_then j h)
-    others j h = record { layout = keeps.leaves.layout; names = refl; first = refl; hands = (hand_changes hands_ n was h is).others; opens = λ m apart. refl }
+    -- with this as its transactions
+    pub left_with : Tells told old.pages → (tx : TransactionsState) → tx.tx.first ≡ old.transactions.tx.first → ((m : ℕ) → m ≢ n → transaction_of tx.opens m ≡ transaction_of old.transactions.opens m)
+        → (j : JournalState) (h : Option Hand) → ScanLeft store (shown_of (store_of (record old { pages = pages; transactions = tx; journal = j }) names (with_hand hands_ n h))) n tx
+    left_with tells tx first opens j h = record {
+      others = record { layout = keeps.leaves.layout; names = refl; first = first; hands = (hand_changes hands_ n was h is).others; opens = opens };
+      pages = keeps.pages tells;
+      transactions = refl;
+      locks = refl;
+      rights = refl;
+      queue = refl;
+      dropped = refl;
+    }
 
-    pub left : Tells told old.pages → (j : JournalState) (h : Option Hand) → ScanLeft store (store_then j h) n
-    left tells j h = record { others = others j h; pages = keeps.pages tells; transactions = refl; locks = refl; rights = refl; queue = refl; dropped = refl }
+    pub left : Tells told old.pages → (j : JournalState) (h : Option Hand) → ScanLeft store (store_then j h) n old.transactions
+    left tells j h = left_with tells old.transactions refl (λ m apart. refl) j h
 
     module _ (tells : Tells told old.pages) (p : Place) (shown : IsPlaceOf store p) (after : FindHand) (answer : Did) (made : DidScan told old pages o before after answer) where
       pub steps_there : MakesStep laws store n looking before after o there p shown answer
@@ -152,18 +163,14 @@ module _ {D : Type 0} (told : D → Told) (laws : LookLaws) (old : Parts D) (pag
   -- what is left behind it of the parts
   pub left_parts : (j : JournalState) (now : Option Hand) → FitsHand old.pages.layout (transaction_of old.transactions.opens n) now → locks_held now ≡ 0 → length j.entries ≤ MAX_ENTRIES
       → j.promised + share_of (Some was) (transaction_of old.transactions.opens n) ≡ old.journal.promised + share_of now (transaction_of old.transactions.opens n)
-      → LeavesParts told old (then j) n was now
+      → LeavesParts told old pages old.transactions j n was now
   left_parts j now in_hand held entries promised = record {
     fits = fit;
     leaves = keeps.leaves;
     over = over;
     in_hand = subst (λ (l : DiskLayout). FitsHand l (transaction_of old.transactions.opens n) now) (sym keeps.leaves.layout) in_hand;
-    held = held;
-    was_held = holds_none looking before stage;
-    locks = refl;
-    rights = refl;
-    was_right = holds_no_right old.pages.layout looking before stage;
-    dropped = refl;
+    held = held ∙ sym its.holds;
+    right = its.right old.pages.layout;
     entries = entries;
     promised = promised;
     opens = λ m apart. refl;
@@ -171,7 +178,7 @@ module _ {D : Type 0} (told : D → Told) (laws : LookLaws) (old : Parts D) (pag
 
   -- a full journal has no room for what it may enter
   full_then : MAX_ENTRIES < length old.journal.entries + 1 → MAX_ENTRIES < length old.journal.entries + most_entered (statement_of was)
-  full_then full = subst (λ (s : Statement). MAX_ENTRIES < length old.journal.entries + most_entered s) (sym (statement_is looking before stage)) (full_for looking query (length old.journal.entries) full)
+  full_then full = subst (λ (s : Statement). MAX_ENTRIES < length old.journal.entries + most_entered s) (sym its.statement) ((looks looking query).full (length old.journal.entries) full)
 
   -- ---- it goes on
 
@@ -181,45 +188,34 @@ module _ {D : Type 0} (told : D → Told) (laws : LookLaws) (old : Parts D) (pag
 
     module _ (after : FindHand) (point : Point) (made : DidScan told old pages o before after (did.Moved point))
         (promised : j.promised + share_of (Some was) (transaction_of old.transactions.opens n) ≡ old.journal.promised + share_of (Some (scan_hand_of looking after)) (transaction_of old.transactions.opens n)) where
-      its_left : LeavesParts told old (then j) n was (Some (scan_hand_of looking after))
-      its_left = left_parts j (Some (scan_hand_of looking after))
-          (fits_scan old.pages.layout (transaction_of old.transactions.opens n) looking after (look.0, made.find, made.point.1, made.begun)) (scan_holds looking after) few promised
-
       pub moved_so : StepsSo told old (then j) n was (stepped.Moved point (scan_hand_of looking after))
-      moved_so = record {
-        steps = λ names hands_ is tells first last p shown.
-            scan_goes_on laws (store names hands_ is) (store_then names hands_ is j (Some (scan_hand_of looking after))) n looking before after o (there names hands_ is) p shown
-            (left names hands_ is tells j (Some (scan_hand_of looking after))) fits.entries same_entries made.same point made.point.0 (steps_there names hands_ is tells p shown after (did.Moved point) made) made.begun
-            (hand_changes hands_ n was (Some (scan_hand_of looking after)) is).own (stand_there names hands_ is tells p shown after (did.Moved point) made) (remembers_there names hands_ is tells p shown after (did.Moved point) made);
-        fit = stays_fit told old (then j) n was (Some (scan_hand_of looking after)) its_left (stepped.Moved point (scan_hand_of looking after)) refl;
-        others = leaves_others told old (then j) n was (Some (scan_hand_of looking after)) its_left (stepped.Moved point (scan_hand_of looking after)) refl;
-        stays = λ names hands_ is. scan_statement looking after ∙ ap (statement_for looking) made.same ∙ sym (statement_is looking before stage);
-        cause = (made.ready, made.still);
-      }
+      moved_so = made_so told old pages old.transactions j n was (Some (scan_hand_of looking after))
+          (left_parts j (Some (scan_hand_of looking after)) (fits_scan old.pages.layout (transaction_of old.transactions.opens n) looking after (look.0, made.find, made.point.1, made.begun)) (scan_is looking after).holds few promised)
+          (stepped.Moved point (scan_hand_of looking after)) refl
+          (λ names hands_ is tells first last p shown. scan_goes_on laws (store names hands_ is) (store_then names hands_ is j (Some (scan_hand_of looking after))) n looking before after o (there names hands_ is) p shown
+          (left names hands_ is tells j (Some (scan_hand_of looking after))) fits.entries same_entries made.same point made.point.0 (steps_there names hands_ is tells p shown after (did.Moved point) made) made.begun
+          (hand_changes hands_ n was (Some (scan_hand_of looking after)) is).own (stand_there names hands_ is tells p shown after (did.Moved point) made) (remembers_there names hands_ is tells p shown after (did.Moved point) made))
+          (λ names hands_ is. (scan_is looking after).statement ∙ ap (statement_for looking) made.same ∙ sym its.statement) (made.ready, made.still)
 
     -- at a full journal it isn't the last one; where the disk tells nothing it may begin anew
     module _ (after : FindHand) (point : Point) (made : DidScan told old pages o before after (did.Finished point)) (ahead : Tells told old.pages → NextIs old.pages.layout old.pages.pages before did.Moved)
         (full : MAX_ENTRIES < length old.journal.entries + 1)
         (promised : j.promised + share_of (Some was) (transaction_of old.transactions.opens n) ≡ old.journal.promised + share_of (Some (first_hand_of looking after.judging.query)) (transaction_of old.transactions.opens n)) where
-      anew_left : LeavesParts told old (then j) n was (Some (first_hand_of looking after.judging.query))
-      anew_left = left_parts j (Some (first_hand_of looking after.judging.query))
-          (fits_first old.pages.layout (transaction_of old.transactions.opens n) looking after.judging.query (look.0, made.find.judging.table))
-          (first_holds looking after.judging.query) few promised
+      abbrev anew : Hand
+      anew = first_hand_of looking after.judging.query
 
-      pub anew_so : StepsSo told old (then j) n was (stepped.Undone (stops.Spent (length old.journal.entries)) (first_hand_of looking after.judging.query))
-      anew_so = record {
-        steps = λ names hands_ is tells first last p shown.
-            absurd (not_the_last laws (store names hands_ is) n looking before after o (there names hands_ is) p shown (ahead tells) point (steps_there names hands_ is tells p shown after (did.Finished point) made));
-        fit = stays_fit told old (then j) n was (Some (first_hand_of looking after.judging.query)) anew_left (stepped.Undone (stops.Spent (length old.journal.entries)) (first_hand_of looking after.judging.query)) refl;
-        others = leaves_others told old (then j) n was (Some (first_hand_of looking after.judging.query)) anew_left (stepped.Undone (stops.Spent (length old.journal.entries)) (first_hand_of looking after.judging.query)) refl;
-        stays = λ names hands_ is. (
-          record { pages = keeps; transactions = refl; locks = refl; rights = refl; journal = same_entries; queue = refl; dropped = refl },
-          first_statement looking after.judging.query ∙ ap (statement_for looking) made.same ∙ sym (statement_is looking before stage),
-          refl,
-          full_then full,
-        );
-        cause = (made.ready, made.still);
-      }
+      pub anew_so : StepsSo told old (then j) n was (stepped.Undone (stops.Spent (length old.journal.entries)) anew)
+      anew_so = made_so told old pages old.transactions j n was (Some anew)
+          (left_parts j (Some anew) (fits_first old.pages.layout (transaction_of old.transactions.opens n) looking after.judging.query (look.0, made.find.judging.table)) (first_is looking after.judging.query).holds few promised)
+          (stepped.Undone (stops.Spent (length old.journal.entries)) anew) refl
+          (λ names hands_ is tells first last p shown.
+          absurd (not_the_last laws (store names hands_ is) n looking before after o (there names hands_ is) p shown (ahead tells) point (steps_there names hands_ is tells p shown after (did.Finished point) made)))
+          (λ names hands_ is. (
+            record { pages = keeps; transactions = refl; locks = refl; rights = refl; journal = same_entries; queue = refl; dropped = refl },
+            (first_is looking after.judging.query).statement ∙ ap (statement_for looking) made.same ∙ sym its.statement,
+            refl,
+            full_then full,
+          )) (made.ready, made.still)
 
   -- ---- its statement replies
 
@@ -230,20 +226,12 @@ module _ {D : Type 0} (told : D → Told) (laws : LookLaws) (old : Parts D) (pag
     fits_then : length j.entries ≤ MAX_ENTRIES
     fits_then = omega (arith, room, ap length looked, length-append old.journal.entries (look_entry n query ∷ []))
 
-    tells_left : LeavesParts told old (then j) n was None
-    tells_left = left_parts j None tt refl fits_then promised
-
     pub tells_so : StepsSo told old (then j) n was (stepped.Done reply)
-    tells_so = record {
-      steps = λ names hands_ is tells first last p shown.
-          scan_tells laws (store names hands_ is) (store_then names hands_ is j None) n looking before after o (there names hands_ is) p shown (left names hands_ is tells j None) fits_then looked
-          (hand_changes hands_ n was None is).own made.same point made.point.0 (steps_there names hands_ is tells p shown after (did.Finished point) made)
-          (stand_there names hands_ is tells p shown after (did.Finished point) made) ascend reply rows lists replied;
-      fit = stays_fit told old (then j) n was None tells_left (stepped.Done reply) refl;
-      others = leaves_others told old (then j) n was None tells_left (stepped.Done reply) refl;
-      stays = λ names hands_ is. tt;
-      cause = (made.ready, made.still);
-    }
+    tells_so = made_so told old pages old.transactions j n was None (left_parts j None tt refl fits_then promised) (stepped.Done reply) refl
+        (λ names hands_ is tells first last p shown. scan_tells laws (store names hands_ is) (store_then names hands_ is j None) n looking before after o (there names hands_ is) p shown (left names hands_ is tells j None) fits_then looked
+        (hand_changes hands_ n was None is).own made.same point made.point.0 (steps_there names hands_ is tells p shown after (did.Finished point) made)
+        (stand_there names hands_ is tells p shown after (did.Finished point) made) ascend reply rows lists replied)
+        (λ names hands_ is. tt) (made.ready, made.still)
 
   -- ---- memory is short
 
@@ -255,60 +243,23 @@ module _ {D : Type 0} (told : D → Told) (laws : LookLaws) (old : Parts D) (pag
     abbrev failed : Parts D
     failed = record old { pages = pages; transactions = with_failed old.transactions n o; journal = j }
 
-    failed_now : transaction_of (with_failed old.transactions n o).opens n ≡ Some (failed_open o)
-    failed_now = failed_here old.transactions.opens n o (failed_open o) opened
-
-    short_left : LeavesParts told old failed n was None
-    short_left = record {
+    pub refused_so : StepsSo told old failed n was (stepped.Done (replies.Refused refusals.Memory))
+    refused_so = made_so told old pages (with_failed old.transactions n o) j n was None (record {
       fits = fit;
       leaves = keeps.leaves;
       over = over;
       in_hand = tt;
-      held = refl;
-      was_held = holds_none looking before stage;
-      locks = refl;
-      rights = refl;
-      was_right = holds_no_right old.pages.layout looking before stage;
-      dropped = refl;
+      held = sym its.holds;
+      right = its.right old.pages.layout;
       entries = short_fits;
       promised = promised_failed o (failed_open o) (transaction_of old.transactions.opens n) (transaction_of (with_failed old.transactions n o).opens n) (Some was) j.promised old.journal.promised before_share share
-          opened failed_now whole refl share_was promise less;
+          opened (failed_here old.transactions.opens n o (failed_open o) opened) whole refl share_was promise less;
       opens = λ m apart. failed_apart old.transactions.opens n m o apart;
-    }
-
-    abbrev answer : Stepped
-    answer = stepped.Done (replies.Refused refusals.Memory)
-
-    module _ (names : List (List ℕ)) (hands_ : List (Option Hand)) (is : hand_in hands_ n ≡ Some was) (tells : Tells told old.pages) where
-      refused_left : RefusedLeft (store names hands_ is) (shown_of (store_of failed names (with_hand hands_ n None))) n o query
-      refused_left = record {
-        others = record {
-          layout = keeps.leaves.layout;
-          names = refl;
-          first = refl;
-          hands = (hand_changes hands_ n was None is).others;
-          opens = λ m apart. failed_apart old.transactions.opens n m o apart;
-        };
-        pages = keeps.pages tells;
-        transactions = refl;
-        locks = refl;
-        rights = refl;
-        queue = refl;
-        dropped = refl;
-        entries = short;
-        none = (hand_changes hands_ n was None is).own;
-        fits = short_fits;
-      }
-
-    pub refused_so : StepsSo told old failed n was answer
-    refused_so = record {
-      steps = λ names hands_ is tells first last p shown.
-          scan_refused laws (store names hands_ is) (shown_of (store_of failed names (with_hand hands_ n None))) n looking before o (there names hands_ is) p shown (refused_left names hands_ is tells);
-      fit = stays_fit told old failed n was None short_left answer refl;
-      others = leaves_others told old failed n was None short_left answer refl;
-      stays = λ names hands_ is. tt;
-      cause = (ready, still);
-    }
+    }) (stepped.Done (replies.Refused refusals.Memory)) refl
+        (λ names hands_ is tells first last p shown.
+        scan_refused laws (store names hands_ is) (shown_of (store_of failed names (with_hand hands_ n None))) n looking before o (there names hands_ is) p shown
+        (left_with names hands_ is tells (with_failed old.transactions n o) refl (λ m apart. failed_apart old.transactions.opens n m o apart) j None) short (hand_changes hands_ n was None is).own short_fits)
+        (λ names hands_ is. tt) (ready, still)
 
   -- ---- the journal lacks room
 
@@ -332,9 +283,8 @@ module _ {D : Type 0} (told : D → Told) (laws : LookLaws) (old : Parts D) (pag
 
   refused_by : NotDamaged → IsShown told old n was → IsHand before.judging → (error : StoreError)
       → Refused told (Tells told old.pages → IsDamagedAt old.pages.layout old.pages.pages before.judging.indexes before.judging.stage) old.pages pages error → Refused told (Untold told old.pages) old.pages pages error
-  refused_by law shown known errors.Disk refused = refused
-  refused_by law shown known (errors.Reopen faults) refused = refused
   refused_by law shown known (errors.Damaged at) refused = (refused.0, refused.1, refused.2, undamaged law shown known refused.0 refused.3)
+  refused_by law shown known error refused = refused
 
   pub undone_so : NotDamaged → IsShown told old n was → IsHand before.judging → (error : StoreError)
       → Refused told (Tells told old.pages → IsDamagedAt old.pages.layout old.pages.pages before.judging.indexes before.judging.stage) old.pages pages error → NamesAPage old.pages.layout error

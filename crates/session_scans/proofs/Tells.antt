@@ -58,7 +58,7 @@ use Rattle.session_scans.proofs.Led.{IsInHand, ScanLeft, order_stays, place_show
 use Rattle.session_scans.proofs.Standing.{LooksThere, account_is, in_hand, pages_show, shows}
 use Rattle.session_scans.proofs.Stands.{IsThere}
 use Rattle.session_scans.proofs.Turns.{copy, reads, tells_nothing, turns_there}
-use Rattle.session_scans.proofs.Words.{next_is}
+use Rattle.session_scans.proofs.Words.{looks}
 
 -- nothing is left to ask
 none_left : (looking : Looking) (query : Query) (n : ℕ) (found : List (Row × Spot)) (rows : List Row) (reply : Reply) (answers : List Answer) → answers ≡ Found rows ∷ [] → IsReplyOf looking found rows reply
@@ -86,8 +86,15 @@ none_in_hand old new n table blocks stored is = record {
   task = subst (λ (h : Option Hand). IsTaskOf old.layout table blocks new.transactions.tx stored (transaction_of new.transactions.opens n) h Resting) (sym is) refl;
 }
 
+pub none_then : (old new : ShownStore) (n : ℕ) (account : Account) (d : DatabaseState) → new.pages ≡ old.pages → hand_in new.hands n ≡ None → HasInHand old new n None account d
+none_then old new n account d pages is = record {
+  hand = subst (λ (h : Option Hand). HandShows h None account) (sym is) refl;
+  own = λ h here. absurd (none-some h (sym is ∙ here));
+  order = λ index below ordered. order_stays old new pages index ordered;
+}
+
 module _ (laws : LookLaws) (old new : ShownStore) (n : ℕ) (looking : Looking) (before after : FindHand) (o : Open) (there : LooksThere old n looking before o) (p : Place) (shown : IsPlaceOf old p)
-    (left : ScanLeft old new n) (few : length new.entries ≤ MAX_ENTRIES) (looked : new.entries ≡ old.entries ++ look_entry n before.judging.query ∷ []) (is : hand_in new.hands n ≡ None)
+    (left : ScanLeft old new n old.transactions) (few : length new.entries ≤ MAX_ENTRIES) (looked : new.entries ≡ old.entries ++ look_entry n before.judging.query ∷ []) (is : hand_in new.hands n ≡ None)
     (same : after.judging.query ≡ before.judging.query) (point : Point) (named : point ≡ point_at before.judging.stage) (steps : MakesStep laws old n looking before after o there p shown (did.Finished point))
     (stand : All (IsThere before.judging.query.table (shows laws old n looking before o there p shown).blocks) after.found) (ascend : scans.Ascend 0 0 after.found)
     (reply : Reply) (rows : List Row) (lists : ListsRows after.found rows) (replied : IsReplyOf looking after.found rows reply) where
@@ -125,16 +132,9 @@ module _ (laws : LookLaws) (old new : ShownStore) (n : ℕ) (looking : Looking) 
   shows_then = subst (λ (m : PageMap). ShowsDatabase old.layout m new.transactions d) (sym left.pages)
       (subst (λ (t : TransactionsState). ShowsDatabase old.layout old.pages t d) (sym left.transactions) shown.database)
 
-  has_none : HasInHand old new n None account (after_request d e)
-  has_none = record {
-    hand = subst (λ (h : Option Hand). HandShows h None account) (sym is) refl;
-    own = λ h here. absurd (none-some h (sym is ∙ here));
-    order = λ index below ordered. order_stays old new left.pages index ordered;
-  }
-
   leads : LeadsTo old new p n None account
   leads = request_leads old new p n None account e (Found (rows_found (copy laws old n looking before o there p shown).0 query)) shown refl legal looked (d, does, shows_then) tt
-      (look_stays_within old new left.transactions (λ place. ap (λ (m : PageMap). page_at m place) left.pages)) has_none
+      (look_stays_within old new left.transactions (λ place. ap (λ (m : PageMap). page_at m place) left.pages)) (none_then old new n account (after_request d e) left.pages is)
 
   abbrev course : Course
   course = entered p.opening (course_of p hand) e
@@ -143,7 +143,7 @@ module _ (laws : LookLaws) (old new : ShownStore) (n : ℕ) (looking : Looking) 
   answers_are = ap (λ (r : DatabaseState × Answer). r.1 ∷ []) does ∙ ap (λ (l : List Row). Found l ∷ []) (sym its_rows)
 
   makes : MakesAll p.opening n (statement_for looking query) (course_of p hand) course
-  makes = OneMore (course_of p hand) course course (Enters e (next_is looking query n)) (NoneLeft course (none_left looking query n after.found rows reply course.answers answers_are replied))
+  makes = OneMore (course_of p hand) course course (Enters e ((looks looking query).next_is n)) (NoneLeft course (none_left looking query n after.found rows reply course.answers answers_are replied))
 
   entries_are : course.journal ≡ new.entries
   entries_are = ap (λ (j : List Entry). j ++ e ∷ []) shown.journal ∙ sym looked

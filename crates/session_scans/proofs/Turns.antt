@@ -40,21 +40,17 @@ use Rattle.session_scans.specs.declared.looking.Looking.TheVariants as lookings
 use Rattle.session_scans.specs.LookLaws.{LookLaws}
 use Rattle.session_scans.specs.Looks.{deletes_of, statement_for}
 use Rattle.session_scans.proofs.Standing.{LooksThere, ScansAt, kept, pages_show, scans_at, shows, sight, w}
-use Rattle.session_scans.proofs.Words.{not_work, on_table}
+use Rattle.session_scans.proofs.Words.{looks}
 
 -- a step of a scan doesn't prune
 pub reads : (stage : Stage) → point_at stage ≢ points.Prune
 reads stages.Extent is = cc
-reads (stages.Map at range) is = cc
-reads (stages.Tuple at range spot) is = cc
-reads stages.Judged is = cc
+reads stage is = cc
 
 -- where the account is empty, it stays so
 pub tells_nothing : (stage : Stage) (account : Account) → account ≡ no_account → account_at stage account ≡ no_account
 tells_nothing stages.Extent account is = refl
-tells_nothing (stages.Map at range) account is = is
-tells_nothing (stages.Tuple at range spot) account is = is
-tells_nothing stages.Judged account is = is
+tells_nothing stage account is = is
 
 -- a select or a delete begins with its scan
 begins_with : (looking : Looking) (query : Query) (p : Place) (n : ℕ) (v : TableState) (task : Task) (scan : TableScan) → IsScanOfQuery p n v query false (deletes_of looking) scan → task ≡ Scans scan
@@ -156,4 +152,4 @@ module _ (laws : LookLaws) (s : ShownStore) (n : ℕ) (looking : Looking) (befor
         pub turns_there : point ≢ points.Prune
             → (turns : TurnsIn p n (statement_for looking query) query.table v (account_at before.judging.stage (p.accounts n))) × (point_in turns ≡ Some point) × (turns.step.between ≡ between)
         turns_there no_prune = machine_turns p n query.table (statement_for looking query) here between v point (account_at before.judging.stage) (shows laws s n looking before o there p shown).shown
-            (not_work looking query) (on_table looking query p n) goes.does no_prune settles (inr begins)
+            (looks looking query).not_work ((looks looking query).on_table p n) goes.does no_prune settles (inr begins)

@@ -31,131 +31,75 @@ use Rattle.session_scans.specs.declared.looking.Looking.TheVariants as lookings
 use Rattle.session_scans.specs.Looks.{first_hand_of, hand_before, scan_hand_of, statement_for}
 use Rattle.session_scans.specs.ScanSteps.{promised_before}
 
--- what holds before the first step, and of the scan, holds at each stage
-module _ (P : Hand → Type 0) (looking : Looking) (scan : FindHand) where
-  pub by_stage : P (first_hand_of looking scan.judging.query) → P (scan_hand_of looking scan) → (stage : Stage) → P (hand_before looking scan stage)
-  by_stage first later stages.Extent = first
-  by_stage first later (stages.Map at range) = later
-  by_stage first later (stages.Tuple at range spot) = later
-  by_stage first later stages.Judged = later
-
 pub hand_later : (looking : Looking) (scan : FindHand) (stage : Stage) → stage ≢ stages.Extent → hand_before looking scan stage ≡ scan_hand_of looking scan
 hand_later looking scan stages.Extent begun = absurd (begun refl)
-hand_later looking scan (stages.Map at range) begun = refl
-hand_later looking scan (stages.Tuple at range spot) begun = refl
-hand_later looking scan stages.Judged begun = refl
+hand_later looking scan stage begun = refl
 
 pub promised_later : (stage : Stage) (promised : ℕ) → stage ≢ stages.Extent → promised_before stage promised ≡ promised
 promised_later stages.Extent promised begun = absurd (begun refl)
-promised_later (stages.Map at range) promised begun = refl
-promised_later (stages.Tuple at range spot) promised begun = refl
-promised_later stages.Judged promised begun = refl
+promised_later stage promised begun = refl
 
 -- ---- the statement
 
-pub first_statement : (looking : Looking) (query : Query) → statement_of (first_hand_of looking query) ≡ statement_for looking query
-first_statement lookings.Select query = refl
-first_statement lookings.Delete query = refl
+pub record IsLooking (looking : Looking) (query : Query) : Type 0 where
+  pub full : (long : ℕ) → MAX_ENTRIES < long + 1 → MAX_ENTRIES < long + most_entered (statement_for looking query)
+  pub not_work : statement_for looking query ≢ statements.Work
+  pub on_table : (p : Place) (n : ℕ) → IsIn p n (statement_for looking query) query.table
+  pub may_lack : (p : Place) (n : ℕ) → MayLackMemory p n (statement_for looking query)
+  pub takes_memory : TakesMemory (statement_for looking query)
+  pub refused_is : (n : ℕ) (tag : Tag) → refused_request n tag (statement_for looking query) ≡ tagged_entry n query.table (requests.Look query) tag ∷ []
+  pub next_is : (n : ℕ) → next_request n (statement_for looking query) [] ≡ Some (look_entry n query)
 
-pub scan_statement : (looking : Looking) (scan : FindHand) → statement_of (scan_hand_of looking scan) ≡ statement_for looking scan.judging.query
-scan_statement lookings.Select scan = refl
-scan_statement lookings.Delete scan = refl
+pub looks : (looking : Looking) (query : Query) → IsLooking looking query
+looks lookings.Select query = record { full = λ long full. full; not_work = λ is. cc; on_table = λ p n. refl; may_lack = λ p n. tt; takes_memory = tt; refused_is = λ n tag. refl; next_is = λ n. refl }
+looks lookings.Delete query = record { full = λ long full. omega (arith, full); not_work = λ is. cc; on_table = λ p n. refl; may_lack = λ p n. tt; takes_memory = tt; refused_is = λ n tag. refl; next_is = λ n. refl }
 
-pub statement_is : (looking : Looking) (scan : FindHand) (stage : Stage) → statement_of (hand_before looking scan stage) ≡ statement_for looking scan.judging.query
-statement_is looking scan stage =
-    by_stage (λ (h : Hand). statement_of h ≡ statement_for looking scan.judging.query) looking scan (first_statement looking scan.judging.query) (scan_statement looking scan) stage
+-- the place has the statement in hand, to which nothing was answered, and which has nothing to tell
+pub record IsShownInHand (looking : Looking) (query : Query) (shown : Option HandAt) (account : Account) : Type 0 where
+  pub in_hand : shown ≡ Some (new_hand (statement_for looking query))
+  pub account_is : account ≡ no_account
 
-pub full_for : (looking : Looking) (query : Query) (long : ℕ) → MAX_ENTRIES < long + 1 → MAX_ENTRIES < long + most_entered (statement_for looking query)
-full_for lookings.Select query long full = full
-full_for lookings.Delete query long full = omega (arith, full)
-
-pub not_work : (looking : Looking) (query : Query) → statement_for looking query ≢ statements.Work
-not_work lookings.Select query is = cc
-not_work lookings.Delete query is = cc
-
-pub on_table : (looking : Looking) (query : Query) (p : Place) (n : ℕ) → IsIn p n (statement_for looking query) query.table
-on_table lookings.Select query p n = refl
-on_table lookings.Delete query p n = refl
-
-pub may_lack : (looking : Looking) (query : Query) (p : Place) (n : ℕ) → MayLackMemory p n (statement_for looking query)
-may_lack lookings.Select query p n = tt
-may_lack lookings.Delete query p n = tt
-
-pub takes_memory : (looking : Looking) (query : Query) → TakesMemory (statement_for looking query)
-takes_memory lookings.Select query = tt
-takes_memory lookings.Delete query = tt
-
-pub refused_is : (looking : Looking) (query : Query) (n : ℕ) (tag : Tag) → refused_request n tag (statement_for looking query) ≡ tagged_entry n query.table (requests.Look query) tag ∷ []
-refused_is lookings.Select query n tag = refl
-refused_is lookings.Delete query n tag = refl
-
-pub next_is : (looking : Looking) (query : Query) (n : ℕ) → next_request n (statement_for looking query) [] ≡ Some (look_entry n query)
-next_is lookings.Select query n = refl
-next_is lookings.Delete query n = refl
-
--- ---- its locks, and its share of the journal
-
-pub first_holds : (looking : Looking) (query : Query) → locks_held (Some (first_hand_of looking query)) ≡ 0
-first_holds lookings.Select query = refl
-first_holds lookings.Delete query = refl
-
-pub scan_holds : (looking : Looking) (scan : FindHand) → locks_held (Some (scan_hand_of looking scan)) ≡ 0
-scan_holds lookings.Select scan = refl
-scan_holds lookings.Delete scan = refl
-
-first_right : (layout : DiskLayout) (looking : Looking) (query : Query) → right_held layout (Some (first_hand_of looking query)) ≡ None
-first_right layout lookings.Select query = refl
-first_right layout lookings.Delete query = refl
-
-scan_right : (layout : DiskLayout) (looking : Looking) (scan : FindHand) → right_held layout (Some (scan_hand_of looking scan)) ≡ None
-scan_right layout lookings.Select scan = refl
-scan_right layout lookings.Delete scan = refl
-
-pub holds_no_right : (layout : DiskLayout) (looking : Looking) (scan : FindHand) (stage : Stage) → right_held layout (Some (hand_before looking scan stage)) ≡ None
-holds_no_right layout looking scan stage = by_stage (λ (h : Hand). right_held layout (Some h) ≡ None) looking scan (first_right layout looking scan.judging.query) (scan_right layout looking scan) stage
-
-pub scan_no_insert : (looking : Looking) (scan : FindHand) → IsNoInsert (Some (scan_hand_of looking scan))
-scan_no_insert lookings.Select scan = tt
-scan_no_insert lookings.Delete scan = tt
-
-pub holds_none : (looking : Looking) (scan : FindHand) (stage : Stage) → locks_held (Some (hand_before looking scan stage)) ≡ 0
-holds_none looking scan stage = by_stage (λ (h : Hand). locks_held (Some h) ≡ 0) looking scan (first_holds looking scan.judging.query) (scan_holds looking scan) stage
+-- ---- its hand: its locks, its share of the journal, what it is fit for, and in a place
 
 abbrev pub scan_share : Stage → ℕ
 scan_share stages.Extent = 0
 scan_share stage = 1
 
-pub first_shares : (looking : Looking) (query : Query) → hand_share (Some (first_hand_of looking query)) ≡ 0
-first_shares lookings.Select query = refl
-first_shares lookings.Delete query = refl
-
-pub scan_shares : (looking : Looking) (scan : FindHand) → hand_share (Some (scan_hand_of looking scan)) ≡ 1
-scan_shares lookings.Select scan = refl
-scan_shares lookings.Delete scan = refl
-
-pub share_is : (looking : Looking) (scan : FindHand) (stage : Stage) → hand_share (Some (hand_before looking scan stage)) ≡ scan_share stage
-share_is looking scan stages.Extent = first_shares looking scan.judging.query
-share_is looking scan (stages.Map at range) = scan_shares looking scan
-share_is looking scan (stages.Tuple at range spot) = scan_shares looking scan
-share_is looking scan stages.Judged = scan_shares looking scan
-
-pub promised_is : (stage : Stage) (promised : ℕ) → 0 < promised → promised_before stage promised + 1 ≡ promised + scan_share stage
-promised_is stages.Extent promised some = omega (arith, some)
-promised_is (stages.Map at range) promised some = refl
-promised_is (stages.Tuple at range spot) promised some = refl
-promised_is stages.Judged promised some = refl
-
--- ---- what it is fit for
-
 -- its transaction is under way, and its table is one of the layout
 abbrev pub FitsLook : DiskLayout → Option Open → Query → Type 0
 FitsLook layout own query = IsUnderWay own × (query.table < length layout.schema.tables)
 
-module _ (layout : DiskLayout) (own : Option Open) where
-  pub first_fits : (looking : Looking) (query : Query) → IsHandFor layout own (first_hand_of looking query) → FitsLook layout own query
-  first_fits lookings.Select query fits = fits
-  first_fits lookings.Delete query fits = fits
+pub record IsHandOf (looking : Looking) (query : Query) (count : ℕ) (hand : Hand) : Type 0 where
+  pub statement : statement_of hand ≡ statement_for looking query
+  pub holds : locks_held (Some hand) ≡ 0
+  pub right : (layout : DiskLayout) → right_held layout (Some hand) ≡ None
+  pub asks : IsNoInsert (Some hand)
+  pub share : hand_share (Some hand) ≡ count
+  pub look : (layout : DiskLayout) (own : Option Open) → IsHandFor layout own hand → FitsLook layout own query
+  pub in_table : (layout : DiskLayout) (other : ℕ) → table_in layout (Some hand) ≡ Some other → other ≡ query.table
+  pub shows : (shown : Option HandAt) (account : Account) → HandShows (Some hand) shown account → IsShownInHand looking query shown account
 
+shown_in : (looking : Looking) (query : Query) (shown : Option HandAt) (account : Account) (at : HandAt) → shown ≡ Some at → at.statement ≡ statement_for looking query → at.answers ≡ [] → account ≡ no_account
+    → IsShownInHand looking query shown account
+shown_in looking query shown account at is statement answers empty = record { in_hand = is ∙ ap Some (λ i. record { statement = statement i; answers = answers i }); account_is = empty }
+
+pub first_is : (looking : Looking) (query : Query) → IsHandOf looking query 0 (first_hand_of looking query)
+first_is lookings.Select query = record { statement = refl; holds = refl; right = λ layout. refl; asks = tt; share = refl; look = λ layout own fits. fits; in_table = λ layout other is. absurd (none-some other is); shows = λ shown account s. shown_in lookings.Select query shown account s.0 s.1 s.2 s.3 s.4 }
+first_is lookings.Delete query = record { statement = refl; holds = refl; right = λ layout. refl; asks = tt; share = refl; look = λ layout own fits. fits; in_table = λ layout other is. absurd (none-some other is); shows = λ shown account s. shown_in lookings.Delete query shown account s.0 s.1 s.2 s.3 s.4 }
+
+pub scan_is : (looking : Looking) (scan : FindHand) → IsHandOf looking scan.judging.query 1 (scan_hand_of looking scan)
+scan_is lookings.Select scan = record { statement = refl; holds = refl; right = λ layout. refl; asks = tt; share = refl; look = λ layout own fits. (fits.0, fits.1.judging.table); in_table = λ layout other is. sym (same_Some scan.judging.query.table other is); shows = λ shown account s. shown_in lookings.Select scan.judging.query shown account s.0 s.1 s.2 s.3 s.4 }
+scan_is lookings.Delete scan = record { statement = refl; holds = refl; right = λ layout. refl; asks = tt; share = refl; look = λ layout own fits. (fits.0, fits.1.judging.table); in_table = λ layout other is. sym (same_Some scan.judging.query.table other is); shows = λ shown account s. shown_in lookings.Delete scan.judging.query shown account s.0 s.1 s.2 s.3 s.4 }
+
+pub hand_is : (looking : Looking) (scan : FindHand) (stage : Stage) → IsHandOf looking scan.judging.query (scan_share stage) (hand_before looking scan stage)
+hand_is looking scan stages.Extent = first_is looking scan.judging.query
+hand_is looking scan stage = scan_is looking scan
+
+pub promised_is : (stage : Stage) (promised : ℕ) → 0 < promised → promised_before stage promised + 1 ≡ promised + scan_share stage
+promised_is stages.Extent promised some = omega (arith, some)
+promised_is stage promised some = refl
+
+module _ (layout : DiskLayout) (own : Option Open) where
   pub fits_first : (looking : Looking) (query : Query) → FitsLook layout own query → IsHandFor layout own (first_hand_of looking query)
   fits_first lookings.Select query fits = fits
   fits_first lookings.Delete query fits = fits
@@ -171,45 +115,10 @@ module _ (layout : DiskLayout) (own : Option Open) where
   fits_scan lookings.Select scan fits = fits
   fits_scan lookings.Delete scan fits = fits
 
-  pub fits_look : (looking : Looking) (scan : FindHand) (stage : Stage) → IsHandFor layout own (hand_before looking scan stage) → FitsLook layout own scan.judging.query
-  fits_look looking scan stage = by_stage (λ (h : Hand). IsHandFor layout own h → FitsLook layout own scan.judging.query) looking scan (first_fits looking scan.judging.query)
-      (λ fits. let of = scan_fits looking scan fits in (of.0, of.1.judging.table)) stage
-
--- ---- in a place
-
-module _ (layout : DiskLayout) (other : ℕ) where
-  first_in : (looking : Looking) (query : Query) → table_in layout (Some (first_hand_of looking query)) ≡ Some other → other ≡ query.table
-  first_in lookings.Select query is = absurd (none-some other is)
-  first_in lookings.Delete query is = absurd (none-some other is)
-
-  pub scan_in : (looking : Looking) (scan : FindHand) → table_in layout (Some (scan_hand_of looking scan)) ≡ Some other → other ≡ scan.judging.query.table
-  scan_in lookings.Select scan is = sym (same_Some scan.judging.query.table other is)
-  scan_in lookings.Delete scan is = sym (same_Some scan.judging.query.table other is)
-
-  pub in_table : (looking : Looking) (scan : FindHand) (stage : Stage) → table_in layout (Some (hand_before looking scan stage)) ≡ Some other → other ≡ scan.judging.query.table
-  in_table looking scan stage = by_stage (λ (h : Hand). table_in layout (Some h) ≡ Some other → other ≡ scan.judging.query.table) looking scan (first_in looking scan.judging.query) (scan_in looking scan) stage
-
-  -- before its first step it is in none
-  pub first_in_none : (looking : Looking) (query : Query) → table_in layout (Some (first_hand_of looking query)) ≡ Some other → ⊥
-  first_in_none lookings.Select query is = none-some other is
-  first_in_none lookings.Delete query is = none-some other is
-
--- the place has the statement in hand, to which nothing was answered, and which has nothing to tell
-pub record IsShownInHand (looking : Looking) (query : Query) (shown : Option HandAt) (account : Account) : Type 0 where
-  pub in_hand : shown ≡ Some (new_hand (statement_for looking query))
-  pub account_is : account ≡ no_account
-
-module _ (shown : Option HandAt) (account : Account) where
-  first_shows : (looking : Looking) (query : Query) → HandShows (Some (first_hand_of looking query)) shown account → IsShownInHand looking query shown account
-  first_shows lookings.Select query shows = record { in_hand = shows.1 ∙ ap Some (λ i. record { statement = shows.2 i; answers = shows.3 i }); account_is = shows.4 }
-  first_shows lookings.Delete query shows = record { in_hand = shows.1 ∙ ap Some (λ i. record { statement = shows.2 i; answers = shows.3 i }); account_is = shows.4 }
-
-  scan_shows : (looking : Looking) (scan : FindHand) → HandShows (Some (scan_hand_of looking scan)) shown account → IsShownInHand looking scan.judging.query shown account
-  scan_shows lookings.Select scan shows = record { in_hand = shows.1 ∙ ap Some (λ i. record { statement = shows.2 i; answers = shows.3 i }); account_is = shows.4 }
-  scan_shows lookings.Delete scan shows = record { in_hand = shows.1 ∙ ap Some (λ i. record { statement = shows.2 i; answers = shows.3 i }); account_is = shows.4 }
-
-  pub shows_is : (looking : Looking) (scan : FindHand) (stage : Stage) → HandShows (Some (hand_before looking scan stage)) shown account → IsShownInHand looking scan.judging.query shown account
-  shows_is looking scan stage = by_stage (λ (h : Hand). HandShows (Some h) shown account → IsShownInHand looking scan.judging.query shown account) looking scan (first_shows looking scan.judging.query) (scan_shows looking scan) stage
+-- before its first step it is in none
+pub first_in_none : (layout : DiskLayout) (other : ℕ) (looking : Looking) (query : Query) → table_in layout (Some (first_hand_of looking query)) ≡ Some other → ⊥
+first_in_none layout other lookings.Select query is = none-some other is
+first_in_none layout other lookings.Delete query is = none-some other is
 
 pub scan_is_shown : (looking : Looking) (scan : FindHand) → HandShows (Some (scan_hand_of looking scan)) (Some (new_hand (statement_for looking scan.judging.query))) no_account
 scan_is_shown lookings.Select scan = (new_hand (statement_for lookings.Select scan.judging.query), refl, refl, refl, refl)

@@ -1,16 +1,14 @@
 -- A mark behind the call that tells whether its row is in conflict, which changes no page.
-use Rattle.std.proofs.Common.{◌≡◌, ℕ, Bool, length, None, Some, refl, sym, ap, ◌∙◌, subst}
-use Rattle.std.proofs.lemmas.Option.{none-some}
+use Rattle.std.proofs.Common.{◌≡◌, ℕ, None, Some, refl, sym, ap, subst}
 use Rattle.std.specs.List.{slice_get}
 use Rattle.disk_trait.specs.Told.{Told}
 use Rattle.store_layout.specs.DiskLayout.{DiskLayout}
 use Rattle.page_map.specs.Keeps.{Keeps, Tells}
 use Rattle.page_map.specs.PageMap.{PageMap, View, block_at}
-use Rattle.heap_rows.specs.HeapBlocks.{HasBlocks}
 use Rattle.heap_rows.specs.RowPlaces.{IsInUse}
 use Rattle.snapshot_core.specs.StoredVersions.{transaction_of}
 use Rattle.tx_table.specs.Kept.{over_kept}
-use Rattle.tx_table.specs.Statuses.{HasStatuses, status_relation}
+use Rattle.tx_table.specs.Statuses.{status_relation}
 use Rattle.tx_table.specs.TxState.{IsOver, TxState}
 use Rattle.transactions.specs.Laws.{CopyStands, SessionsAreShown}
 use Rattle.session_parts.specs.declared.hand.Hand.TheVariants as hands
@@ -18,12 +16,10 @@ use Rattle.session_parts.specs.declared.hand.Hit.{Hit}
 use Rattle.session_parts.specs.declared.hand.Marking.{Marking}
 use Rattle.session_parts.specs.declared.hand.Stepped.{Stepped}
 use Rattle.session_parts.specs.declared.parts.Parts.{Parts}
-use Rattle.session_parts.specs.HandFits.{FitsHand}
 use Rattle.session_parts.specs.Stepping.{IsFit, IsShown}
 use Rattle.session_parts.specs.StoreStates.{shown_of, store_of}
 use Rattle.session_parts.specs.UndoneLaws.{FitsParts, StepsSo}
-use Rattle.session_parts.proofs.Undone.{fit_of_parts, fit_of_stores, steps_behind}
-use Rattle.session_transactions.specs.HitConflicts.{HitConflicts}
+use Rattle.session_parts.proofs.Undone.{fit_of_parts, steps_behind}
 use Rattle.session_transactions.proofs.Standing.{MarksAt, marks_at, under_way}
 
 -- the transactions stay over the pages
@@ -33,34 +29,6 @@ over_still told tx old mid over keeps = over_kept told tx old mid over keeps.lea
 module _ {D : Type 0} (told : D → Told) (old : Parts D) (pages : View D) (n : ℕ) (marking : Marking) (keeps : Keeps told old.pages pages) where
   abbrev mid : Parts D
   mid = record old { pages = pages }
-
-  pub still_fit : IsFit told old n (hands.Marks marking) → IsFit told mid n (hands.Marks marking)
-  still_fit fits =
-      let was : FitsParts told old n (Some (hands.Marks marking)) = fit_of_parts told old n (hands.Marks marking) fits in (
-        fits.0,
-        fits.1,
-        fits.2,
-        fit_of_stores told mid n (Some (hands.Marks marking)) fits.0 fits.1 (record {
-          session = was.session;
-          over = over_still told old.transactions.tx old.pages pages was.over keeps;
-          in_hand = subst (λ (l : DiskLayout). FitsHand l (transaction_of old.transactions.opens n) (Some (hands.Marks marking))) (sym keeps.leaves.layout) was.in_hand;
-          limit = was.limit;
-          own = was.own;
-          held = λ table holds. absurd (none-some table (was.held table holds));
-          rights = was.rights ∙ ap (λ (l : DiskLayout). length l.schema.tables) (sym keeps.leaves.layout);
-          entries = was.entries;
-          share = was.share;
-        }) fits.2,
-      )
-
-  -- what was said of the row holds of the pages then
-  pub still_so : (first table : ℕ) (hit : Hit) (own : ℕ) (conflicts : Bool) → HitConflicts told old.pages first table hit own conflicts → HitConflicts told pages first table hit own conflicts
-  still_so first table hit own conflicts so tells stored blocks row has blocks_has there its_id =
-      let before : Tells told old.pages = sym keeps.leaves.tells ∙ tells in
-      let same : pages.pages ≡ old.pages.pages = keeps.pages before in
-      so before stored blocks row
-      (subst (λ (map : PageMap). HasStatuses old.pages.layout map stored) same (subst (λ (l : DiskLayout). HasStatuses l pages.pages stored) keeps.leaves.layout has))
-      (subst (λ (map : PageMap). HasBlocks old.pages.layout map table blocks) same (subst (λ (l : DiskLayout). HasBlocks l pages.pages table blocks) keeps.leaves.layout blocks_has)) there its_id
 
   pub still_in_use : (table : ℕ) (hit : Hit) → IsInUse old.pages.layout old.pages.pages table hit.spot → Tells told old.pages → IsInUse pages.layout pages.pages table hit.spot
   still_in_use table hit used tells = subst (λ (l : DiskLayout). IsInUse l pages.pages table hit.spot) (sym keeps.leaves.layout) (subst (λ (map : PageMap). IsInUse old.pages.layout map table hit.spot) (sym (keeps.pages tells)) used)

@@ -19,7 +19,7 @@ use Rattle.coverage.specs.Table.{Marks, Resting, TableScan, TableState}
 use Rattle.coverage.specs.TableSteps.{OnlyTurns}
 use Rattle.script_semantics.specs.Place.{Hand as HandAt, Place, database_at}
 use Rattle.script_semantics.specs.Requests.{Course}
-use Rattle.script_semantics.specs.StatementSteps.{Ended, LacksRoom, Moved, StepsTo, course_of}
+use Rattle.script_semantics.specs.StatementSteps.{Ended, LacksRoom, Moved, Outcome, StepsTo, course_of}
 use Rattle.session_parts.specs.PlacesAfter.{TurnsIn, place_after, refusal_in}
 use Rattle.session_parts.specs.RefusalLaws.{refused_in}
 use Rattle.session_parts.proofs.Refusals.{mark_is_refused}
@@ -49,53 +49,58 @@ module _ (p : Place) (n : ℕ) (query : Query) (answers : List Answer) (first : 
   abbrev at : HandAt
   at = record { statement = statements.Delete query; answers = answers }
 
-  -- the mark is made
-  module _ (after : DatabaseState) (does : effect (database_at p) (mark_entry n query.table stands.row) ≡ (after, Marked)) where
-    pub made : (f : Course) × IsMarked p.opening n query (course_of p at) stands.rows (entries_of first n query stands.row) (replicate k Marked ++ Marked ∷ []) after f
-    made = one_mark p.opening n query (course_of p at) stands.copy stands.got stands.rows stands.row stands.more Marked after does first k stands.has stands.left
+  -- the mark is answered
+  module _ (answer : Answer) (after : DatabaseState) (does : effect (database_at p) (mark_entry n query.table stands.row) ≡ (after, answer)) where
+    pub answered : (f : Course) × IsMarked p.opening n query (course_of p at) stands.rows (entries_of first n query stands.row) (replicate k Marked ++ answer ∷ []) after f
+    answered = one_mark p.opening n query (course_of p at) stands.copy stands.got stands.rows stands.row stands.more answer after does first k stands.has stands.left
 
     abbrev pub course : Course
-    course = made.0
+    course = answered.0
 
-    pub course_is : IsMarked p.opening n query (course_of p at) stands.rows (entries_of first n query stands.row) (replicate k Marked ++ Marked ∷ []) after course
-    course_is = made.1
+    pub course_is : IsMarked p.opening n query (course_of p at) stands.rows (entries_of first n query stands.row) (replicate k Marked ++ answer ∷ []) after course
+    course_is = answered.1
 
-    pub answers_are : course.answers ≡ Found stands.rows ∷ replicate (suc k) Marked
-    answers_are = course_is.answers ∙ ap (λ (l : List Answer). Found stands.rows ∷ l) (one_marked_more k)
+  -- the mark is made
+  module _ (after : DatabaseState) (does : effect (database_at p) (mark_entry n query.table stands.row) ≡ (after, Marked)) where
+    abbrev made : Course
+    made = course Marked after does
+
+    abbrev is_made : IsMarked p.opening n query (course_of p at) stands.rows (entries_of first n query stands.row) (replicate k Marked ++ Marked ∷ []) after made
+    is_made = course_is Marked after does
+
+    pub answers_are : made.answers ≡ Found stands.rows ∷ replicate (suc k) Marked
+    answers_are = is_made.answers ∙ ap (λ (l : List Answer). Found stands.rows ∷ l) (one_marked_more k)
 
     left_then : drop (suc k) stands.rows ≡ stands.more
     left_then = drop_next stands.rows k stands.row stands.more stands.left
 
     -- and another one is left
     pub goes_on : (next : Row) (rest : List Row) (v : TableState) (counts : ℕ → Bool) → stands.more ≡ next ∷ rest → IsMarkTurn p n query v → v.task n ≢ Resting
-        → StepsTo p n at (Moved points.Mark) (place_after p n query.table (Some (record at { answers = course.answers })) v (p.accounts n) counts course.journal)
-    goes_on next rest v counts more turn busy = turn_goes_on p n query.table at v (p.accounts n) counts points.Mark course turn.0 turn.1 busy
-        (course_is.made, (mark_entry n query.table next, one_left n query stands.rows (suc k) next rest course.answers answers_are (left_then ∙ more)))
+        → StepsTo p n at (Moved points.Mark) (place_after p n query.table (Some (record at { answers = made.answers })) v (p.accounts n) counts made.journal)
+    goes_on next rest v counts more turn busy = turn_goes_on p n query.table at v (p.accounts n) counts points.Mark made turn.0 turn.1 busy
+        (is_made.made, (mark_entry n query.table next, one_left n query stands.rows (suc k) next rest made.answers answers_are (left_then ∙ more)))
 
     -- and it was the last
     pub ends : (v : TableState) (counts : ℕ → Bool) → stands.more ≡ [] → IsMarkTurn p n query v → v.task n ≡ Resting
-        → StepsTo p n at (Ended (replies.Deleted (suc k))) (place_after p n query.table None v (p.accounts n) counts course.journal)
-    ends v counts more turn rests = turn_replies p n query.table at v (p.accounts n) counts points.Mark course (replies.Deleted (suc k)) turn.0 turn.1 rests
-        (all_made p.opening n (statements.Delete query) (course_of p at) course course_is.made (none_left n query stands.rows (suc k) course.answers answers_are (left_then ∙ more)))
+        → StepsTo p n at (Ended (replies.Deleted (suc k))) (place_after p n query.table None v (p.accounts n) counts made.journal)
+    ends v counts more turn rests = turn_replies p n query.table at v (p.accounts n) counts points.Mark made (replies.Deleted (suc k)) turn.0 turn.1 rests
+        (all_made p.opening n (statements.Delete query) (course_of p at) made is_made.made (none_left n query stands.rows (suc k) made.answers answers_are (left_then ∙ more)))
         (sym (ap deleted_reply answers_are ∙ deleted stands.rows (suc k)))
 
   -- another one stands in the way
   module _ (after : DatabaseState) (does : effect (database_at p) (mark_entry n query.table stands.row) ≡ (after, Conflict stands.row.id)) where
-    pub met : (f : Course) × IsMarked p.opening n query (course_of p at) stands.rows (entries_of first n query stands.row) (replicate k Marked ++ Conflict stands.row.id ∷ []) after f
-    met = one_mark p.opening n query (course_of p at) stands.copy stands.got stands.rows stands.row stands.more (Conflict stands.row.id) after does first k stands.has stands.left
+    abbrev met : Course
+    met = course (Conflict stands.row.id) after does
 
-    abbrev pub course_met : Course
-    course_met = met.0
-
-    pub course_met_is : IsMarked p.opening n query (course_of p at) stands.rows (entries_of first n query stands.row) (replicate k Marked ++ Conflict stands.row.id ∷ []) after course_met
-    course_met_is = met.1
+    abbrev is_met : IsMarked p.opening n query (course_of p at) stands.rows (entries_of first n query stands.row) (replicate k Marked ++ Conflict stands.row.id ∷ []) after met
+    is_met = course_is (Conflict stands.row.id) after does
 
     pub conflicts : (v : TableState) (account_counts : ℕ → Bool) (turns : TurnsIn p n (statements.Delete query) query.table v (p.accounts n)) → refusal_in turns ≡ Some (HasConflict stands.row.id)
-        → StepsTo p n at (Ended (replies.Refused (refusals.Conflict stands.row.id))) (place_after p n query.table None v (p.accounts n) account_counts course_met.journal)
-    conflicts v counts turns refused = turn_conflicts p n query.table at v (p.accounts n) counts stands.row.id course_met turns refused
-        (all_made p.opening n (statements.Delete query) (course_of p at) course_met course_met_is.made
-        (none_behind_it n query stands.rows k stands.row.id stands.row stands.more course_met.answers course_met_is.answers stands.left))
-        (sym (ap deleted_reply course_met_is.answers ∙ met_conflict stands.rows k stands.row.id))
+        → StepsTo p n at (Ended (replies.Refused (refusals.Conflict stands.row.id))) (place_after p n query.table None v (p.accounts n) account_counts met.journal)
+    conflicts v counts turns refused = turn_conflicts p n query.table at v (p.accounts n) counts stands.row.id met turns refused
+        (all_made p.opening n (statements.Delete query) (course_of p at) met is_met.made
+        (none_behind_it n query stands.rows k stands.row.id stands.row stands.more met.answers is_met.answers stands.left))
+        (sym (ap deleted_reply is_met.answers ∙ met_conflict stands.rows k stands.row.id))
 
   -- ---- the journal lacks room
 
@@ -113,42 +118,31 @@ module _ (p : Place) (n : ℕ) (query : Query) (answers : List Answer) (first : 
     turn : IsMarkTurn p n query v
     turn = mark_turns p n query (p.tables query.table) stands.scan stands.row.id (map (λ (r : Row). r.id) stands.more) stands.at same_table (λ m. refl)
 
+    lacks : (outcome : Outcome) (further : Place) → StepsTo p n at outcome further → further.journal ≡ p.journal ++ entries_of first n query stands.row → LacksRoom p n
+    lacks outcome further steps is = record {
+      hand = at;
+      in_hand = stands.in_hand;
+      outcome = outcome;
+      further = further;
+      steps = steps;
+      past = subst (λ (l : List Entry). MAX_ENTRIES < length l) (sym is) past;
+    }
+
     lacks_for_mark : (after : DatabaseState) → effect (database_at p) (mark_entry n query.table stands.row) ≡ (after, Marked) → (more : List Row) → stands.more ≡ more → LacksRoom p n
-    lacks_for_mark after does [] is = record {
-      hand = at;
-      in_hand = stands.in_hand;
-      outcome = Ended (replies.Deleted (suc k));
-      further = place_after p n query.table None v (p.accounts n) (λ t. true) (course after does).journal;
-      steps = ends after does v (λ t. true) is turn (task_then n (p.tables query.table) _ ∙ ap (λ (l : List Row). left_at stands.scan (map (λ (r : Row). r.id) l)) is);
-      past = subst (λ (l : List Entry). MAX_ENTRIES < length l) (sym (course_is after does).journal) past;
-    }
-    lacks_for_mark after does (next ∷ rest) is = record {
-      hand = at;
-      in_hand = stands.in_hand;
-      outcome = Moved points.Mark;
-      further = place_after p n query.table (Some (record at { answers = (course after does).answers })) v (p.accounts n) (λ t. true) (course after does).journal;
-      steps = goes_on after does next rest v (λ t. true) is turn (λ rests. marks_or_rests (sym (task_then n (p.tables query.table) _ ∙ ap (λ (l : List Row). left_at stands.scan (map (λ (r : Row). r.id) l)) is) ∙ rests));
-      past = subst (λ (l : List Entry). MAX_ENTRIES < length l) (sym (course_is after does).journal) past;
-    }
-      where
-        marks_or_rests : Marks stands.scan (next.id ∷ map (λ (r : Row). r.id) rest) ≢ Resting
-        marks_or_rests is = cc
+    lacks_for_mark after does [] is = lacks (Ended (replies.Deleted (suc k))) (place_after p n query.table None v (p.accounts n) (λ t. true) (course Marked after does).journal)
+        (ends after does v (λ t. true) is turn (task_then n (p.tables query.table) _ ∙ ap (λ (l : List Row). left_at stands.scan (map (λ (r : Row). r.id) l)) is)) (course_is Marked after does).journal
+    lacks_for_mark after does (next ∷ rest) is =
+        lacks (Moved points.Mark) (place_after p n query.table (Some (record at { answers = (course Marked after does).answers })) v (p.accounts n) (λ t. true) (course Marked after does).journal)
+        (goes_on after does next rest v (λ t. true) is turn (λ rests.
+        let both : Marks stands.scan (next.id ∷ map (λ (r : Row). r.id) rest) ≡ Resting = sym (task_then n (p.tables query.table) _ ∙ ap (λ (l : List Row). left_at stands.scan (map (λ (r : Row). r.id) l)) is) ∙ rests in cc))
+        (course_is Marked after does).journal
 
     lacks_for_conflict : (after : DatabaseState) → effect (database_at p) (mark_entry n query.table stands.row) ≡ (after, Conflict stands.row.id) → LacksRoom p n
     lacks_for_conflict after does =
         let refused = mark_is_refused p n query.table 0 (statements.Delete query) (p.tables query.table) stands.scan stands.row.id (map (λ (r : Row). r.id) stands.more) (λ t. false) refl
-        delete_only refl stands.at (record { failed = refl; fewer = λ u none. absurd (true≢false (sym none)) }) in
-        record {
-          hand = at;
-          in_hand = stands.in_hand;
-          outcome = Ended (replies.Refused (refusals.Conflict stands.row.id));
-          further = place_after p n query.table None (refused_in n (λ t. false) (p.tables query.table)) (p.accounts n) (λ t. true) (course_met after does).journal;
-          steps = conflicts after does (refused_in n (λ t. false) (p.tables query.table)) (λ t. true) refused.0 refused.1;
-          past = subst (λ (l : List Entry). MAX_ENTRIES < length l) (sym (course_met_is after does).journal) past;
-        }
-      where
-        delete_only : statements.Delete query ≢ statements.Work
-        delete_only is = cc
+        (λ is. cc) refl stands.at (record { failed = refl; fewer = λ u none. absurd (true≢false (sym none)) }) in
+        lacks (Ended (replies.Refused (refusals.Conflict stands.row.id))) (place_after p n query.table None (refused_in n (λ t. false) (p.tables query.table)) (p.accounts n) (λ t. true) (course (Conflict stands.row.id) after does).journal)
+        (conflicts after does (refused_in n (λ t. false) (p.tables query.table)) (λ t. true) refused.0 refused.1) (course_is (Conflict stands.row.id) after does).journal
 
     pub lacks_room : LacksRoom p n
     lacks_room = by (is_conflict (database_at p) n stands.copy stands.row.id) (mark_effect (database_at p) n query.table stands.row stands.copy stands.got)

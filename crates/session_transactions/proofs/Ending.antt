@@ -1,5 +1,5 @@
 -- The end of a transaction as a step of its session.
-use Rattle.std.proofs.Common.{◌≡◌, ◌≢◌, inl, ℕ, zero, suc, ◌+◌, ◌≤◌, Bool, true, false, not, ◌&&◌, List, [], ◌∷◌, ◌++◌, length, length-append, set, Option, None, Some, refl, sym, ap, ◌∙◌, subst, arith}
+use Rattle.std.proofs.Common.{◌≡◌, ℕ, ◌+◌, ◌≤◌, Bool, true, false, not, List, [], ◌∷◌, ◌++◌, length, length-append, set, Option, None, Some, refl, sym, ap, ◌∙◌, subst, arith}
 use Rattle.std.specs.Prelude.{IsSome, IsTrue, if◌then◌else◌}
 use Rattle.std.proofs.lemmas.List.{get_or-set_other}
 use Rattle.std.proofs.lemmas.Bool.{true≢false}
@@ -8,7 +8,6 @@ use Rattle.block_model.specs.declared.reply.Reply.{Reply}
 use Rattle.block_model.specs.declared.reply.Reply.TheVariants as replies
 use Rattle.block_model.specs.declared.request.Entry.{Entry}
 use Rattle.block_model.specs.declared.request.Request.TheVariants as requests
-use Rattle.block_model.specs.DatabaseState.{DatabaseState}
 use Rattle.block_model.specs.RequestEffect.{Answer, Committed, IsLegalRequest, RolledBack}
 use Rattle.disk_trait.specs.Told.{Told}
 use Rattle.store_layout.specs.DiskLayout.{DiskLayout}
@@ -21,7 +20,6 @@ use Rattle.session_parts.specs.JournalState.{JournalState}
 use Rattle.session_parts.specs.Stepping.{IsFit}
 use Rattle.session_parts.proofs.Requests.{end_is_legal}
 use Rattle.snapshot_core.specs.declared.statuses.Status.{Status}
-use Rattle.snapshot_core.specs.Visibility.{is_committed}
 use Rattle.store_layout.specs.declared.limits.TheConstants.{MAX_ENTRIES}
 use Rattle.store_layout.specs.StatementRequests.{request_entry}
 use Rattle.snapshot_core.specs.declared.sessions.Open.{Open}
@@ -29,15 +27,14 @@ use Rattle.snapshot_core.specs.StoredVersions.{transaction_of}
 use Rattle.tx_table.specs.LeavesRest.{LeavesRest}
 use Rattle.tx_table.specs.Statuses.{HasStatuses, OfStatuses}
 use Rattle.transactions.specs.CountedRows.{counts as counts_of}
+use Rattle.transactions.specs.Sessions.{IsCopyOf}
 use Rattle.transactions.specs.Laws.{CommitCounts, EndIsUnseen, RollbackCounts, SessionsAreShown}
 use Rattle.transactions.specs.ShowsDatabase.{DoesRequest, OfDatabase, ShowsDatabase}
 use Rattle.transactions.specs.TransactionsState.{OfOpen, TransactionsState, with_open}
-use Rattle.session_parts.specs.Finds.{stands_by}
-use Rattle.script_semantics.specs.Place.{Place, database_at}
+use Rattle.script_semantics.specs.Place.{Place}
 use Rattle.script_semantics.specs.StatementSteps as steps
 use Rattle.script_semantics.specs.StatementSteps.{Ended, IsAtOnce, LacksRoom}
 use Rattle.session_parts.specs.FrontsStand.{FrontsStand}
-use Rattle.session_parts.specs.FrontLaws.{GoesOn, IsEnding}
 use Rattle.session_parts.proofs.Ending.{end_stands}
 use Rattle.session_parts.specs.declared.hand.Hand.{Hand}
 use Rattle.session_parts.specs.declared.hand.Hand.TheVariants as hands
@@ -46,21 +43,15 @@ use Rattle.session_parts.specs.declared.parts.Parts.{Parts}
 use Rattle.session_parts.specs.HandFits.{locks_held, right_held}
 use Rattle.session_parts.specs.Hands.{statement_of}
 use Rattle.session_parts.specs.HandsInTables.{table_in}
-use Rattle.session_parts.specs.RequestLaws.{EndIsLegal}
-use Rattle.session_parts.specs.Shares.{hand_share, open_share, share_of}
+use Rattle.session_parts.specs.Shares.{hand_share, open_share}
 use Rattle.session_parts.specs.UndoneLaws.{StepsSo}
-use Rattle.session_transactions.proofs.AtOnce.{the_laws, DoesRequestNow, IsOnly, Laws, LeavesParts, Restates, StaysBeside, done, heaps_follow, makes_its_step}
-
--- ---- the session has none then, and the others theirs
-
-none_here : (opens : List (Option Open)) (n : ℕ) (o : Open) → transaction_of opens n ≡ Some o → transaction_of (set opens n None) n ≡ None
-none_here [] zero o is = absurd (none-some o is)
-none_here [] (suc n) o is = absurd (none-some o is)
-none_here (p ∷ opens) zero o is = refl
-none_here (p ∷ opens) (suc n) o is = none_here opens n o is
-
-theirs : (opens : List (Option Open)) (n m : ℕ) → m ≢ n → transaction_of (set opens n None) m ≡ transaction_of opens m
-theirs opens n m apart = get_or-set_other opens n m None None apart
+use Rattle.session_parts.specs.FrontLaws.{IsEnding}
+use Rattle.std.specs.FinMap as finite
+use Rattle.block_model.specs.DatabaseState.{DatabaseState, OpenTransaction}
+use Rattle.session_transactions.proofs.Frames.{set_here}
+use Rattle.session_transactions.proofs.AtOnce.{IsOnly, Restates, does_so, heaps_follow, shown_parts}
+use Rattle.session_parts.specs.Leaving.{CountsFew}
+use Rattle.session_parts.proofs.Leads.{end_sees_alike, fewer_counts_few, same_counts_few}
 
 -- ---- commit and rollback are one request each
 
@@ -71,105 +62,6 @@ commit_only n false layout = record { own = refl; none_answered = λ answers non
 
 pub rollback_only : (n : ℕ) (layout : DiskLayout) → IsOnly n hands.RollsBack (request_entry n 0 requests.Rollback) RolledBack replies.RolledBack layout
 rollback_only n layout = record { own = refl; none_answered = λ answers none. none; next = refl; last = refl; replied = refl }
-
-pub commit_at_once : (p : Place) → IsAtOnce p (statement_of hands.Commits)
-commit_at_once p = steps.Commit
-
-pub rollback_at_once : (p : Place) → IsAtOnce p (statement_of hands.RollsBack)
-rollback_at_once p = steps.Rollback
-
--- ---- the step
-
--- the laws that it takes
-pub record EndLaws : Type 0 where
-  pub laws : Laws
-  pub legal : EndIsLegal
-  pub sessions : SessionsAreShown
-  pub unseen : EndIsUnseen
-
--- how a transaction ends: its status, and that no rows come to count by it
-pub record EndsSo {D : Type 0} (told : D → Told) (old new : Parts D) (n : ℕ) (hand : Hand) (e : Entry) (answer : Answer) (reply : Reply) : Type 0 where
-  pub own : Open
-  pub opened : transaction_of old.transactions.opens n ≡ Some own
-  pub end : Status
-  pub ending : IsEnding e.request own.failed end
-  pub ended : new.transactions ≡ with_open old.transactions n None
-  pub rest : LeavesRest told old.pages new.pages
-  pub statuses : OfStatuses told old.pages (λ stored. HasStatuses old.pages.layout new.pages.pages (set stored own.t end))
-  pub few : (s : DatabaseState) (stored : List Status) (u : ℕ) → ShowsDatabase old.pages.layout old.pages.pages old.transactions s → HasStatuses old.pages.layout old.pages.pages stored
-      → IsTrue (counts_of (with_open old.transactions n None) (set stored own.t end) u) → IsTrue (counts_of old.transactions stored u)
-  pub does : OfDatabase told old.pages old.transactions (λ s. DoesRequest old.pages.layout new.pages.pages new.transactions s e answer)
-  pub legal : (s : DatabaseState) → ShowsDatabase old.pages.layout old.pages.pages old.transactions s → IsLegalRequest s e
-  pub only : (layout : DiskLayout) → IsOnly n hand e answer reply layout
-  pub may : (p : Place) → IsAtOnce p (statement_of hand)
-  pub in_none : (table : ℕ) → table_in old.pages.layout (Some hand) ≡ Some table → ⊥
-  pub entries : new.journal.entries ≡ old.journal.entries ++ e ∷ []
-  pub room : length new.journal.entries ≤ MAX_ENTRIES
-  pub locks : new.locks ≡ old.locks
-  pub rights : new.rights ≡ old.rights
-  pub queue : new.queue ≡ old.queue
-  pub dropped : new.dropped ≡ old.dropped
-
-module _ {D : Type 0} (told : D → Told) (with_laws : EndLaws) (old new : Parts D) (n : ℕ) (hand : Hand) (e : Entry) (answer : Answer) (reply : Reply) (so : EndsSo told old new n hand e answer reply) where
-  first_same : new.transactions.tx.first ≡ old.transactions.tx.first
-  first_same = ap (λ (t : TransactionsState). t.tx.first) so.ended
-
-  others_same : (m : ℕ) → m ≢ n → transaction_of new.transactions.opens m ≡ transaction_of old.transactions.opens m
-  others_same m apart = ap (λ (t : TransactionsState). transaction_of t.opens m) so.ended ∙ theirs old.transactions.opens n m apart
-
-  pub none_now : transaction_of new.transactions.opens n ≡ None
-  none_now = ap (λ (t : TransactionsState). transaction_of t.opens n) so.ended ∙ none_here old.transactions.opens n so.own so.opened
-
-  abbrev restates : Tells told old.pages → (s : DatabaseState) (shows : ShowsDatabase old.pages.layout old.pages.pages old.transactions s) → Restates old new n shows.stored
-  restates tells s shows = record {
-    later = set shows.stored so.own.t so.end;
-    has = so.statuses tells shows.stored shows.has;
-    alike = λ m p apart theirs_is. record {
-      snapshot = refl;
-      own = refl;
-      ended = λ u had. ap (λ (first : ℕ). is_committed (stands_by first (set shows.stored so.own.t so.end) u)) first_same
-          ∙ with_laws.unseen old.pages.layout old.pages.pages old.transactions s shows.stored n m u so.own p so.end shows so.opened theirs_is apart had;
-    };
-    few = λ u counts. inl (so.few s shows.stored u shows shows.has (subst (λ (t : TransactionsState). IsTrue (counts_of t (set shows.stored so.own.t so.end) u)) so.ended counts));
-  }
-
-  beside : Tells told old.pages → StaysBeside old new n
-  beside tells = record {
-    layout = so.rest.leaves.layout;
-    first = first_same;
-    opens = others_same;
-    pages = λ place apart. so.rest.pages tells place apart;
-    locks = so.locks;
-    rights = so.rights;
-    queue = so.queue;
-    dropped = so.dropped;
-  }
-
-  -- its status says whether the journal has its commit
-  fronts : (tells : Tells told old.pages) (p q : Place) (shows : ShowsDatabase old.pages.layout old.pages.pages old.transactions (database_at p))
-      → FrontsStand old.pages.layout old.pages.pages old.transactions shows.stored p → GoesOn p q (e ∷ [])
-      → FrontsStand old.pages.layout new.pages.pages new.transactions (set shows.stored so.own.t so.end) q
-  fronts tells p q shows stands goes =
-      subst (λ (t : TransactionsState). FrontsStand old.pages.layout new.pages.pages t (set shows.stored so.own.t so.end) q) (sym so.ended)
-      (end_stands old.pages.layout old.pages.pages new.pages.pages old.transactions shows.stored p q n so.own e so.end shows shows.has stands so.opened
-      (so.only old.pages.layout).own so.ending goes (heaps_follow told old new so.rest tells))
-
-  request : DoesRequestNow told old new n hand e answer reply
-  request = record {
-    only = so.only;
-    entries = so.entries;
-    room = so.room;
-    stays = beside;
-    in_none = so.in_none;
-    does = so.does;
-    legal = so.legal;
-    may = λ p shows is. so.may p;
-    restates = restates;
-    fronts = fronts;
-  }
-
-  pub ends : LeavesParts told old new n hand → StepsSo told old new n hand (stepped.Done reply)
-  ends left = done told with_laws.laws.changes old new n hand left reply (makes_its_step told with_laws.laws old new n hand e answer reply request)
 
 -- ---- a commit and a rollback, by what they ensure
 
@@ -191,9 +83,16 @@ status_is : (failed : Bool) → (if not failed then status.Committed else status
 status_is true = refl
 status_is false = refl
 
-both_true : (a b : Bool) → IsTrue (a && b) → IsTrue a
-both_true true b h = refl
-both_true false b h = h
+-- how a transaction ends: its status, and that no rows come to count by it
+pub record EndsSo {D : Type 0} (told : D → Told) (old : Parts D) (pages : View D) (tx : TransactionsState) (n : ℕ) (hand : Hand) (e : Entry) (answer : Answer) (reply : Reply) (own : Open) (end : Status) : Type 0 where
+  pub ending : IsEnding e.request own.failed end
+  pub statuses : OfStatuses told old.pages (λ stored. HasStatuses old.pages.layout pages.pages (set stored own.t end))
+  pub few : (s : DatabaseState) (stored : List Status) → ShowsDatabase old.pages.layout old.pages.pages old.transactions s → HasStatuses old.pages.layout old.pages.pages stored
+      → CountsFew (shown_parts old) (shown_parts (record old { transactions = with_open old.transactions n None })) stored (set stored own.t end)
+  pub does : OfDatabase told old.pages old.transactions (λ s. DoesRequest old.pages.layout pages.pages tx s e answer)
+  pub legal : (s : DatabaseState) → ShowsDatabase old.pages.layout old.pages.pages old.transactions s → IsLegalRequest s e
+  pub only : (layout : DiskLayout) → IsOnly n hand e answer reply layout
+  pub may : (p : Place) → IsAtOnce p (statement_of hand)
 
 module _ {D : Type 0} (told : D → Told) (laws : TransactionLaws) (old : Parts D) (pages : View D) (tx : TransactionsState) (mid j : JournalState) (n unneeded : ℕ)
     (ready : old.pages.failed ≡ None) (still : pages.failed ≡ None) (over : IsOver told tx.tx pages) (rest : LeavesRest told old.pages pages) (ended_is : tx ≡ with_open old.transactions n None)
@@ -202,38 +101,59 @@ module _ {D : Type 0} (told : D → Told) (laws : TransactionLaws) (old : Parts 
   abbrev new : Parts D
   new = record old { pages = pages; transactions = tx; journal = j }
 
-  with_laws : EndLaws
-  with_laws = record { laws = the_laws; legal = end_is_legal; sessions = laws.sessions; unseen = laws.unseen }
+  first_same : tx.tx.first ≡ old.transactions.tx.first
+  first_same = ap (λ (t : TransactionsState). t.tx.first) ended_is
 
-  module _ (hand : Hand) (fits : IsFit told old n hand) (none_held : locks_held (Some hand) ≡ 0) (no_right : right_held old.pages.layout (Some hand) ≡ None) (no_share : hand_share (Some hand) ≡ 0) (e : Entry) (answer : Answer) (reply : Reply)
-      (so : EndsSo told old new n hand e answer reply) where
-    promised : j.promised + share_of (Some hand) (transaction_of old.transactions.opens n) ≡ old.journal.promised + share_of None (transaction_of tx.opens n)
-    promised = (λ i. j.promised + (no_share i + open_share (so.opened i))) ∙ end_promised j.promised mid.promised old.journal.promised unneeded (open_share (Some so.own)) released entered (shared so.own so.opened)
-        ∙ (λ i. old.journal.promised + (0 + open_share (sym (none_now told with_laws old new n hand e answer reply so) i)))
+  abbrev found : (s : DatabaseState) → ShowsDatabase old.pages.layout old.pages.pages old.transactions s → (own : Open) → transaction_of old.transactions.opens n ≡ Some own
+      → (x : OpenTransaction) × (finite.get s.sessions n ≡ Some x) × IsCopyOf own x
+  found s shows own opened = (laws.sessions old.pages.layout old.pages.pages old.transactions s shows).shown n own opened
 
-    left : LeavesParts told old new n hand
-    left = record {
-      fits = fits;
-      ready = ready;
-      still = still;
-      leaves = rest.leaves;
-      over = over;
-      locks = refl;
-      rights = refl;
-      queue = refl;
-      dropped = refl;
-      entries = so.room;
-      none_held = none_held;
-      no_right = no_right;
-      promised = promised;
-      opens = λ m apart. ap (λ (t : TransactionsState). transaction_of t.opens m) ended_is ∙ theirs old.transactions.opens n m apart;
+  module _ (hand : Hand) (fits : IsFit told old n hand) (held : 0 ≡ locks_held (Some hand)) (right : right_held old.pages.layout (Some hand) ≡ None) (no_share : hand_share (Some hand) ≡ 0)
+      (in_none : (table : ℕ) → table_in old.pages.layout (Some hand) ≡ Some table → ⊥) (e : Entry) (answer : Answer) (reply : Reply) (own : Open) (opened : transaction_of old.transactions.opens n ≡ Some own) (end : Status)
+      (so : EndsSo told old pages tx n hand e answer reply own end) (longer : mid.entries ≡ old.journal.entries ++ e ∷ []) where
+    none_now : transaction_of tx.opens n ≡ None
+    none_now = ap (λ (t : TransactionsState). transaction_of t.opens n) ended_is ∙ set_here old.transactions.opens n own None opened
+
+    abbrev restates : Tells told old.pages → (s : DatabaseState) (shows : ShowsDatabase old.pages.layout old.pages.pages old.transactions s) → Restates old new n shows.stored
+    restates tells s shows = record {
+      later = set shows.stored own.t end;
+      has = so.statuses tells shows.stored shows.has;
+      alike = end_sees_alike laws.unseen (shown_parts old) (shown_parts new) s shows.stored n own end shows opened first_same;
+      few = λ u counts. so.few s shows.stored shows shows.has u (subst (λ (t : TransactionsState). IsTrue (counts_of t (set shows.stored own.t end) u)) ended_is counts);
     }
 
-    pub ends_so : StepsSo told old new n hand (stepped.Done reply)
-    ends_so = ends told with_laws old new n hand e answer reply so left
-
-  more_entries : (e : Entry) → mid.entries ≡ old.journal.entries ++ e ∷ [] → length j.entries ≤ MAX_ENTRIES
-  more_entries e longer = omega (arith, room, ap length same_entries, ap length longer, length-append old.journal.entries (e ∷ []))
+    ends_so : StepsSo told old new n hand (stepped.Done reply)
+    ends_so = does_so told old pages tx j n hand e answer reply (record {
+      beside = record {
+        left = record {
+          fits = fits;
+          ready = ready;
+          still = still;
+          leaves = rest.leaves;
+          over = over;
+          in_hand = tt;
+          held = held;
+          right = right;
+          entries = omega (arith, room, ap length same_entries, ap length longer, length-append old.journal.entries (e ∷ []));
+          promised = (λ i. j.promised + (no_share i + open_share (opened i))) ∙ end_promised j.promised mid.promised old.journal.promised unneeded (open_share (Some own)) released entered (shared own opened)
+              ∙ (λ i. old.journal.promised + (0 + open_share (sym none_now i)));
+          opens = λ m apart. ap (λ (t : TransactionsState). transaction_of t.opens m) ended_is ∙ get_or-set_other old.transactions.opens n m None None apart;
+        };
+        rest = rest;
+        first = first_same;
+        in_none = in_none;
+      };
+      only = so.only;
+      entries = same_entries ∙ longer;
+      does = so.does;
+      legal = so.legal;
+      may = λ p shows is. so.may p;
+      restates = restates;
+      -- its status says whether the journal has its commit
+      fronts = λ tells p q shows stands goes. subst (λ (t : TransactionsState). FrontsStand old.pages.layout pages.pages t (set shows.stored own.t end) q) (sym ended_is)
+          (end_stands old.pages.layout old.pages.pages pages.pages old.transactions shows.stored p q n own e end shows shows.has stands opened
+          (so.only old.pages.layout).own so.ending goes (heaps_follow told old pages rest tells));
+    })
 
   pub commits : IsFit told old n hands.Commits → (committed : Bool) → IsSome (transaction_of old.transactions.opens n) → OfOpen old.transactions n (λ o. committed ≡ not o.failed)
       → OfDatabase told old.pages old.transactions (λ s. DoesRequest old.pages.layout pages.pages tx s (request_entry n 0 requests.Commit) (if committed then Committed else RolledBack))
@@ -242,29 +162,19 @@ module _ {D : Type 0} (told : D → Told) (laws : TransactionLaws) (old : Parts 
       → StepsSo told old new n hands.Commits (stepped.Done (if committed then replies.Committed else replies.RolledBack))
   commits fits committed is_open answered does statuses longer =
       let own = some_open (transaction_of old.transactions.opens n) is_open in
-      let is : (if committed then status.Committed else status.RolledBack) ≡ ended own.0.failed = ap (λ (c : Bool). if c then status.Committed else status.RolledBack) (answered own.0 own.1) ∙ status_is own.0.failed in
-      ends_so hands.Commits fits refl refl refl (request_entry n 0 requests.Commit) (if committed then Committed else RolledBack) (if committed then replies.Committed else replies.RolledBack) (record {
-        own = own.0;
-        opened = own.1;
-        end = if committed then status.Committed else status.RolledBack;
+      let end : Status = if committed then status.Committed else status.RolledBack in
+      let is : end ≡ ended own.0.failed = ap (λ (c : Bool). if c then status.Committed else status.RolledBack) (answered own.0 own.1) ∙ status_is own.0.failed in
+      ends_so hands.Commits fits refl refl refl (λ table there. none-some table there) (request_entry n 0 requests.Commit) (if committed then Committed else RolledBack) (if committed then replies.Committed else replies.RolledBack)
+      own.0 own.1 end (record {
         ending = is;
-        ended = ended_is;
-        rest = rest;
         statuses = statuses own.0 own.1;
-        few = λ s stored u shows has counted. subst (λ (b : Bool). IsTrue b) (laws.committed old.pages.layout old.pages.pages old.transactions s stored n u own.0 shows has own.1)
-            (subst (λ (end : Status). IsTrue (counts_of (with_open old.transactions n None) (set stored own.0.t end) u)) is counted);
+        few = λ s stored shows has. same_counts_few (shown_parts old) (shown_parts (record old { transactions = with_open old.transactions n None })) stored (set stored own.0.t end)
+            (λ u. ap (λ (end : Status). counts_of (with_open old.transactions n None) (set stored own.0.t end) u) is ∙ laws.committed old.pages.layout old.pages.pages old.transactions s stored n u own.0 shows has own.1);
         does = does;
-        legal = λ s shows. let found = (laws.sessions old.pages.layout old.pages.pages old.transactions s shows).shown n own.0 own.1 in (end_is_legal s n 0 found.0 found.1).commit;
+        legal = λ s shows. let its = found s shows own.0 own.1 in (end_is_legal s n 0 its.0 its.1).commit;
         only = commit_only n committed;
-        may = commit_at_once;
-        in_none = λ table there. none-some table there;
-        entries = same_entries ∙ longer;
-        room = more_entries (request_entry n 0 requests.Commit) longer;
-        locks = refl;
-        rights = refl;
-        queue = refl;
-        dropped = refl;
-      })
+        may = λ p. steps.Commit;
+      }) longer
 
   pub rolls_back : IsFit told old n hands.RollsBack → IsSome (transaction_of old.transactions.opens n)
       → OfDatabase told old.pages old.transactions (λ s. DoesRequest old.pages.layout pages.pages tx s (request_entry n 0 requests.Rollback) RolledBack)
@@ -273,25 +183,13 @@ module _ {D : Type 0} (told : D → Told) (laws : TransactionLaws) (old : Parts 
       → StepsSo told old new n hands.RollsBack (stepped.Done replies.RolledBack)
   rolls_back fits is_open does statuses longer =
       let own = some_open (transaction_of old.transactions.opens n) is_open in
-      ends_so hands.RollsBack fits refl refl refl (request_entry n 0 requests.Rollback) RolledBack replies.RolledBack (record {
-        own = own.0;
-        opened = own.1;
-        end = status.RolledBack;
+      ends_so hands.RollsBack fits refl refl refl (λ table there. none-some table there) (request_entry n 0 requests.Rollback) RolledBack replies.RolledBack own.0 own.1 status.RolledBack (record {
         ending = refl;
-        ended = ended_is;
-        rest = rest;
         statuses = statuses own.0 own.1;
-        few = λ s stored u shows has counted. both_true (counts_of old.transactions stored u) _
-            (subst (λ (b : Bool). IsTrue b) (laws.rolled_back old.pages.layout old.pages.pages old.transactions s stored n u own.0 shows has own.1) counted);
+        few = λ s stored shows has. fewer_counts_few (shown_parts old) (shown_parts (record old { transactions = with_open old.transactions n None })) stored (set stored own.0.t status.RolledBack) own.0.t
+            (λ u. laws.rolled_back old.pages.layout old.pages.pages old.transactions s stored n u own.0 shows has own.1);
         does = does;
-        legal = λ s shows. let found = (laws.sessions old.pages.layout old.pages.pages old.transactions s shows).shown n own.0 own.1 in (end_is_legal s n 0 found.0 found.1).rollback;
+        legal = λ s shows. let its = found s shows own.0 own.1 in (end_is_legal s n 0 its.0 its.1).rollback;
         only = rollback_only n;
-        may = rollback_at_once;
-        in_none = λ table there. none-some table there;
-        entries = same_entries ∙ longer;
-        room = more_entries (request_entry n 0 requests.Rollback) longer;
-        locks = refl;
-        rights = refl;
-        queue = refl;
-        dropped = refl;
-      })
+        may = λ p. steps.Rollback;
+      }) longer

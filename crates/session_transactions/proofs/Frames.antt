@@ -1,111 +1,97 @@
 -- What a mark leaves of the parts of a store, on any disk.
-use Rattle.std.proofs.Common.{◌≡◌, ◌≢◌, ℕ, ◌+◌, ◌<◌, ◌≤◌, Bool, false, List, drop, length, length-drop, Option, None, Some, refl, sym, ap, ◌∙◌, subst, arith}
+use Rattle.std.proofs.Common.{◌≡◌, ◌≢◌, ℕ, zero, suc, ◌+◌, ◌<◌, ◌≤◌, Bool, false, List, [], ◌∷◌, drop, set, length, length-drop, Option, None, Some, refl, sym, ap, ◌∙◌, subst, arith}
 use Rattle.std.specs.Prelude.{if◌then◌else◌}
 use Rattle.std.proofs.lemmas.Option.{none-some}
-use Rattle.block_model.specs.declared.reply.Point.TheVariants as points
-use Rattle.block_model.specs.declared.reply.Reply.{Reply}
-use Rattle.block_model.specs.declared.row.Query.{Query}
 use Rattle.disk_trait.specs.Told.{Told}
 use Rattle.heap_rows.specs.LeavesOthers.{LeavesOthers}
 use Rattle.page_locks.specs.LockCounts.{locks_of}
-use Rattle.page_locks.specs.LockHolders.{LockState}
-use Rattle.page_locks.specs.RightHolders.{right_of}
 use Rattle.page_map.specs.Keeps.{Leaves}
 use Rattle.page_map.specs.PageMap.{View}
 use Rattle.snapshot_core.specs.declared.sessions.Open.{Open}
 use Rattle.snapshot_core.specs.StoredVersions.{transaction_of}
 use Rattle.store_layout.specs.declared.limits.TheConstants.{MAX_ENTRIES}
-use Rattle.store_layout.specs.declared.statement.Statement.TheVariants as statements
 use Rattle.store_layout.specs.DiskLayout.{DiskLayout}
 use Rattle.tx_table.specs.Kept.{over_kept}
 use Rattle.tx_table.specs.Statuses.{status_relation}
 use Rattle.tx_table.specs.TxState.{IsOver, TxState}
-use Rattle.reply_texts.specs.declared.dropped.Dropped.{Dropped}
 use Rattle.session_parts.specs.declared.hand.Hand.{Hand}
 use Rattle.session_parts.specs.declared.hand.Hand.TheVariants as hands
 use Rattle.session_parts.specs.declared.hand.Marking.{Marking}
 use Rattle.session_parts.specs.declared.hand.Stepped.{Stepped}
-use Rattle.session_parts.specs.declared.hand.Stepped.TheVariants as stepped
 use Rattle.session_parts.specs.declared.parts.Parts.{Parts}
-use Rattle.session_parts.specs.HandFits.{FitsHand, IsHandFor, locks_held}
+use Rattle.session_parts.specs.HandFits.{FitsHand, IsHandFor, locks_held, right_held}
+use Rattle.session_parts.specs.JournalState.{JournalState}
+use Rattle.session_parts.specs.StepAnswers.{HasCause}
+use Rattle.transactions.specs.TransactionsState.{TransactionsState}
 use Rattle.session_parts.specs.Shares.{look_share, open_share, share_of}
 use Rattle.session_parts.specs.StepIs.{hand_after}
-use Rattle.session_parts.specs.Stepping.{IsFit, LeavesTheOthers, MakesItsStep, StaysFit}
-use Rattle.session_parts.specs.StoreStates.{dropped_in, with_hand}
+use Rattle.session_parts.specs.Stepping.{IsFit, MakesItsStep, StaysUndone}
+use Rattle.session_parts.specs.StoreStates.{with_hand}
 use Rattle.session_parts.specs.UndoneLaws.{FitsParts, StepsSo}
 use Rattle.session_parts.proofs.Stores.{hand_changes}
 use Rattle.session_parts.proofs.Undone.{fit_of_parts, fit_of_stores}
 
 -- what a step leaves, behind which the session has that in hand
-pub record LeavesParts {D : Type 0} (told : D → Told) (old new : Parts D) (n : ℕ) (marking : Marking) (now : Option Hand) : Type 0 where
-  pub fits : IsFit told old n (hands.Marks marking)
+pub record LeavesParts {D : Type 0} (told : D → Told) (old : Parts D) (pages : View D) (tx : TransactionsState) (j : JournalState) (n : ℕ) (was : Hand) (now : Option Hand) : Type 0 where
+  pub fits : IsFit told old n was
   pub ready : old.pages.failed ≡ None
-  pub still : new.pages.failed ≡ None
-  pub leaves : Leaves told old.pages new.pages
-  pub over : IsOver told new.transactions.tx new.pages
-  pub in_hand : FitsHand new.pages.layout (transaction_of new.transactions.opens n) now
-  pub held : locks_held now ≡ 0
-  pub locks : new.locks ≡ old.locks
-  pub rights : new.rights ≡ old.rights
-  pub dropped : new.dropped ≡ old.dropped
-  pub entries : length new.journal.entries ≤ MAX_ENTRIES
-  pub promised : new.journal.promised + share_of (Some (hands.Marks marking)) (transaction_of old.transactions.opens n) ≡ old.journal.promised + share_of now (transaction_of new.transactions.opens n)
-  pub opens : (m : ℕ) → m ≢ n → transaction_of new.transactions.opens m ≡ transaction_of old.transactions.opens m
+  pub still : pages.failed ≡ None
+  pub leaves : Leaves told old.pages pages
+  pub over : IsOver told tx.tx pages
+  pub in_hand : FitsHand pages.layout (transaction_of tx.opens n) now
+  pub held : locks_held now ≡ locks_held (Some was)
+  pub right : right_held old.pages.layout (Some was) ≡ None
+  pub entries : length j.entries ≤ MAX_ENTRIES
+  pub promised : j.promised + share_of (Some was) (transaction_of old.transactions.opens n) ≡ old.journal.promised + share_of now (transaction_of tx.opens n)
+  pub opens : (m : ℕ) → m ≢ n → transaction_of tx.opens m ≡ transaction_of old.transactions.opens m
 
 less_share : (new old was now : ℕ) → new + was ≡ old + now → was ≤ old → now ≤ new
 less_share new old was now is within = omega arith
 
-module _ {D : Type 0} (told : D → Told) (old new : Parts D) (n : ℕ) (marking : Marking) (now : Option Hand) (left : LeavesParts told old new n marking now) where
-  was : FitsParts told old n (Some (hands.Marks marking))
-  was = fit_of_parts told old n (hands.Marks marking) left.fits
+module _ {D : Type 0} (told : D → Told) (old : Parts D) (pages : View D) (tx : TransactionsState) (j : JournalState) (n : ℕ) (was : Hand) (now : Option Hand) (left : LeavesParts told old pages tx j n was now) where
+  abbrev new : Parts D
+  new = record old { pages = pages; transactions = tx; journal = j }
+
+  fitted : FitsParts told old n (Some was)
+  fitted = fit_of_parts told old n was left.fits
 
   fit_now : FitsParts told new n now
   fit_now = record {
-    session = was.session;
+    session = fitted.session;
     over = left.over;
     in_hand = left.in_hand;
-    limit = ap (λ (l : LockState). l.limit) left.locks ∙ was.limit;
-    own = subst (λ (l : LockState). locks_of l n ≤ locks_held now) (sym left.locks) (subst (λ (count : ℕ). locks_of old.locks n ≤ count) (sym left.held) was.own);
-    held = λ table holds. absurd (none-some table (was.held table (ap (λ (r : List (Option ℕ)). right_of r table) (sym left.rights) ∙ holds)));
-    rights = ap length left.rights ∙ was.rights ∙ ap (λ (layout : DiskLayout). length layout.schema.tables) (sym left.leaves.layout);
+    limit = fitted.limit;
+    own = subst (λ (count : ℕ). locks_of old.locks n ≤ count) (sym left.held) fitted.own;
+    held = λ table holds. absurd (none-some table (sym left.right ∙ fitted.held table holds));
+    rights = fitted.rights ∙ ap (λ (layout : DiskLayout). length layout.schema.tables) (sym left.leaves.layout);
     entries = left.entries;
-    share = less_share new.journal.promised old.journal.promised _ _ left.promised was.share;
+    share = less_share j.promised old.journal.promised _ _ left.promised fitted.share;
   }
 
-  module _ (answer : Stepped) (after : hand_after answer ≡ now) where
-    pub stays_fit : StaysFit told old new n (hands.Marks marking) answer
-    stays_fit names hands_ is = fit_of_stores told new n now names (with_hand hands_ n (hand_after answer)) fit_now ((hand_changes hands_ n (hands.Marks marking) (hand_after answer) is).own ∙ after)
-
-    pub leaves_others : LeavesTheOthers told old new n (hands.Marks marking) answer
-    leaves_others names hands_ is = record {
+  -- a step that is made so
+  pub made_so : (answer : Stepped) → hand_after answer ≡ now → MakesItsStep told old new n was answer → StaysUndone told old new n was answer → HasCause told old.pages pages answer → StepsSo told old new n was answer
+  made_so answer after steps stays cause = record {
+    steps = steps;
+    fit = λ names hands_ is. fit_of_stores told new n now names (with_hand hands_ n (hand_after answer)) fit_now ((hand_changes hands_ n was (hand_after answer) is).own ∙ after);
+    others = λ names hands_ is. record {
       leaves = left.leaves;
       transactions = left.opens;
-      locks = λ m apart. ap (λ (l : LockState). locks_of l m) left.locks;
-      dropped = λ m apart. ap (λ (l : List (List Dropped)). dropped_in l m) left.dropped;
-      rights = λ m table apart holds. ap (λ (r : List (Option ℕ)). right_of r table) (sym left.rights) ∙ holds;
-      promised = ap (λ (h : Option Hand). new.journal.promised + share_of h (transaction_of old.transactions.opens n)) is ∙ left.promised
-          ∙ ap (λ (h : Option Hand). old.journal.promised + share_of h (transaction_of new.transactions.opens n)) (sym ((hand_changes hands_ n (hands.Marks marking) (hand_after answer) is).own ∙ after));
-    }
+      locks = λ m apart. refl;
+      dropped = λ m apart. refl;
+      rights = λ m table apart holds. holds;
+      promised = ap (λ (h : Option Hand). j.promised + share_of h (transaction_of old.transactions.opens n)) is ∙ left.promised
+          ∙ ap (λ (h : Option Hand). old.journal.promised + share_of h (transaction_of tx.opens n)) (sym ((hand_changes hands_ n was (hand_after answer) is).own ∙ after));
+    };
+    stays = stays;
+    cause = cause;
+  }
 
-pub done_so : {D : Type 0} (told : D → Told) (old new : Parts D) (n : ℕ) (marking : Marking) (reply : Reply) → LeavesParts told old new n marking None
-    → MakesItsStep told old new n (hands.Marks marking) (stepped.Done reply) → StepsSo told old new n (hands.Marks marking) (stepped.Done reply)
-done_so told old new n marking reply left steps = record {
-  steps = steps;
-  fit = stays_fit told old new n marking None left (stepped.Done reply) refl;
-  others = leaves_others told old new n marking None left (stepped.Done reply) refl;
-  stays = λ names hands_ is. tt;
-  cause = (left.ready, left.still);
-}
-
-pub moved_so : {D : Type 0} (told : D → Told) (old new : Parts D) (n : ℕ) (marking later : Marking) → later.query ≡ marking.query → LeavesParts told old new n marking (Some (hands.Marks later))
-    → MakesItsStep told old new n (hands.Marks marking) (stepped.Moved points.Mark (hands.Marks later)) → StepsSo told old new n (hands.Marks marking) (stepped.Moved points.Mark (hands.Marks later))
-moved_so told old new n marking later same left steps = record {
-  steps = steps;
-  fit = stays_fit told old new n marking (Some (hands.Marks later)) left (stepped.Moved points.Mark (hands.Marks later)) refl;
-  others = leaves_others told old new n marking (Some (hands.Marks later)) left (stepped.Moved points.Mark (hands.Marks later)) refl;
-  stays = λ names hands_ is. ap (λ (query : Query). statements.Delete query) same;
-  cause = (left.ready, left.still);
-}
+-- the session has that one later
+pub set_here : (opens : List (Option Open)) (n : ℕ) (o : Open) (x : Option Open) → transaction_of opens n ≡ Some o → transaction_of (set opens n x) n ≡ x
+set_here [] zero o x is = absurd (none-some o is)
+set_here [] (suc n) o x is = absurd (none-some o is)
+set_here (p ∷ opens) zero o x is = refl
+set_here (p ∷ opens) (suc n) o x is = set_here opens n o x is
 
 -- ---- what is promised
 

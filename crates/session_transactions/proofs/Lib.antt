@@ -10,6 +10,7 @@ pub mod Hits
 pub mod Turns
 pub mod Definition
 pub mod Standing
+pub mod Answered
 pub mod Refusing
 pub mod Making
 pub mod Frames

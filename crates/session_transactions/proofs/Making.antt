@@ -1,12 +1,12 @@
 -- A mark that is made, as a step of its session.
-use Rattle.std.proofs.Common.{◌≡◌, ◌≢◌, ◌⊎◌, inl, inr, ℕ, suc, ◌+◌, ◌<◌, ◌≤◌, Bool, true, false, cond, List, [], ◌∷◌, ◌++◌, length, drop, map, replicate, All, Option, None, Some, refl, sym, ap, ◌∙◌, subst, append_assoc, arith}
+use Rattle.std.proofs.Common.{◌≡◌, ◌≢◌, ◌⊎◌, inl, inr, ℕ, suc, ◌+◌, ◌<◌, ◌≤◌, Bool, true, false, cond, List, [], ◌∷◌, ◌++◌, length, drop, map, replicate, All, Option, None, Some, refl, sym, ap, ◌∙◌, subst, arith}
 use Rattle.std.specs.Prelude.{IsTrue, if◌then◌else◌}
 use Rattle.std.specs.List.{slice_get}
 use Rattle.std.specs.FinMap as finite
 use Rattle.std.specs.Ordering.{eq_by_cmp, nat_cmp}
 use Rattle.std.specs.Cmp.{eq_by_cmp_equiv, nat_cmp_total}
 use Rattle.std.proofs.lemmas.Bool.{cases_eq, true≢false}
-use Rattle.std.proofs.lemmas.List.{length-set}
+use Rattle.std.proofs.lemmas.List.{length-map, length-set, nil_from_length}
 use Rattle.std.proofs.lemmas.List.Elements.{All-tail, All-weaker}
 use Rattle.std.proofs.lemmas.Option.{none-some, same_Some}
 use Rattle.block_model.specs.declared.reply.Reply.TheVariants as replies
@@ -16,7 +16,6 @@ use Rattle.block_model.specs.declared.row.Row.{Row}
 use Rattle.block_model.specs.declared.row.RowId.{RowId}
 use Rattle.block_model.specs.DatabaseState.{DatabaseState, OpenTransaction}
 use Rattle.block_model.specs.RequestEffect.{Answer, Conflict, Found, Marked, after_failure, after_mark, effect, effect_at, effect_is, is_conflict, with_transaction}
-use Rattle.block_model.specs.SerialRun.{IsLegal, serial_run}
 use Rattle.disk_trait.specs.Told.{Told}
 use Rattle.block_model.specs.declared.place.Spot.{Spot}
 use Rattle.block_model.specs.declared.reply.Point.TheVariants as points
@@ -40,18 +39,18 @@ use Rattle.store_layout.specs.StatementRequests.{request_entry}
 use Rattle.snapshot_core.specs.declared.sessions.Open.{Open}
 use Rattle.snapshot_core.specs.StoredVersions.{transaction_of}
 use Rattle.transactions.specs.CountedRows.{counts as counts_of}
-use Rattle.transactions.specs.Laws.{CopyStands, IsMarking, MarkIsShown, MarkIsUnseen, SessionsAreShown}
+use Rattle.transactions.specs.Laws.{CopyStands, MarkIsShown, MarkIsUnseen, SessionsAreShown}
 use Rattle.transactions.specs.StoredRows.{MarksRowAt, conflicts_with}
 use Rattle.transactions.specs.TransactionsState.{TransactionsState}
-use Rattle.transactions.specs.ShowsDatabase.{DoesRequest, ShowsDatabase}
+use Rattle.transactions.specs.ShowsDatabase.{DoesRequest}
 use Rattle.coverage.specs.Machines.{ShownTable, table_state, task_turned}
 use Rattle.coverage.specs.TableSteps.{OnlyTurns}
-use Rattle.coverage.specs.Table.{Marks, Resting, TableScan, TableState, Task, pick}
+use Rattle.coverage.specs.Table.{Marks, Resting, TableState, Task, pick}
 use Rattle.coverage.proofs.Views.{pick_other, pick_same}
 use Rattle.script_semantics.specs.ShownRows.{shown_by}
 use Rattle.script_semantics.specs.Place.{Hand as HandAt, Place, database_at}
 use Rattle.script_semantics.specs.Requests.{Course}
-use Rattle.script_semantics.specs.StatementSteps.{Ended, Moved, Steps, StepsTo, course_of}
+use Rattle.script_semantics.specs.StatementSteps.{Ended, Moved, Steps, StepsTo}
 use Rattle.session_parts.specs.declared.hand.Hand.{Hand}
 use Rattle.session_parts.specs.declared.hand.Hand.TheVariants as hands
 use Rattle.session_parts.specs.declared.hand.Hit.{Hit}
@@ -66,26 +65,25 @@ use Rattle.session_parts.specs.Hands.{HandShows, hits_left, ids_of}
 use Rattle.session_parts.specs.HandsAsk.{IsNoInsert}
 use Rattle.session_parts.specs.HandsInTables.{IsMarkingAt, IsMarkingBy, IsTaskOf, table_in}
 use Rattle.session_parts.specs.JournalState.{JournalState}
-use Rattle.session_parts.specs.Leaving.{CountsFew, LeadsTo, LeavesOthers, RowsStay, SameLocks, SlotsStay, StepsInTable}
+use Rattle.session_parts.specs.Leaving.{CountsFew, LeadsTo, LeavesOthers, RowsStay, SlotsStay, StepsInTable}
 use Rattle.session_parts.specs.PlacesAfter.{place_after}
 use Rattle.session_parts.specs.ShowsPlace.{AreInCopy, IsOfTransaction, IsPlaceOf, ShowsTable}
 use Rattle.session_parts.specs.Stepping.{MakesItsStep}
 use Rattle.session_parts.specs.StoreLaws.{HasHand}
 use Rattle.session_parts.specs.StoreStates.{ShownStore, hand_in, shown_of, store_of, with_hand}
-use Rattle.session_parts.proofs.Fronts.{fronts_within, mark_stays_within}
+use Rattle.session_parts.proofs.Fronts.{mark_stays_within}
 use Rattle.session_parts.proofs.Leads.{mark_leaves_slots}
 use Rattle.session_parts.proofs.Slots.{marked_slot}
 use Rattle.session_parts.proofs.Places.{table_step_is_shown}
-use Rattle.session_parts.proofs.Requests.{copies_stay}
 use Rattle.session_parts.proofs.Stores.{hand_changes}
 use Rattle.session_parts.proofs.Tables.{own_table_goes_on, same_contents, shown_alike}
 use Rattle.session_transactions.specs.HitConflicts.{HitConflicts}
 use Rattle.session_transactions.specs.Looks.{look_entries}
-use Rattle.session_transactions.proofs.Definition.{answers_are, course, course_is, ends, goes_on}
-use Rattle.session_transactions.proofs.Entries.{all_within, entries_of, legal_mark}
+use Rattle.session_transactions.proofs.Answered.{steps_in_table, is_marking, does as its_does, leads as its_leads, longer as its_longer}
+use Rattle.session_transactions.proofs.Definition.{answers_are, course, ends, goes_on}
 use Rattle.session_transactions.proofs.Hits.{first_of, hits_from}
 use Rattle.session_transactions.proofs.Turns.{IsMarkTurn, at_task, left_at, mark_turns, task_then}
-use Rattle.session_transactions.proofs.Standing.{MarksAt, entries_are, is_first, marks_at}
+use Rattle.session_transactions.proofs.Standing.{MarksAt, is_first, marks_at}
 
 -- the laws of transactions that it takes
 pub record MarkLaws : Type 0 where
@@ -199,40 +197,21 @@ module _ {D : Type 0} (told : D → Told) (laws : MarkLaws) (old : Parts D) (pag
     changes : ChangesSlot at.table.blocks now hit.spot (Some (marked at.row o.t))
     changes = slots tells at.table.blocks at.table.has at.row at.there
 
-    marking_it : IsMarking s.layout s.pages s.transactions (database_at p) n table o at.row false
-    marking_it = record {
-      shows = shown.database;
-      opened = opened;
-      below = fits.table;
-      copy = at.stands.copy;
-      under_way = at.stands.got;
-      in_copy = subst (λ (id : RowId). finite.contains_key at.stands.copy.view id ≡ true) (sym at.row_id) at.in_copy;
-      stored = stored;
-      has = shown.database.has;
-      conflicts = conflict_free;
-    }
-
     marks_row : MarksRowAt s.layout s.pages pages.pages table hit.spot at.row o.t
     marks_row = record { blocks = at.table.blocks; has = at.table.has; there = at.there; marks = has_now; others = λ place apart. others.pages tells place apart }
 
     pub made : DoesRequest s.layout pages.pages s.transactions (database_at p) (request_entry n table (requests.Mark at.row.id)) Marked
-    made = laws.mark s.layout s.pages pages.pages s.transactions (database_at p) n table o hit.spot at.row marking_it marks_row
+    made = laws.mark s.layout s.pages pages.pages s.transactions (database_at p) n table o hit.spot at.row
+        (is_marking s after_store n marking hit o p shown at false fits.table opened conflict_free) marks_row
 
-    pub does : effect (database_at p) (request_entry n table (requests.Mark at.stands.row.id)) ≡ (made.0, Marked)
-    does = subst (λ (id : RowId). effect (database_at p) (request_entry n table (requests.Mark id)) ≡ (made.0, Marked)) (at.row_id ∙ sym at.its_id) made.1
+    abbrev pub does : effect (database_at p) (request_entry n table (requests.Mark at.stands.row.id)) ≡ (made.0, Marked)
+    does = its_does s after_store n marking hit o p shown at (λ id. Marked) made fits.look entries
 
     abbrev pub course_then : Course
-    course_then = course p n marking.query at.answers (is_first marking.look) marking.next at.stands made.0 does
-
-    course_journal : course_then.journal ≡ p.journal ++ entries_of (is_first marking.look) n marking.query at.stands.row
-    course_journal = (course_is p n marking.query at.answers (is_first marking.look) marking.next at.stands made.0 does).journal
+    course_then = course p n marking.query at.answers (is_first marking.look) marking.next at.stands Marked made.0 does
 
     pub longer : j.entries ≡ course_then.journal
-    longer = entries ∙ entries_are marking.look n marking.query at.stands.row hit.id old.journal.entries fits.look at.its_id
-        ∙ ap (λ (l : List Entry). l ++ entries_of (is_first marking.look) n marking.query at.stands.row) (sym shown.journal) ∙ sym course_journal
-
-    run : serial_run p.opening j.entries ≡ made.0
-    run = ap (serial_run p.opening) longer ∙ (course_is p n marking.query at.answers (is_first marking.look) marking.next at.stands made.0 does).run
+    longer = its_longer s after_store n marking hit o p shown at (λ id. Marked) made fits.look entries
 
     abbrev more_ids : List RowId
     more_ids = map (λ (r : Row). r.id) at.stands.more
@@ -276,14 +255,7 @@ module _ {D : Type 0} (told : D → Told) (laws : MarkLaws) (old : Parts D) (pag
     IsInTable = (other : ℕ) → table_in s.layout hand_then ≡ Some other → other ≡ table
 
     in_table : IsInTable → StepsInTable n table s after_store
-    in_table is_there = record {
-      below = fits.table;
-      pages = λ place elsewhere. others.pages tells place (λ same. elsewhere (inl same));
-      locks = SameLocks refl;
-      rights = λ other apart. refl;
-      was_in = λ other there. sym (same_Some table other (sym (ap (table_in s.layout) is) ∙ there));
-      is_in = λ other there. is_there other (sym (ap (table_in s.layout) has_hand.own) ∙ there);
-    }
+    in_table is_there = steps_in_table s after_store n marking hit o p shown at is fits.table (λ place elsewhere. others.pages tells place (λ same. elsewhere (inl same))) refl refl hand_then has_hand.own is_there
 
     -- what the session is at then
     abbrev IsTaskThen : Type 0
@@ -311,22 +283,12 @@ module _ {D : Type 0} (told : D → Told) (laws : MarkLaws) (old : Parts D) (pag
     IsOwnThen = (hand : Hand) → hand_then ≡ Some hand → IsOfTransaction (transaction_of s.transactions.opens n) (Some (after_mark at.stands.copy hit.id)) hand
 
     leads : (at_then : Option HandAt) → HandShows hand_then at_then (p.accounts n) → IsOwnThen → LeadsTo s after_store p n at_then (p.accounts n)
-    leads at_then shows_then own_then = record {
-      database = subst (ShowsDatabase s.layout pages.pages s.transactions) (sym run) made.2;
-      legal = subst (IsLegal p.opening) (sym (longer ∙ course_journal))
-          (legal_mark p.opening n marking.query (course_of p (record { statement = statements.Delete marking.query; answers = at.answers })) at.stands.copy at.stands.got (is_first marking.look) at.stands.row shown.legal at.whole
-          (subst (λ (id : RowId). finite.contains_key at.stands.copy.view id ≡ true) (sym at.its_id) at.in_copy));
-      fronts = fronts_within s after_store p shown (look_entries n marking.look ++ request_entry n table (requests.Mark hit.id) ∷ [])
-          (entries ∙ append_assoc old.journal.entries (look_entries n marking.look) (request_entry n table (requests.Mark hit.id) ∷ []))
-          (all_within marking.look n table hit.id) (mark_stays_within s after_store n table o hit.spot at.row opened refl marks_row);
-      copies = λ m apart. ap (λ (d : DatabaseState). finite.get d.sessions m) (run ∙ sym (ap (λ (r : DatabaseState × Answer). r.0) made.1))
-          ∙ copies_stay (database_at p) (request_entry n table (requests.Mark at.row.id)) m apart;
+    leads at_then shows_then own_then = its_leads s after_store n marking hit o p shown at (λ id. Marked) made fits.look entries at_then (record {
       hand = subst (λ (h : Option Hand). HandShows h at_then (p.accounts n)) (sym has_hand.own) shows_then;
-      own = λ hand there. subst (λ (copy : Option OpenTransaction). IsOfTransaction (transaction_of s.transactions.opens n) copy hand)
-          (sym (ap (λ (d : DatabaseState). finite.get d.sessions n) run ∙ copy_is)) (own_then hand (sym has_hand.own ∙ there));
+      own = λ hand there. subst (λ (copy : Option OpenTransaction). IsOfTransaction (transaction_of s.transactions.opens n) copy hand) (sym copy_is) (own_then hand (sym has_hand.own ∙ there));
       order = λ index below order. subst (IsIndexInOrder s.layout.sizes.index_blocks)
           (λ i block. sym (others.pages tells (record { relation = index_relation s.layout index; block = block }) (apart_from_heap s.layout index table fits.table)) i) order;
-    }
+    }) (mark_stays_within s after_store n table o hit.spot at.row opened refl marks_row)
 
     abbrev pub counts : ℕ → Bool
     counts = counts_of s.transactions stored
@@ -348,14 +310,6 @@ module _ {D : Type 0} (told : D → Told) (laws : MarkLaws) (old : Parts D) (pag
   left_later = ap (λ (k : ℕ). drop k marking.hits.items) one_later
 
   module _ (names : List (List ℕ)) (hands_ : List (Option Hand)) (is : hand_in hands_ n ≡ Some (hands.Marks marking)) (tells : Tells told old.pages) (p : Place) (shown : IsPlaceOf (shown_of (store_of old names hands_)) p) where
-    some_left : (ids : List RowId) (hits : List Hit) (h : Hit) (hs : List Hit) → ids ≡ ids_of hits → hits ≡ h ∷ hs → (scan : TableScan) → left_at scan ids ≡ Marks scan ids
-    some_left [] hits h hs same is scan = absurd (none-some h.id (ap first_id same ∙ ap (λ (l : List Hit). first_id (ids_of l)) is))
-      where
-        first_id : List RowId → Option RowId
-        first_id [] = None
-        first_id (i ∷ ids) = Some i
-    some_left (i ∷ ids) hits h hs same is scan = refl
-
     module _ (h : Hit) (hs : List Hit) (one_more : drop (suc marking.next) marking.hits.items ≡ h ∷ hs) where
       abbrev hand_then : Option Hand
       hand_then = Some (hands.Marks marking_then)
@@ -401,8 +355,8 @@ module _ {D : Type 0} (told : D → Told) (laws : MarkLaws) (old : Parts D) (pag
       task_now = left_at there.stands.scan (map (λ (r : Row). r.id) there.stands.more)
 
       task_is : task_now ≡ Marks there.marking_at.scan (ids_of (hits_left marking_then))
-      task_is = some_left (map (λ (r : Row). r.id) there.stands.more) (drop (suc marking.next) marking.hits.items) h hs there.others one_more there.stands.scan
-          ∙ (λ i. Marks (there.scan_is i) (there.others i)) ∙ ap (λ (l : List Hit). Marks there.marking_at.scan (ids_of l)) (sym left_later)
+      task_is = ap (left_at there.stands.scan) there.others ∙ ap (λ (l : List Hit). left_at there.stands.scan (ids_of l)) one_more ∙ (λ i. Marks (there.scan_is i) (ids_of (sym one_more i)))
+          ∙ ap (λ (l : List Hit). Marks there.marking_at.scan (ids_of l)) (sym left_later)
 
       marks_then : IsMarkingAt old.transactions.tx.first shown.database.stored o now_blocks marking_then task_now
       marks_then = record {
@@ -425,25 +379,19 @@ module _ {D : Type 0} (told : D → Told) (laws : MarkLaws) (old : Parts D) (pag
       pub shown_moved : IsPlaceOf (shown_of (store_of new names (with_hand hands_ n hand_then))) (place_then hand_then names hands_ is tells p shown (Some at_then))
       shown_moved = shown_then hand_then names hands_ is tells p shown (Some at_then) shows_then in_its_table ((λ same. marks_by), (λ apart. absurd (apart refl))) own_then tt
 
-      next_row : (rows : List Row) → map (λ (r : Row). r.id) rows ≡ ids_of (drop (suc marking.next) marking.hits.items) → (row : Row) × (rest : List Row) × (rows ≡ row ∷ rest)
-      next_row rows same = let found = first_of rows h.id (ids_of hs) (same ∙ ap ids_of one_more) in (found.row, found.more, found.is)
-
       pub steps_moved : Steps p n (Moved points.Mark) (place_then hand_then names hands_ is tells p shown (Some at_then))
       steps_moved =
-          let row = next_row there.stands.more there.others in
+          let next = first_of there.stands.more h.id (ids_of hs) (there.others ∙ ap ids_of one_more) in
           record {
             hand = record { statement = statements.Delete marking.query; answers = there.answers };
             in_hand = there.stands.in_hand;
             steps = subst (λ (l : List Entry). StepsTo p n (record { statement = statements.Delete marking.query; answers = there.answers }) (Moved points.Mark)
                 (place_after p n marking.query.table (Some at_then) (v hand_then names hands_ is tells p shown) (p.accounts n) (counts hand_then names hands_ is tells p shown) l)) (sym (longer hand_then names hands_ is tells p shown))
-                (goes_on p n marking.query there.answers (is_first marking.look) marking.next there.stands _ (does hand_then names hands_ is tells p shown) row.0 row.1
-                (v hand_then names hands_ is tells p shown) (counts hand_then names hands_ is tells p shown) row.2 (turn hand_then names hands_ is tells p shown)
-                (λ rests. marks_or_rests (sym (task_then n (plain hand_then names hands_ is tells p shown) task_now ∙ task_is) ∙ rests)));
+                (goes_on p n marking.query there.answers (is_first marking.look) marking.next there.stands _ (does hand_then names hands_ is tells p shown) next.row next.more
+                (v hand_then names hands_ is tells p shown) (counts hand_then names hands_ is tells p shown) next.is (turn hand_then names hands_ is tells p shown)
+                (λ rests. let both : Marks there.marking_at.scan (ids_of (hits_left marking_then)) ≡ Resting = sym (task_then n (plain hand_then names hands_ is tells p shown) task_now ∙ task_is) ∙ rests in cc));
             fits = room;
           }
-        where
-          marks_or_rests : Marks there.marking_at.scan (ids_of (hits_left marking_then)) ≢ Resting
-          marks_or_rests is = cc
 
     -- ---- none is left
 
@@ -452,17 +400,10 @@ module _ {D : Type 0} (told : D → Told) (laws : MarkLaws) (old : Parts D) (pag
       there_last = at None names hands_ is tells p shown
 
       none_more : there_last.stands.more ≡ []
-      none_more = no_rows there_last.stands.more (there_last.others ∙ ap ids_of no_more)
-        where
-          no_rows : (rows : List Row) → map (λ (r : Row). r.id) rows ≡ [] → rows ≡ []
-          no_rows [] is = refl
-          no_rows (row ∷ rows) is = absurd (cons_not_nil is)
-            where
-              cons_not_nil : {i : RowId} {ids : List RowId} → i ∷ ids ≡ [] → ⊥
-              cons_not_nil is = cc
+      none_more = nil_from_length there_last.stands.more (omega (arith, length-map there_last.stands.more (λ (r : Row). r.id), ap length (there_last.others ∙ ap ids_of no_more)))
 
       rests_then : left_at there_last.stands.scan (map (λ (r : Row). r.id) there_last.stands.more) ≡ Resting
-      rests_then = ap (λ (rows : List Row). left_at there_last.stands.scan (map (λ (r : Row). r.id) rows)) none_more
+      rests_then = ap (left_at there_last.stands.scan) (there_last.others ∙ ap ids_of no_more)
 
       pub shown_ended : IsPlaceOf (shown_of (store_of new names (with_hand hands_ n None))) (place_then None names hands_ is tells p shown None)
       shown_ended = shown_then None names hands_ is tells p shown None refl (λ other there. absurd (none-some other there)) rests_then (λ hand there. absurd (none-some hand there)) tt

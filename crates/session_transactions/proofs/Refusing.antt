@@ -1,18 +1,15 @@
 -- A mark that meets a conflict, as a step of its session.
-use Rattle.std.proofs.Common.{◌≡◌, ◌≢◌, ℕ, ◌≤◌, ◌==◌, Bool, true, false, not, ◌&&◌, List, [], ◌∷◌, ◌++◌, length, map, Option, None, Some, refl, sym, ap, ◌∙◌, subst, append_assoc}
+use Rattle.std.proofs.Common.{◌≡◌, ℕ, ◌≤◌, ◌==◌, Bool, true, false, not, ◌&&◌, List, [], ◌∷◌, ◌++◌, length, map, Option, None, Some, refl, sym, ap, ◌∙◌, subst}
 use Rattle.std.specs.List.{slice_get}
-use Rattle.std.specs.FinMap as finite
 use Rattle.std.proofs.lemmas.List.{get_or-set_other}
-use Rattle.std.proofs.lemmas.Option.{none-some, same_Some}
+use Rattle.std.proofs.lemmas.Option.{none-some}
 use Rattle.block_model.specs.declared.reply.Refusal.TheVariants as refusals
 use Rattle.block_model.specs.declared.reply.Reply.TheVariants as replies
 use Rattle.block_model.specs.declared.request.Entry.{Entry}
 use Rattle.block_model.specs.declared.request.Request.TheVariants as requests
 use Rattle.block_model.specs.declared.row.Row.{Row}
 use Rattle.block_model.specs.declared.row.RowId.{RowId}
-use Rattle.block_model.specs.DatabaseState.{DatabaseState}
-use Rattle.block_model.specs.RequestEffect.{Answer, Conflict, effect}
-use Rattle.block_model.specs.SerialRun.{IsLegal, serial_run}
+use Rattle.block_model.specs.RequestEffect.{Conflict, effect}
 use Rattle.disk_trait.specs.Told.{Told}
 use Rattle.page_map.specs.Keeps.{Tells}
 use Rattle.snapshot_core.specs.declared.statuses.Status.{Status}
@@ -23,16 +20,15 @@ use Rattle.snapshot_core.specs.declared.sessions.Open.{Open}
 use Rattle.snapshot_core.specs.SessionChanges.{failed_open}
 use Rattle.snapshot_core.specs.StoredVersions.{transaction_of}
 use Rattle.transactions.specs.CountedRows.{counts as counts_of}
-use Rattle.transactions.specs.Laws.{ConflictIsShown, CopyStands, FailureCounts, IsMarking, SessionsAreShown}
-use Rattle.transactions.specs.ShowsDatabase.{DoesRequest, ShowsDatabase}
+use Rattle.transactions.specs.Laws.{ConflictIsShown, CopyStands, FailureCounts, SessionsAreShown}
+use Rattle.transactions.specs.ShowsDatabase.{DoesRequest}
 use Rattle.transactions.specs.TransactionsState.{with_failed}
 use Rattle.coverage.specs.Machines.{Unseen, task_turned}
 use Rattle.coverage.specs.Refusals.{HasConflict}
 use Rattle.coverage.specs.Table.{Resting, TableState}
 use Rattle.coverage.proofs.Views.{pick_other, pick_same}
 use Rattle.script_semantics.specs.Place.{Place, database_at}
-use Rattle.script_semantics.specs.Requests.{Course}
-use Rattle.script_semantics.specs.StatementSteps.{Ended, Steps, StepsTo, course_of}
+use Rattle.script_semantics.specs.StatementSteps.{Ended, Steps, StepsTo}
 use Rattle.session_parts.specs.declared.hand.Hand.{Hand}
 use Rattle.session_parts.specs.declared.hand.Hand.TheVariants as hands
 use Rattle.session_parts.specs.declared.hand.Hit.{Hit}
@@ -42,27 +38,26 @@ use Rattle.session_parts.specs.declared.parts.Parts.{Parts}
 use Rattle.session_parts.specs.HandFits.{IsMarkingFor}
 use Rattle.session_parts.specs.Hands.{HandShows}
 use Rattle.session_parts.specs.HandsAsk.{IsNoInsert}
-use Rattle.session_parts.specs.HandsInTables.{IsTaskOf, table_in}
+use Rattle.session_parts.specs.HandsInTables.{IsTaskOf}
 use Rattle.session_parts.specs.JournalState.{JournalState}
-use Rattle.session_parts.specs.Leaving.{CountsFew, LeadsTo, LeavesOthers, SameLocks, StepsInTable}
+use Rattle.session_parts.specs.Leaving.{CountsFew, LeadsTo, LeavesOthers}
 use Rattle.session_parts.specs.PlacesAfter.{TurnsIn, place_after, refusal_in}
 use Rattle.session_parts.specs.RefusalLaws.{CountsNoMore, refused_in}
 use Rattle.session_parts.specs.ShowsPlace.{IsPlaceOf, ShowsTable}
 use Rattle.session_parts.specs.Stepping.{MakesItsStep}
 use Rattle.session_parts.specs.StoreLaws.{HasHand}
 use Rattle.session_parts.specs.StoreStates.{ShownStore, hand_in, shown_of, store_of, with_hand}
-use Rattle.session_parts.proofs.Fronts.{failure_stays_within, fronts_within}
+use Rattle.session_parts.proofs.Fronts.{failure_stays_within}
 use Rattle.session_parts.proofs.Leads.{failure_counts_no_more, fewer_counts_few, nothing_leaves_slots}
 use Rattle.session_parts.proofs.Places.{table_step_is_shown}
 use Rattle.session_parts.proofs.Refusals.{mark_is_refused}
-use Rattle.session_parts.proofs.Requests.{copies_stay}
 use Rattle.session_parts.proofs.Stores.{hand_changes}
 use Rattle.session_parts.proofs.Tables.{own_table_goes_on}
 use Rattle.session_transactions.specs.HitConflicts.{HitConflicts}
 use Rattle.session_transactions.specs.Looks.{look_entries}
-use Rattle.session_transactions.proofs.Definition.{conflicts, course_met, course_met_is}
-use Rattle.session_transactions.proofs.Entries.{all_within, entries_of, legal_mark}
-use Rattle.session_transactions.proofs.Standing.{MarksAt, entries_are, is_first, marks_at}
+use Rattle.session_transactions.proofs.Answered.{steps_in_table, is_marking, does as its_does, leads as its_leads, longer as its_longer}
+use Rattle.session_transactions.proofs.Definition.{conflicts}
+use Rattle.session_transactions.proofs.Standing.{MarksAt, is_first, marks_at}
 
 -- the laws of transactions that it takes
 pub record ConflictLaws : Type 0 where
@@ -97,37 +92,13 @@ module _ {D : Type 0} (told : D → Told) (laws : ConflictLaws) (old : Parts D) 
     at : MarksAt s p n marking hit o shown
     at = marks_at laws.sessions laws.copies s p n marking hit is fits o opened whole next shown
 
-    conflicting : IsMarking s.layout s.pages s.transactions (database_at p) n table o at.row true
-    conflicting = record {
-      shows = shown.database;
-      opened = opened;
-      below = fits.table;
-      copy = at.stands.copy;
-      under_way = at.stands.got;
-      in_copy = subst (λ (id : RowId). finite.contains_key at.stands.copy.view id ≡ true) (sym at.row_id) at.in_copy;
-      stored = stored;
-      has = shown.database.has;
-      conflicts = sym (conflict tells stored at.table.blocks at.row shown.database.has at.table.has at.there at.row_id);
-    }
-
     made : DoesRequest s.layout s.pages (with_failed s.transactions n o) (database_at p) (request_entry n table (requests.Mark at.row.id)) (Conflict at.row.id)
-    made = laws.conflict s.layout s.pages s.transactions (database_at p) n table o hit.spot at.row conflicting (record { blocks = at.table.blocks; has = at.table.has; there = at.there })
+    made = laws.conflict s.layout s.pages s.transactions (database_at p) n table o hit.spot at.row
+        (is_marking s then n marking hit o p shown at true fits.table opened (sym (conflict tells stored at.table.blocks at.row shown.database.has at.table.has at.there at.row_id)))
+        (record { blocks = at.table.blocks; has = at.table.has; there = at.there })
 
-    does : effect (database_at p) (request_entry n table (requests.Mark at.stands.row.id)) ≡ (made.0, Conflict at.stands.row.id)
-    does = subst (λ (id : RowId). effect (database_at p) (request_entry n table (requests.Mark id)) ≡ (made.0, Conflict id)) (at.row_id ∙ sym at.its_id) made.1
-
-    abbrev course : Course
-    course = course_met p n marking.query at.answers (is_first marking.look) marking.next at.stands made.0 does
-
-    course_journal : course.journal ≡ p.journal ++ entries_of (is_first marking.look) n marking.query at.stands.row
-    course_journal = (course_met_is p n marking.query at.answers (is_first marking.look) marking.next at.stands made.0 does).journal
-
-    longer : j.entries ≡ course.journal
-    longer = entries ∙ entries_are marking.look n marking.query at.stands.row hit.id old.journal.entries fits.look at.its_id
-        ∙ ap (λ (l : List Entry). l ++ entries_of (is_first marking.look) n marking.query at.stands.row) (sym shown.journal) ∙ sym course_journal
-
-    run : serial_run p.opening j.entries ≡ made.0
-    run = ap (serial_run p.opening) longer ∙ (course_met_is p n marking.query at.answers (is_first marking.look) marking.next at.stands made.0 does).run
+    abbrev does : effect (database_at p) (request_entry n table (requests.Mark at.stands.row.id)) ≡ (made.0, Conflict at.stands.row.id)
+    does = its_does s then n marking hit o p shown at (λ id. Conflict id) made fits.look entries
 
     abbrev counts : ℕ → Bool
     counts = counts_of then.transactions stored
@@ -138,14 +109,11 @@ module _ {D : Type 0} (told : D → Told) (laws : ConflictLaws) (old : Parts D) 
     no_more : CountsNoMore (p.tables table) counts o.t
     no_more = failure_counts_no_more s then stored table o.t (p.tables table) at.table fewer
 
-    delete_only : statements.Delete marking.query ≢ statements.Work
-    delete_only is = cc
-
     abbrev v : TableState
     v = refused_in n counts (p.tables table)
 
     turns : (turns : TurnsIn p n (statements.Delete marking.query) table v (p.accounts n)) × (refusal_in turns ≡ Some (HasConflict at.stands.row.id))
-    turns = mark_is_refused p n table o.t (statements.Delete marking.query) (p.tables table) at.stands.scan at.stands.row.id (map (λ (r : Row). r.id) at.stands.more) counts refl delete_only refl at.stands.at no_more
+    turns = mark_is_refused p n table o.t (statements.Delete marking.query) (p.tables table) at.stands.scan at.stands.row.id (map (λ (r : Row). r.id) at.stands.more) counts refl (λ is. cc) refl at.stands.at no_more
 
     leaves : LeavesOthers n s then
     leaves = record {
@@ -154,16 +122,6 @@ module _ {D : Type 0} (told : D → Told) (laws : ConflictLaws) (old : Parts D) 
       first = refl;
       hands = has_none.others;
       opens = λ m apart. get_or-set_other old.transactions.opens n m (Some (failed_open o)) None apart;
-    }
-
-    in_table : StepsInTable n table s then
-    in_table = record {
-      below = fits.table;
-      pages = λ place elsewhere. refl;
-      locks = SameLocks refl;
-      rights = λ other apart. refl;
-      was_in = λ other there. sym (same_Some table other (sym (ap (table_in s.layout) is) ∙ there));
-      is_in = λ other there. absurd (none-some other (sym (ap (table_in s.layout) has_none.own) ∙ there));
     }
 
     few : CountsFew s then stored stored
@@ -181,26 +139,18 @@ module _ {D : Type 0} (told : D → Told) (laws : ConflictLaws) (old : Parts D) 
         (λ m apart. pick_other m n Resting (at.table.unseen.task m) apart) own_task (nothing_leaves_slots s stored n at.table.blocks)
 
     leads : LeadsTo s then p n None (p.accounts n)
-    leads = record {
-      database = subst (ShowsDatabase s.layout s.pages (with_failed s.transactions n o)) (sym run) made.2;
-      legal = subst (IsLegal p.opening) (sym (longer ∙ course_journal))
-          (legal_mark p.opening n marking.query (course_of p (record { statement = statements.Delete marking.query; answers = at.answers })) at.stands.copy at.stands.got (is_first marking.look) at.stands.row shown.legal at.whole
-          (subst (λ (id : RowId). finite.contains_key at.stands.copy.view id ≡ true) (sym at.its_id) at.in_copy));
-      fronts = fronts_within s then p shown (look_entries n marking.look ++ request_entry n table (requests.Mark hit.id) ∷ [])
-          (entries ∙ append_assoc old.journal.entries (look_entries n marking.look) (request_entry n table (requests.Mark hit.id) ∷ []))
-          (all_within marking.look n table hit.id) (failure_stays_within s then n o opened refl (λ place. refl));
-      copies = λ m apart. ap (λ (d : DatabaseState). finite.get d.sessions m) (run ∙ sym (ap (λ (r : DatabaseState × Answer). r.0) made.1))
-          ∙ copies_stay (database_at p) (request_entry n table (requests.Mark at.row.id)) m apart;
+    leads = its_leads s then n marking hit o p shown at (λ id. Conflict id) made fits.look entries None (record {
       hand = subst (λ (h : Option Hand). HandShows h None (p.accounts n)) (sym has_none.own) refl;
       own = λ now there. absurd (none-some now (sym has_none.own ∙ there));
       order = λ index below order. order;
-    }
+    }) (failure_stays_within s then n o opened refl (λ place. refl))
 
     abbrev q : Place
     q = place_after p n table None v (p.accounts n) counts j.entries
 
     pub shown_then : IsPlaceOf then q
-    shown_then = table_step_is_shown s then p n table None v (p.accounts n) shown leaves in_table few leads own_table
+    shown_then = table_step_is_shown s then p n table None v (p.accounts n) shown leaves
+        (steps_in_table s then n marking hit o p shown at is fits.table (λ place elsewhere. refl) refl refl None has_none.own (λ other there. absurd (none-some other there))) few leads own_table
         (record { queue = refl; dropped = refl; told = refl; hand = subst IsNoInsert (sym has_none.own) tt })
 
     pub steps_then : Steps p n (Ended (replies.Refused (refusals.Conflict hit.id))) q
@@ -208,7 +158,7 @@ module _ {D : Type 0} (told : D → Told) (laws : ConflictLaws) (old : Parts D) 
       hand = record { statement = statements.Delete marking.query; answers = at.answers };
       in_hand = at.stands.in_hand;
       steps = subst (λ (id : RowId). StepsTo p n (record { statement = statements.Delete marking.query; answers = at.answers }) (Ended (replies.Refused (refusals.Conflict id))) q) at.its_id
-          (subst (λ (l : List Entry). StepsTo p n (record { statement = statements.Delete marking.query; answers = at.answers }) (Ended (replies.Refused (refusals.Conflict at.stands.row.id))) (place_after p n table None v (p.accounts n) counts l)) (sym longer)
+          (subst (λ (l : List Entry). StepsTo p n (record { statement = statements.Delete marking.query; answers = at.answers }) (Ended (replies.Refused (refusals.Conflict at.stands.row.id))) (place_after p n table None v (p.accounts n) counts l)) (sym (its_longer s then n marking hit o p shown at (λ id. Conflict id) made fits.look entries))
           (conflicts p n marking.query at.answers (is_first marking.look) marking.next at.stands made.0 does v counts turns.0 turns.1));
       fits = room;
     }

@@ -22,10 +22,10 @@ use Rattle.session_parts.specs.Hands.{HandShows, statement_of}
 use Rattle.session_parts.specs.PlacesAfter.{place_at_once}
 use Rattle.session_parts.specs.ShowsPlace.{ShowsPlace}
 use Rattle.session_parts.specs.StoreStates.{hand_in, store_of}
-use Rattle.session_transactions.proofs.AtOnce.{IsOnly, Laws, in_hand, is_step}
+use Rattle.session_transactions.proofs.AtOnce.{IsOnly, in_hand, is_step}
 use Rattle.session_transactions.proofs.Ending.{commit_only, rollback_only, some_open}
 
-module _ {D : Type 0} (laws : Laws) (parts : Parts D) (n : ℕ) (hand : Hand) (full : MAX_ENTRIES ≤ length parts.journal.entries)
+module _ {D : Type 0} (parts : Parts D) (n : ℕ) (hand : Hand) (full : MAX_ENTRIES ≤ length parts.journal.entries)
     (names : List (List ℕ)) (hands : List (Option Hand)) (p : Place) (is : hand_in hands n ≡ Some hand) (shown : ShowsPlace (store_of parts names hands) p) where
   shows : HandShows (Some hand) (p.hands n) (p.accounts n)
   shows = subst (λ (h : Option Hand). HandShows h (p.hands n) (p.accounts n)) is (shown.hands n)
@@ -36,12 +36,16 @@ module _ {D : Type 0} (laws : Laws) (parts : Parts D) (n : ℕ) (hand : Hand) (f
   pub lacks : (e : Entry) (answer : Answer) (reply : Reply) → IsOnly n hand e answer reply p.layout → reply_to (database_at p) e ≡ answer → IsAtOnce p (statement_of hand) → LacksRoom p n
   lacks e answer reply only answered may = record {
     hand = record { statement = statement_of hand; answers = [] };
-    in_hand = in_hand laws n hand e answer reply p only answered may shows;
+    in_hand = in_hand n hand e answer reply p only answered may shows;
     outcome = Ended reply;
     further = place_at_once p n (λ u. true) (p.journal ++ e ∷ []);
-    steps = is_step laws n hand e answer reply p only answered may shows (λ u. true);
+    steps = is_step n hand e answer reply p only answered may shows (λ u. true);
     past = past e;
   }
+
+-- what a request is answered, by the session's transaction
+pub answered : (s : DatabaseState) (e : Entry) (o : Option OpenTransaction) → finite.get s.sessions e.session ≡ o → reply_to s e ≡ (effect_at o s e).1
+answered s e o got = ap (λ (r : DatabaseState × Answer). r.1) (effect_is s e ∙ ap (λ (o : Option OpenTransaction). effect_at o s e) got)
 
 -- ---- a commit, and a rollback
 
@@ -49,24 +53,17 @@ commit_answer : (failed : Bool) → (if failed then RolledBack else Committed) �
 commit_answer true = refl
 commit_answer false = refl
 
-module _ {D : Type 0} (laws : Laws) (sessions : SessionsAreShown) (parts : Parts D) (n : ℕ) (full : MAX_ENTRIES ≤ length parts.journal.entries) where
-  commit_answered : (s : DatabaseState) (x : OpenTransaction) → finite.get s.sessions n ≡ Some x → reply_to s (request_entry n 0 requests.Commit) ≡ (if not x.failed then Committed else RolledBack)
-  commit_answered s x got = ap (λ (r : DatabaseState × Answer). r.1) (effect_is s (request_entry n 0 requests.Commit) ∙ ap (λ (o : Option OpenTransaction). effect_at o s (request_entry n 0 requests.Commit)) got)
-      ∙ commit_answer x.failed
-
+module _ {D : Type 0} (sessions : SessionsAreShown) (parts : Parts D) (n : ℕ) (full : MAX_ENTRIES ≤ length parts.journal.entries) where
   pub no_commit : IsSome (transaction_of parts.transactions.opens n) → (names : List (List ℕ)) (hands_ : List (Option Hand)) (p : Place) → hand_in hands_ n ≡ Some hands.Commits → ShowsPlace (store_of parts names hands_) p → LacksRoom p n
   no_commit is_open names hands_ p is shown =
       let own = some_open (transaction_of parts.transactions.opens n) is_open in
       let found = (sessions parts.pages.layout parts.pages.pages parts.transactions (database_at p) shown.database).shown n own.0 own.1 in
-      lacks laws parts n hands.Commits full names hands_ p is shown (request_entry n 0 requests.Commit) _ _ (commit_only n (not found.0.failed) p.layout)
-      (commit_answered (database_at p) found.0 found.1) steps.Commit
-
-  rollback_answered : (s : DatabaseState) (x : OpenTransaction) → finite.get s.sessions n ≡ Some x → reply_to s (request_entry n 0 requests.Rollback) ≡ RolledBack
-  rollback_answered s x got = ap (λ (r : DatabaseState × Answer). r.1) (effect_is s (request_entry n 0 requests.Rollback) ∙ ap (λ (o : Option OpenTransaction). effect_at o s (request_entry n 0 requests.Rollback)) got)
+      lacks parts n hands.Commits full names hands_ p is shown (request_entry n 0 requests.Commit) _ _ (commit_only n (not found.0.failed) p.layout)
+      (answered (database_at p) (request_entry n 0 requests.Commit) (Some found.0) found.1 ∙ commit_answer found.0.failed) steps.Commit
 
   pub no_rollback : IsSome (transaction_of parts.transactions.opens n) → (names : List (List ℕ)) (hands_ : List (Option Hand)) (p : Place) → hand_in hands_ n ≡ Some hands.RollsBack → ShowsPlace (store_of parts names hands_) p → LacksRoom p n
   no_rollback is_open names hands_ p is shown =
       let own = some_open (transaction_of parts.transactions.opens n) is_open in
       let found = (sessions parts.pages.layout parts.pages.pages parts.transactions (database_at p) shown.database).shown n own.0 own.1 in
-      lacks laws parts n hands.RollsBack full names hands_ p is shown (request_entry n 0 requests.Rollback) RolledBack replies.RolledBack (rollback_only n p.layout)
-      (rollback_answered (database_at p) found.0 found.1) steps.Rollback
+      lacks parts n hands.RollsBack full names hands_ p is shown (request_entry n 0 requests.Rollback) RolledBack replies.RolledBack (rollback_only n p.layout)
+      (answered (database_at p) (request_entry n 0 requests.Rollback) (Some found.0) found.1) steps.Rollback

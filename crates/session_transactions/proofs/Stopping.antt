@@ -45,8 +45,7 @@ sure_then told old new committed reply is sure = subst (λ (r : Reply). IsSureTh
 -- a refusal of the pages is no want of room
 sure_of : {D : Type 0} (told : D → Told) (old new : View D) (error : StoreError) (hand : Hand) → IsSureThen told old new (stepped.Undone (fault_of error) hand)
 sure_of told old new errors.Disk hand = tt
-sure_of told old new (errors.Reopen faults) hand = tt
-sure_of told old new (errors.Damaged at) hand = tt
+sure_of told old new error hand = tt
 
 pub sure_refused : {D : Type 0} (told : D → Told) (old new : View D) (error : StoreError) (hand : Hand) (fault : StoreFault) → fault ≡ fault_of error → IsSureThen told old new (stepped.Undone fault hand)
 sure_refused told old new error hand fault is = subst (λ (f : StoreFault). IsSureThen told old new (stepped.Undone f hand)) (sym is) (sure_of told old new error hand)

@@ -1,5 +1,5 @@
 -- A mark as a turn of its delete in the table.
-use Rattle.std.proofs.Common.{◌≡◌, ◌≢◌, inl, inr, ℕ, List, [], ◌∷◌, Some, refl, sym, ◌∙◌}
+use Rattle.std.proofs.Common.{◌≡◌, inl, inr, ℕ, List, [], ◌∷◌, Some, refl, sym, ◌∙◌}
 use Rattle.block_model.specs.declared.reply.Point.TheVariants as points
 use Rattle.block_model.specs.declared.row.Query.{Query}
 use Rattle.block_model.specs.declared.row.RowId.{RowId}
@@ -85,17 +85,9 @@ pub mark_turns : (p : Place) (n : ℕ) (query : Query) (v : TableState) (scan : 
     → OnlyTurns (p.tables query.table) v → ((m : ℕ) → v.task m ≡ (p.tables query.table).task m) → IsMarkTurn p n query (at_task n v (left_at scan rest))
 mark_turns p n query v scan id rest was only same =
     let made = machine_turns p n query.table (statements.Delete query) (p.tables query.table) (at_task n v (Marks scan rest)) (at_task n v (left_at scan rest)) points.Mark (λ account. account)
-    refl delete_only refl (marks_at n (p.tables query.table) v scan id rest was only same) not_prune (settles n v scan rest) (inl (λ resting. not_resting (sym was ∙ resting))) in
+    refl (λ is. cc) refl (marks_at n (p.tables query.table) v scan id rest was only same) (λ is. cc) (settles n v scan rest)
+    (inl (λ resting. let both : Marks scan (id ∷ rest) ≡ Resting = sym was ∙ resting in cc)) in
     (made.0, made.1)
-  where
-    delete_only : statements.Delete query ≢ statements.Work
-    delete_only is = cc
-
-    not_prune : points.Mark ≢ points.Prune
-    not_prune is = cc
-
-    not_resting : Marks scan (id ∷ rest) ≢ Resting
-    not_resting is = cc
 
 pub task_then : (n : ℕ) (v : TableState) (task : Task) → (at_task n v task).task n ≡ task
 task_then n v task = pick_same n task (v.task n)

@@ -23,7 +23,7 @@ use Rattle.session_parts.specs.Stepping.{IsFit}
 use Rattle.session_parts.specs.StoreFaults.{fault_of}
 use Rattle.session_parts.specs.StoreStates.{hand_in, store_of}
 use Rattle.session_parts.specs.UndoneLaws.{SameBesidePages, StepsSo}
-use Rattle.session_parts.proofs.Undone.{fit_of_parts, refused_is_undone, spent_is_undone}
+use Rattle.session_parts.proofs.Undone.{refused_is_undone, spent_is_undone}
 
 -- the pages refuse the step
 pub refused_by : {D : Type 0} (told : D → Told) (old new : Parts D) (n : ℕ) (hand : Hand) (error : StoreError) (fault : StoreFault) → IsFit told old n hand → IsOver told new.transactions.tx new.pages

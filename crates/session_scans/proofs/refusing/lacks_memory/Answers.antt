@@ -9,7 +9,7 @@ use Rattle.session_scans.specs.ScanSteps.{parts_before}
 use Rattle.session_scans.proofs.Behind.{refused_entered}
 use Rattle.session_scans.proofs.InPlace.{has_scan, same_scan}
 use Rattle.session_scans.proofs.Short.{is_spent, short_refused}
-use Rattle.session_scans.proofs.Words.{promised_is, scan_share, share_is}
+use Rattle.session_scans.proofs.Words.{hand_is, promised_is, scan_share}
 use Rattle.session_scans.proofs.refusing.lacks_memory.Goals as goal
 
 pub taken-requires : goal.taken-requires
@@ -34,5 +34,5 @@ returns-clause-so g c = λ scan is.
     (stepped.Done c.refuse_look.result) (ap stepped.Done c.refuse_look.ensures.answer) c.refuse_look.ensures.failed
     (refused_entered parts.journal.entries c.release.new.self.entries c.refuse_look.new.parts.journal.entries c.args.session scan.judging.query c.into_query-query.result c.release.ensures.entries
     (c.into_query-query.ensures ∙ ap (λ (s : FindHand). s.judging.query) same) c.refuse_look.ensures.entries)
-    c.refuse_look.ensures.rest (c.fits.ensures.0 c.if-not-fits.false) (scan_share scan.judging.stage) parts.journal.promised (share_is c.args.looking scan scan.judging.stage)
+    c.refuse_look.ensures.rest (c.fits.ensures.0 c.if-not-fits.false) (scan_share scan.judging.stage) parts.journal.promised (hand_is c.args.looking scan scan.judging.stage).share
     (promised_is scan.judging.stage parts.journal.promised may.promised) (omega (arith, c.refuse_look.ensures.promised, c.release.ensures.promised))

@@ -6,7 +6,7 @@ use Rattle.session_parts.specs.declared.faults.StoreFault.TheVariants as stops
 use Rattle.session_parts.specs.declared.hand.Stepped.TheVariants as stepped
 use Rattle.session_scans.proofs.Mays.{before_first, is_find}
 use Rattle.session_scans.proofs.Short.{is_spent, short_refused}
-use Rattle.session_scans.proofs.Words.{first_shares}
+use Rattle.session_scans.proofs.Words.{first_is}
 use Rattle.session_scans.proofs.refusing.lacks_memory_at_once.Goals as goal
 
 pub returns-then-not-fits-clause-so : goal.returns-then-not-fits-clause-so
@@ -25,4 +25,4 @@ returns-clause-so g c =
     let scan = before_first g.D.Disk.told parts c.args.session c.args.looking c.args.query c.requires.fit in
     short_refused g.D.Disk.told c.laws_of_looks.ensures parts c.args.session c.args.looking scan c.requires.fit (is_find g.D.Disk.told parts c.args.session c.args.looking c.args.query c.requires.fit)
     (λ is. record { read = refl; next = refl; found = refl; last = refl }) c.requires.ready c.refuse_look.new.parts (stepped.Done c.refuse_look.result) (ap stepped.Done c.refuse_look.ensures.answer) c.refuse_look.ensures.failed c.refuse_look.ensures.entries
-    c.refuse_look.ensures.rest (c.fits.ensures.0 c.if-not-fits.false) 0 (parts.journal.promised + 1) (first_shares c.args.looking c.args.query) (omega arith) (omega (arith, c.refuse_look.ensures.promised))
+    c.refuse_look.ensures.rest (c.fits.ensures.0 c.if-not-fits.false) 0 (parts.journal.promised + 1) (first_is c.args.looking c.args.query).share (omega arith) (omega (arith, c.refuse_look.ensures.promised))

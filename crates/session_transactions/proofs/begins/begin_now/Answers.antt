@@ -23,7 +23,7 @@ returns-in-Ok g c =
     let made = c.in-Ok.ensures in
     let r : StepsSo told old (record old { pages = c.begin.new.pages; transactions = c.begin.new.self; journal = c.enter.new.self }) c.args.session (hands.Begins c.args.numbers) (stepped.Done (replies.Begun c.in-Ok.t)) =
     begun told (the_begin_laws laws.sessions laws.begin_unseen laws.begun laws.rows) old c.args.session c.args.numbers c.requires.fit c.requires.ready c.begin.new.pages c.begin.new.self c.enter.new.self c.in-Ok.t
-    made.outcome.1.1 c.begin.ensures.over c.begin.ensures.rest c.known.ensures.places made.number c.requires.some made.begun made.statuses made.database c.enter.ensures.entries c.enter.ensures.promised c.requires.room in
+    made.outcome.1.1 c.begin.ensures.over c.begin.ensures.rest c.known.ensures.places c.requires.some made.begun made.statuses made.database c.enter.ensures.entries c.enter.ensures.promised c.requires.room in
     record { steps = r.steps; fit = r.fit; others = r.others; stays = r.stays; cause = r.cause; survives = c.begin.ensures.survives }
 
 pub returns-in-Store : goal.returns-in-Store

@@ -1,5 +1,4 @@
 use Rattle.session_transactions.proofs.Stopping.{passes_no_commit, sure_unmade}
-use Rattle.session_transactions.proofs.AtOnce.{the_laws}
 use Rattle.session_transactions.proofs.Rooms.{no_commit}
 use Rattle.session_transactions.proofs.Undoing.{no_room_for, none_more}
 use Rattle.session_parts.specs.declared.hand.Hand.TheVariants as hands
@@ -9,5 +8,5 @@ use Rattle.session_transactions.proofs.ends.no_commit.Goals as goal
 pub returns : goal.returns
 returns g c =
     let r = no_room_for g.D.Disk.told c.args.parts.now c.args.session hands.Commits c.spent.result c.requires.fit c.requires.ready c.spent.ensures (none_more _ c.requires.full)
-    (no_commit the_laws c.laws_of_transactions.ensures.sessions c.args.parts.now c.args.session c.requires.full (fit_of_parts g.D.Disk.told c.args.parts.now c.args.session hands.Commits c.requires.fit).in_hand) in
+    (no_commit c.laws_of_transactions.ensures.sessions c.args.parts.now c.args.session c.requires.full (fit_of_parts g.D.Disk.told c.args.parts.now c.args.session hands.Commits c.requires.fit).in_hand) in
     record { steps = r.steps; fit = r.fit; others = r.others; stays = r.stays; cause = r.cause; survives = passes_no_commit g.D.Disk.told c.args.parts.now.pages c.known.ensures.stays c.args.parts.now.transactions c.args.session; sure = sure_unmade g.D.Disk.told c.args.parts.now.pages c.known.ensures.stays _ hands.Commits c.spent.result c.spent.ensures }

@@ -8,8 +8,9 @@ use Rattle.tx_table.proofs.Parts.{before_then}
 use Rattle.session_parts.specs.declared.hand.Hand.TheVariants as hands
 use Rattle.session_parts.specs.declared.hand.Hit.{Hit}
 use Rattle.session_parts.specs.declared.parts.Parts.{Parts}
+use Rattle.session_parts.specs.declared.hand.Stepped.TheVariants as stepped
+use Rattle.session_parts.specs.UndoneLaws.{StepsSo}
 use Rattle.session_parts.specs.StepIs.{stepped_in}
-use Rattle.session_parts.specs.StoreFaults.{fault_of}
 use Rattle.session_parts.proofs.Undone.{fit_of_parts}
 use Rattle.session_transactions.proofs.Behind.{behind, in_use, over_still, still_in_use}
 use Rattle.session_transactions.proofs.Undoing.{refused_by}
@@ -37,55 +38,23 @@ returns-in-Ok-true g c =
     let made = c.refuse.ensures in
     let r = behind g.D.Disk.told c.args.parts.now c.hit_conflicts.new.pages c.args.session c.args.marking.now c.hit_conflicts.ensures.kept c.refuse.new.parts (stepped_in (hands.Marks c.refuse.new.marking) c.refuse.result) c.in-Ok.ensures.outcome.0 c.in-Ok-true.ensures.outcome.1
     (record { steps = made.steps; fit = made.fit; others = made.others; stays = made.stays; cause = made.cause }) in
-    record {
-      steps = r.steps;
-      fit = r.fit;
-      others = r.others;
-      stays = r.stays;
-      cause = r.cause;
-      survives = subst (λ (new : View _). Survives g.D.Disk.told (IsBefore c.args.parts.now.pages) c.args.parts.now.pages new) (sym made.pages) c.hit_conflicts.ensures.survives;
-    }
+    record { steps = r.steps; fit = r.fit; others = r.others; stays = r.stays; cause = r.cause; survives = subst (λ (new : View _). Survives g.D.Disk.told (IsBefore c.args.parts.now.pages) c.args.parts.now.pages new) (sym made.pages) c.hit_conflicts.ensures.survives }
 
 pub returns-in-Ok-false : goal.returns-in-Ok-false
 returns-in-Ok-false g c =
     let made = c.mark_hit.ensures in
     let r = behind g.D.Disk.told c.args.parts.now c.hit_conflicts.new.pages c.args.session c.args.marking.now c.hit_conflicts.ensures.kept c.mark_hit.new.parts (stepped_in (hands.Marks c.mark_hit.new.marking) c.mark_hit.result) c.in-Ok.ensures.outcome.0 c.in-Ok-false.ensures.outcome.1
     (record { steps = made.steps; fit = made.fit; others = made.others; stays = made.stays; cause = made.cause }) in
-    record {
-      steps = r.steps;
-      fit = r.fit;
-      others = r.others;
-      stays = r.stays;
-      cause = r.cause;
-      survives = before_then g.D.Disk.told c.args.parts.now.pages c.hit_conflicts.new.pages c.mark_hit.new.parts.pages c.hit_conflicts.ensures.kept c.hit_conflicts.ensures.survives made.survives;
-    }
+    record { steps = r.steps; fit = r.fit; others = r.others; stays = r.stays; cause = r.cause; survives = before_then g.D.Disk.told c.args.parts.now.pages c.hit_conflicts.new.pages c.mark_hit.new.parts.pages c.hit_conflicts.ensures.kept c.hit_conflicts.ensures.survives made.survives }
 
-pub returns-in-Err-hit_conflicts-clause-steps : goal.returns-in-Err-hit_conflicts-clause-steps
-returns-in-Err-hit_conflicts-clause-steps g c =
+pub returns-in-Err-hit_conflicts : goal.returns-in-Err-hit_conflicts
+returns-in-Err-hit_conflicts g c =
     let told = g.D.Disk.told in
     let old : Parts _ = c.args.parts.now in
     let new : Parts _ = record old { pages = c.hit_conflicts.new.pages } in
     let keeps = c.hit_conflicts.ensures.kept in
-    (refused_by told old new c.args.session (hands.Marks c.args.marking.now) c.in-Err-hit_conflicts.error c.fault_of-in-Err-hit_conflicts.result c.requires.fit
+    let r : StepsSo told old new c.args.session (hands.Marks c.args.marking.now) (stepped.Undone c.fault_of-in-Err-hit_conflicts.result (hands.Marks c.args.marking.now)) =
+    refused_by told old new c.args.session (hands.Marks c.args.marking.now) c.in-Err-hit_conflicts.error c.fault_of-in-Err-hit_conflicts.result c.requires.fit
     (over_still told old.transactions.tx old.pages c.hit_conflicts.new.pages (fit_of_parts told old c.args.session (hands.Marks c.args.marking.now) c.requires.fit).over keeps) keeps.leaves
-    (record { transactions = refl; locks = refl; rights = refl; journal = refl; queue = refl; dropped = refl }) c.in-Err-hit_conflicts.ensures.outcome c.in-Err-hit_conflicts.ensures.names c.fault_of-in-Err-hit_conflicts.ensures).steps
-
-pub returns-in-Err-hit_conflicts-clause-fit : goal.returns-in-Err-hit_conflicts-clause-fit
-returns-in-Err-hit_conflicts-clause-fit g c =
-    let told = g.D.Disk.told in
-    let old : Parts _ = c.args.parts.now in
-    let new : Parts _ = record old { pages = c.hit_conflicts.new.pages } in
-    let keeps = c.hit_conflicts.ensures.kept in
-    (refused_by told old new c.args.session (hands.Marks c.args.marking.now) c.in-Err-hit_conflicts.error (fault_of c.in-Err-hit_conflicts.error) c.requires.fit
-    (over_still told old.transactions.tx old.pages c.hit_conflicts.new.pages (fit_of_parts told old c.args.session (hands.Marks c.args.marking.now) c.requires.fit).over keeps) keeps.leaves
-    (record { transactions = refl; locks = refl; rights = refl; journal = refl; queue = refl; dropped = refl }) c.in-Err-hit_conflicts.ensures.outcome c.in-Err-hit_conflicts.ensures.names refl).fit
-
-pub returns-in-Err-hit_conflicts-clause-cause : goal.returns-in-Err-hit_conflicts-clause-cause
-returns-in-Err-hit_conflicts-clause-cause g c =
-    let told = g.D.Disk.told in
-    let old : Parts _ = c.args.parts.now in
-    let new : Parts _ = record old { pages = c.hit_conflicts.new.pages } in
-    let keeps = c.hit_conflicts.ensures.kept in
-    (refused_by told old new c.args.session (hands.Marks c.args.marking.now) c.in-Err-hit_conflicts.error c.fault_of-in-Err-hit_conflicts.result c.requires.fit
-    (over_still told old.transactions.tx old.pages c.hit_conflicts.new.pages (fit_of_parts told old c.args.session (hands.Marks c.args.marking.now) c.requires.fit).over keeps) keeps.leaves
-    (record { transactions = refl; locks = refl; rights = refl; journal = refl; queue = refl; dropped = refl }) c.in-Err-hit_conflicts.ensures.outcome c.in-Err-hit_conflicts.ensures.names c.fault_of-in-Err-hit_conflicts.ensures).cause
+    (record { transactions = refl; locks = refl; rights = refl; journal = refl; queue = refl; dropped = refl }) c.in-Err-hit_conflicts.ensures.outcome c.in-Err-hit_conflicts.ensures.names c.fault_of-in-Err-hit_conflicts.ensures in
+    record { steps = r.steps; fit = r.fit; others = r.others; stays = r.stays; cause = r.cause; survives = c.hit_conflicts.ensures.survives }
