@@ -7,6 +7,14 @@ pub mod ExplainTurns
 pub mod ExplainShown
 pub mod Explained
 pub mod ExplainSteps
+pub mod MachinePoints
+pub mod MachineHands
+pub mod GoneRows
+pub mod MachinePlaces
+pub mod MachineParts
+pub mod MachineOutcomes
+pub mod Desummarises
+pub mod Settling
 pub mod UpkeepPoints
 pub mod UpkeepAt
 pub mod UpkeepSteps
@@ -16,8 +24,6 @@ pub mod SummariseLocks
 pub mod SummariseTurns
 pub mod SummariseParts
 pub mod SummariseFull
-pub mod DesummariseTurns
-pub mod DesummariseParts
 pub mod SummaryReplies
 pub mod WorkEnds
 pub mod WorkAsked

@@ -1,3 +1,5 @@
+pub mod MaintenanceSteps
+pub mod Settled
 pub mod DeadToAll
 pub mod Watched
 pub mod Askers

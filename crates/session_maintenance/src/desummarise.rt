@@ -9,15 +9,13 @@ ghost use Rattle.session_parts.specs.StepAnswers.{HasCause};
 ghost use Rattle.session_parts.specs.StepIs.{stepped_in};
 ghost use Rattle.session_parts.specs.Stepping.{IsFit, IsShown, LeavesTheOthers, MakesItsStep, StaysFit, StaysUndone};
 
+use crate::settle::{Came, settle};
 use block_model::Reply;
 use disk_trait::Disk;
-use page_locks::Did;
-use page_map::MachineFault;
-use session_parts::{Hand, Parts, Step, StoreFault, fault_of, lock_waited_for, page_waited_for};
+use session_parts::{Hand, Parts, Step, StoreFault};
 use summarise_core::{
     Desummarise, a_desummarise_steps_in_its_table, a_kept_table_takes_a_desummarise, table_of,
 };
-use transactions::other_pages_show_alike;
 
 /// A step of a desummarise. The first one takes the summarise lock of its table, and with the last one, which drops the range's tuple or finds
 /// none, it replies and gives the lock. It waits where another session has that lock, or locks a page that the step changes. Enters nothing, and
@@ -40,37 +38,23 @@ pub fn desummarise_on<D: Disk + Drop>(
 {
     a_desummarise_steps_in_its_table();
     a_kept_table_takes_a_desummarise();
-    other_pages_show_alike();
-    let index = desummarise.index();
-    let table = table_of(parts.pages.layout(), index);
-    match desummarise.step(
+    let table = table_of(parts.pages.layout(), desummarise.index());
+    let came = desummarise.step(
         &mut parts.pages,
         &mut parts.locks,
         &mut parts.rights,
         session,
-    ) {
-        Ok(Did::Moved(point)) => Ok(Step::Moved(point)),
-        Ok(Did::Finished(_)) => {
+    );
+    let came = match settle(parts, session, table, came) {
+        Ok(came) => came,
+        Err(fault) => return Err(fault),
+    };
+    match came {
+        Came::Goes(step) => Ok(step),
+        Came::Ends(_) => {
             parts.rights.give(table, session);
             Ok(Step::Done(told(desummarise)))
         }
-        Ok(Did::Blocked(held)) => {
-            let what = page_waited_for(parts.pages.layout(), index, &held);
-            Ok(Step::Blocked {
-                what,
-                holder: held.by,
-            })
-        }
-        Ok(Did::NoRight { by }) => {
-            let what = lock_waited_for(parts.pages.layout(), table);
-            Ok(Step::Blocked { what, holder: by })
-        }
-        Err(MachineFault::Store(error)) => {
-            parts.locks.drop_all(session);
-            Err(fault_of(error))
-        }
-        Err(MachineFault::Full { .. }) => unreachable!(),
-        Err(MachineFault::Memory) => unreachable!(),
     }
 }
 

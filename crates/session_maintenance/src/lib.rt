@@ -14,6 +14,7 @@ mod dead_rows;
 mod desummarise;
 mod explain;
 mod first_request;
+mod settle;
 mod summarise;
 mod work;
 
