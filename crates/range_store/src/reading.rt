@@ -37,6 +37,7 @@ pub fn tuple_at<D: Disk + Drop>(
     ensures there { IfOk result (λ there. IfSome there (λ tuple. Tells D.told pages.old → (contents pages.old.layout pages.old.pages index).bytes spot ≡ Some tuple.now)) }
     ensures range { IfOk result (λ there. IfSome there (λ tuple. IsOfRange tuple.now range)) }
     ensures short { IfOk result (λ there. IfSome there (λ tuple. length tuple.now ≤ PAGE_SIZE)) }
+    ensures within { IfOk result (λ there. IfSome there (λ tuple. spot.block < pages.old.layout.sizes.index_blocks)) }
     ensures gone { IfOk result (λ there. there ≡ None → Tells D.told pages.old → (bytes : List ℕ) → (contents pages.old.layout pages.old.pages index).bytes spot ≡ Some bytes → IsOfRange bytes range → ⊥) }
     ensures at { IfErr result (NamesPage pages.old.layout (record { relation = relation_of pages.old.layout index; block = spot.block })) }
     ensures reopen { IfErr result (λ error. pages.old.layout.sizes.index_blocks ≤ spot.block → IsReopen error) }
