@@ -24,7 +24,7 @@ use crate::stage::Stage;
 use block_model::{Cond, NoMemory, Query, Spot};
 use disk_trait::Disk;
 use heap_rows::blocks;
-use index_steps::{judge_tuple as judge_at, read_entry};
+use index_steps::{judge_tuple as judge_at, read_map};
 use page_locks::Point;
 use page_map::MachineFault;
 use page_store::PageStore;
@@ -290,7 +290,7 @@ fn judge_map<D: Disk + Drop>(
     ensures undamaged { OnOk result (Tells D.told pages.old → IsDamagedAt pages.old.layout pages.old.pages (all_scanned readers.now) (Stage.Map at range) → ⊥) }
     ensures outcome { ReadOutcome D.told (Tells D.told pages.old → IsDamagedAt pages.old.layout pages.old.pages (all_scanned readers.now) (Stage.Map at range)) pages.old pages.new result }
 {
-    match read_entry(pages, readers[at].number, range) {
+    match read_map(pages, readers[at].number, range) {
         Ok(Some(spot)) => Ok(Stage::Tuple { at, range, spot }),
         Ok(None) => Ok(next_range(readers, extent, at, range)),
         Err(error) => Err(MachineFault::Store(error)),

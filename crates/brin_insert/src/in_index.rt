@@ -42,7 +42,7 @@ fn map<D: Disk + Drop>(
     ensures undamaged { OnOk result (Tells D.told pages.old → DamageAt (shape_of pages.old.layout at.index) (contents pages.old.layout pages.old.pages at.index) at.range Stage.Map → ⊥) }
     ensures reads { OnlyReads D.told (FaultNamesPageOf pages.old.layout at.index) (Tells D.told pages.old → DamageAt (shape_of pages.old.layout at.index) (contents pages.old.layout pages.old.pages at.index) at.range Stage.Map) pages.old pages.new result }
 {
-    match read_map(pages, at.index, at.range, copied) {
+    match read_map(pages, at.index, at.range) {
         Ok(Some(spot)) => Ok((Stage::Copy(spot), Did::Moved(Point::Map))),
         Ok(None) => Ok((Stage::Complete, Did::Finished(Point::Map))),
         Err(error) => Err(MachineFault::Store(error)),

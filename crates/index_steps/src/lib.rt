@@ -1,7 +1,7 @@
 //! The steps that statements take in one index. Towards another tuple in the place of a range's old one: `copy_tuple` copies the tuple at
 //! the spot that the map named, and `swap` has the new one take its place, where the old one still stands there. A range without one gets
 //! its first tuple by `put_new` and `name_new`. A map that is too short grows by a page (`Extend`): the block behind it is judged anew at
-//! each step, emptied of its tuples where it has some, and turned into a page of the map. A scan reads the map by `read_entry`, and judges a tuple where its bytes stand (`judge_tuple`). Each step is one of coverage's, of every index
+//! each step, emptied of its tuples where it has some, and turned into a page of the map. A scan judges a tuple where its bytes stand (`judge_tuple`). Each step is one of coverage's, of every index
 //! that the pages and the page locks show (specs/ShownIndex), and what operator classes make of tuples is lawful as coverage asks. No lock
 //! of another session changes, and no call takes memory. It stands on revmap, range_store, page_locks, range_tuple and heap_rows; the
 //! machines of statements stand above.
@@ -50,7 +50,7 @@ pub use moving::{drop_moved, name_moved};
 pub use next::{NextPage, PageState, next_page};
 pub use placing::{Placed, name_new, put_new};
 pub use range_store::Scratch;
-pub use reading::{copy_tuple, judge_tuple, page_at, read_entry, read_map};
+pub use reading::{copy_tuple, judge_tuple, page_at, read_map};
 pub use revmap::{SetFault, entries_stand_on_counted_pages, entry, set};
 pub use spelling::{spell, tuples_of_an_index_need_one_room};
 pub use swapping::{Swapped, Within, lock_of_another, map_page_of, swap};

@@ -22,7 +22,7 @@ use revmap::entry;
 
 /// The entry of the range; none where the map names no spot for it. Damaged, beside a disk that doesn't tell its contents, exactly
 /// where no tuple of the range stands at the spot that it names. Takes no memory.
-pub fn read_entry<D: Disk + Drop>(
+pub fn read_map<D: Disk + Drop>(
     pages: &mut PageStore<D>,
     index: u8,
     range: u32,
@@ -48,25 +48,6 @@ pub fn read_entry<D: Disk + Drop>(
         }),
         Err(error) => Err(error),
     }
-}
-
-/// The same for a machine that copies the tuple next. Takes no memory.
-pub fn read_map<D: Disk + Drop>(
-    pages: &mut PageStore<D>,
-    index: u8,
-    range: u32,
-    _copied: &mut Scratch,
-) -> Result<Option<Spot>, StoreError>
-    requires index { index < length pages.old.layout.schema.indexes }
-    ensures entry { IfOk result (λ entry. Tells D.told pages.old → (contents pages.old.layout pages.old.pages index).entry range ≡ entry) }
-    ensures undamaged { OnOk result (Tells D.told pages.old → IsMisnamed (contents pages.old.layout pages.old.pages index) range → ⊥) }
-    ensures stands { IfOk result (λ entry. IfSome entry (λ spot. Tells D.told pages.old → HasRangeAt (contents pages.old.layout pages.old.pages index) range spot)) }
-    ensures kept { Keeps D.told pages.old pages.new }
-    ensures survives { Survives D.told (λ passed. passed ≡ pages.old.pages) pages.old pages.new }
-    ensures at { IfErr result (NamesPageOf pages.old.layout index) }
-    ensures outcome { Outcome D.told (Tells D.told pages.old → IsMisnamed (contents pages.old.layout pages.old.pages index) range) pages.old pages.new result }
-{
-    read_entry(pages, index, range)
 }
 
 /// Whether a tuple of the range stands at the spot; `copied` holds its bytes then, and `tuple` is the one that they are. False

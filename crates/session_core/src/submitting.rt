@@ -157,6 +157,6 @@ fn desummarise_hand<D: Disk + Drop>(
     requires { index < length parts.now.pages.layout.schema.indexes }
     ensures { IfOk result (TakesHand parts.now parts.now (Statement.Desummarize index block)) }
 {
-    let desummarise = Desummarise::new(parts.alloc, index, block)?;
+    let desummarise = Desummarise::new(index, block);
     Ok(Hand::Desummarises(desummarise))
 }

@@ -17,22 +17,19 @@ ghost use Rattle.summarise_core.specs.Desummarises.{DamageIn, DesummariseDoes, G
 use crate::desummarise_indexes::blocks_a_range;
 use crate::desummarise_stage::{Stage, count_at};
 use crate::desummarise_steps::step_in;
-use block_model::NoMemory;
 use disk_trait::Disk;
-use index_steps::{Scratch, Within};
+use index_steps::Within;
 use page_locks::{Did, Locks, Rights};
 use page_map::MachineFault;
 use page_store::PageStore;
-use std::alloc::Global;
 use std::marker::Model;
 
-/// A desummarise of the range of a block in an index: the index, the heap block, where it stands, and room for the bytes of a tuple.
+/// A desummarise of the range of a block in an index: the index, the heap block, and where it stands.
 #[derive(Debug, Drop)]
 pub struct Desummarise {
     index: u8,
     block: u32,
     stage: Stage,
-    copied: Scratch,
 }
 
 impl Model for Desummarise {
@@ -44,21 +41,18 @@ impl Model for Desummarise {
 }
 
 impl Desummarise {
-    /// Before the first step. Takes all the memory that the desummarise ever needs: room for the tuple that it reads with the map. `Err` is
-    /// want of memory.
-    pub fn new(alloc: Global, index: u8, block: u32) -> Result<Desummarise, NoMemory>
-        ensures begins { IfOk result (λ desummarise. desummarise.stage ≡ Stage.Right) }
-        ensures index { IfOk result (λ desummarise. desummarise.index ≡ index) }
-        ensures block { IfOk result (λ desummarise. desummarise.block ≡ block) }
-        ensures of { IfOk result (λ desummarise. (layout : DiskLayout) → index < length layout.schema.indexes → IsDesummariseOf layout desummarise) }
+    /// Before the first step. No step of it takes memory.
+    pub fn new(index: u8, block: u32) -> Desummarise
+        ensures begins { result.stage ≡ Stage.Right }
+        ensures index { result.index ≡ index }
+        ensures block { result.block ≡ block }
+        ensures of { (layout : DiskLayout) → index < length layout.schema.indexes → IsDesummariseOf layout result }
     {
-        let copied = Scratch::new(alloc)?;
-        Ok(Desummarise {
+        Desummarise {
             index,
             block,
             stage: Stage::Right,
-            copied,
-        })
+        }
     }
 
     /// The number of its index.
@@ -121,7 +115,7 @@ impl Desummarise {
             actor,
         };
         let stage = self.stage;
-        match step_in(pages, locks, rights, at, stage, &mut self.copied) {
+        match step_in(pages, locks, rights, at, stage) {
             Ok((stage, did)) => {
                 self.stage = stage;
                 Ok(did)

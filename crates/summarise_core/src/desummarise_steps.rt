@@ -20,8 +20,8 @@ use block_model::{Point, Spot};
 use disk_trait::Disk;
 use index_contents::relation_of;
 use index_steps::{
-    Scratch, SetFault, Within, an_index_that_stays_is_read, drop_moved,
-    entries_stand_on_counted_pages, map_page_of, page_at, read_map, set,
+    SetFault, Within, an_index_that_stays_is_read, drop_moved, entries_stand_on_counted_pages,
+    map_page_of, page_at, read_map, set,
 };
 use page_locks::{Did, Locks, Rights};
 use page_map::MachineFault;
@@ -34,7 +34,6 @@ pub(crate) fn step_in<D: Disk + Drop>(
     rights: &mut Rights,
     at: Within,
     stage: Stage,
-    copied: &mut Scratch,
 ) -> Result<(Stage, Did), MachineFault>
     requires index { at.index < length pages.old.layout.schema.indexes }
     requires left { IsLeft stage }
@@ -64,7 +63,7 @@ pub(crate) fn step_in<D: Disk + Drop>(
             Ok(done) => Ok(done),
             Err(fault) => Err(fault),
         },
-        Stage::Map => match look(pages, at, copied) {
+        Stage::Map => match look(pages, at) {
             Ok(done) => Ok(done),
             Err(fault) => Err(fault),
         },
@@ -115,11 +114,7 @@ fn take_right<D: Disk + Drop>(
 }
 
 /// Reads the map: an entry is to be taken out; a range without one is done.
-fn look<D: Disk + Drop>(
-    pages: &mut PageStore<D>,
-    at: Within,
-    copied: &mut Scratch,
-) -> Result<(Stage, Did), MachineFault>
+fn look<D: Disk + Drop>(pages: &mut PageStore<D>, at: Within) -> Result<(Stage, Did), MachineFault>
     requires index { at.index < length pages.old.layout.schema.indexes }
     ensures stepped { IfOk result (λ o. Tells D.told pages.old → (locks : LockState) → StepsAt pages.old.layout pages.old.pages pages.new.pages locks locks at.index at.range at.actor Stage.Map o.0 o.1) }
     ensures stands { IfOk result (λ o. StandsAfter Stage.Map o.0 o.1) }
@@ -133,7 +128,7 @@ fn look<D: Disk + Drop>(
     ensures outcome { MachineOutcome D.told (Tells D.told pages.old → IsMisnamed (contents pages.old.layout pages.old.pages at.index) at.range) pages.old pages.new result }
 {
     an_index_that_stays_is_read();
-    match read_map(pages, at.index, at.range, copied) {
+    match read_map(pages, at.index, at.range) {
         Ok(Some(spot)) => Ok((Stage::Clear(spot), Did::Moved(Point::Map))),
         Ok(None) => Ok((Stage::Lacked, Did::Finished(Point::Map))),
         Err(error) => Err(MachineFault::Store(error)),

@@ -63,7 +63,7 @@ pub(crate) fn look<D: Disk + Drop>(
     ensures undamaged { OnOk result (Tells D.told pages.old → IsMisnamed (contents pages.old.layout pages.old.pages at.index) at.range → ⊥) }
     ensures reads { OnlyReads D.told (FaultNamesPageOf pages.old.layout at.index) (Tells D.told pages.old → IsMisnamed (contents pages.old.layout pages.old.pages at.index) at.range) pages.old pages.new result }
 {
-    match read_map(pages, at.index, at.range, copied) {
+    match read_map(pages, at.index, at.range) {
         Ok(Some(spot)) => Ok((Stage::Tuple(spot), Did::Moved(Point::Map))),
         Ok(None) => Ok((Stage::Place, Did::Moved(Point::Map))),
         Err(error) => Err(MachineFault::Store(error)),
@@ -241,7 +241,7 @@ pub(crate) fn look_again<D: Disk + Drop>(
     ensures undamaged { OnOk result (Tells D.told pages.old → (IsMisnamed (contents pages.old.layout pages.old.pages at.index) at.range ⊎ ((contents pages.old.layout pages.old.pages at.index).entry at.range ≡ None)) → ⊥) }
     ensures reads { OnlyReads D.told (FaultNamesPageOf pages.old.layout at.index) (Tells D.told pages.old → IsMisnamed (contents pages.old.layout pages.old.pages at.index) at.range ⊎ ((contents pages.old.layout pages.old.pages at.index).entry at.range ≡ None)) pages.old pages.new result }
 {
-    match read_map(pages, at.index, at.range, copied) {
+    match read_map(pages, at.index, at.range) {
         Ok(Some(spot)) => Ok((Stage::Copy(spot), Did::Moved(Point::Map))),
         Ok(None) => Err(MachineFault::Store(StoreError::Damaged {
             at: page_at(pages, at.index, map_page_of(at.range)),

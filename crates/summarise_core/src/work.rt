@@ -19,9 +19,7 @@ ghost use Rattle.summarise_core.specs.SummariseSteps.{IsAtWork, StandsAfter, Ste
 ghost use Rattle.summarise_core.specs.Works.{hand_of};
 
 use crate::growing::{grow, grows};
-use crate::in_range::{
-    look, look_again, move_in, name, pass, place, read_extent, take_up, unite,
-};
+use crate::in_range::{look, look_again, move_in, name, pass, place, read_extent, take_up, unite};
 use crate::range_stage::Stage;
 use block_model::{Point, Spot};
 use disk_trait::Disk;

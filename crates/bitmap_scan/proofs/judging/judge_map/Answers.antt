@@ -10,8 +10,8 @@ use Rattle.bitmap_scan.proofs.JudgedRanges.{named, unnamed}
 use Rattle.bitmap_scan.proofs.MadeReaders.{reads_index, there_is, within}
 use Rattle.bitmap_scan.proofs.judging.judge_map.Goals as goal
 
-pub read_entry-requires : goal.read_entry-requires
-read_entry-requires g c =
+pub read_map-requires : goal.read_map-requires
+read_map-requires g c =
     let readers = c.args.readers.now in
     let reader = get_or readers c.args.at c.index-readers-at.result in
     let there = ap (get_or readers c.args.at) c.index-readers-at.is in

@@ -14,7 +14,7 @@ returns-in-Ok-Some-clause-stepped g c = λ tells locks before old new r.
     let shape = shape_of store.layout at.index in
     let lock = lock_in store.layout locks at.index in
     named shape at.actor at.range r (contents store.layout store.pages at.index) (contents store.layout c.read_map.new.pages.pages at.index) lock before (tuple_bytes old) (still_read g.D.Disk.told store c.read_map.new.pages c.read_map.ensures.kept tells at.index at.actor lock)
-    c.read_map.new.copied (tuple_bytes new) c.in-Ok-Some.spot (c.in-Ok-Some.ensures.entry tells ∙ c.in-Ok-Some.field-0-is)
+    c.args.copied.now (tuple_bytes new) c.in-Ok-Some.spot (c.in-Ok-Some.ensures.entry tells ∙ c.in-Ok-Some.field-0-is)
 
 pub returns-in-Ok-None-clause-stepped : goal.returns-in-Ok-None-clause-stepped
 returns-in-Ok-None-clause-stepped g c = λ tells locks before old new r.
@@ -23,4 +23,4 @@ returns-in-Ok-None-clause-stepped g c = λ tells locks before old new r.
     let shape = shape_of store.layout at.index in
     let lock = lock_in store.layout locks at.index in
     unnamed shape at.actor at.range r (contents store.layout store.pages at.index) (contents store.layout c.read_map.new.pages.pages at.index) lock before (tuple_bytes old) (still_read g.D.Disk.told store c.read_map.new.pages c.read_map.ensures.kept tells at.index at.actor lock)
-    c.read_map.new.copied (tuple_bytes new) (c.in-Ok-None.ensures.entry tells ∙ c.in-Ok-None.field-0-is)
+    c.args.copied.now (tuple_bytes new) (c.in-Ok-None.ensures.entry tells ∙ c.in-Ok-None.field-0-is)

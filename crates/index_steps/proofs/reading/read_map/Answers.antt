@@ -8,7 +8,7 @@ use Rattle.index_steps.specs.DamagedPages.{names_page}
 use Rattle.index_steps.proofs.Copying.{is_misnamed, said_of}
 use Rattle.index_steps.specs.ShownIndex.{same_contents}
 use Rattle.index_steps.proofs.Damage.{well_named}
-use Rattle.index_steps.proofs.reading.read_entry.Goals as goal
+use Rattle.index_steps.proofs.reading.read_map.Goals as goal
 
 pub returns-in-Ok-None-tuple_at-clause-outcome : goal.returns-in-Ok-None-tuple_at-clause-outcome
 returns-in-Ok-None-tuple_at-clause-outcome g c =
