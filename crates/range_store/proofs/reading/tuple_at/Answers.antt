@@ -38,7 +38,7 @@ returns-in-Ok g c =
     let past = past_the_limit store.layout store.pages c.relation_of-relation.result c.args.spot.block c.known.ensures.whole there (omega (arith, limit, c.if-block-sizes.true, ap (λ (s : Sizes). s.index_blocks) blocks)) in
     let none = none_past store.layout store.pages c.args.index c.relation_of-relation.result c.args.spot (c.relation_of-relation.ensures.number ∙ ap (λ (l : DiskLayout). relation_of l c.args.index) c.layout.ensures) past in (
       (refl, λ _. tt, (record { leaves = record { layout = refl; tells = refl; faults = omega arith }; pages = λ tells. refl }, c.in-Ok.ensures.outcome, survives_still g.D.Disk.told store c.ready.ensures.stays)),
-      record { there = tt; range = tt; short = tt; gone = λ is tells bytes stands of. absurd (none-some _ (sym none ∙ stands)); at = tt; reopen = tt; rests = tt },
+      record { there = tt; range = tt; short = tt; within = tt; gone = λ is tells bytes stands of. absurd (none-some _ (sym none ∙ stands)); at = tt; reopen = tt; rests = tt },
     )
 
 pub returns-in-Err : goal.returns-in-Err
@@ -46,19 +46,21 @@ returns-in-Err g c =
     let store = c.args.pages.now in
     let named = none_named store.layout (record { relation = relation_of store.layout c.args.index; block = c.args.spot.block }) c.in-Err.error c.in-Err.ensures.reopen in (
       (refl, λ _. tt, (record { leaves = record { layout = refl; tells = refl; faults = omega arith }; pages = λ tells. refl }, c.in-Err.ensures.outcome, survives_still g.D.Disk.told store c.ready.ensures.stays)),
-      record { there = tt; range = tt; short = tt; gone = tt; at = named; reopen = λ past. c.in-Err.ensures.reopen; rests = tt },
+      record { there = tt; range = tt; short = tt; within = tt; gone = tt; at = named; reopen = λ past. c.in-Err.ensures.reopen; rests = tt },
     )
 
 pub returns-in-Ok-read : goal.returns-in-Ok-read
 returns-in-Ok-read g c =
     let store = c.args.pages.now in
     let relation = c.relation_of-relation.ensures.number ∙ ap (λ (l : DiskLayout). relation_of l c.args.index) c.layout.ensures in
+    let blocks = c.sizes.ensures ∙ ap (λ (l : DiskLayout). l.sizes) c.layout-2.ensures in
     let on_page = tuple_there store.layout store.pages c.args.index c.relation_of-relation.result c.args.spot relation in (
       (refl, λ _. tt, rw c.in-Ok-read.is at c.read.follows.holds-at-none),
       record {
         there = if_there c.tuple_of.result (λ tuple has tells. sym on_page ∙ ap (λ (p : List ℕ). tuple_on p c.args.spot.slot) (sym (c.in-Ok-read.ensures.page tells)) ∙ has.0) c.tuple_of.ensures.there;
         range = if_there c.tuple_of.result (λ tuple has. has.1) c.tuple_of.ensures.there;
         short = c.tuple_of.ensures.short;
+        within = if_there c.tuple_of.result (λ tuple has. omega (arith, c.if-block-sizes.false, ap (λ (s : Sizes). s.index_blocks) blocks)) c.tuple_of.ensures.there;
         gone = λ is tells bytes stands of. c.tuple_of.ensures.gone is bytes (ap (λ (p : List ℕ). tuple_on p c.args.spot.slot) (c.in-Ok-read.ensures.page tells) ∙ on_page ∙ stands) of;
         at = tt;
         reopen = tt;
