@@ -12,6 +12,7 @@ ghost use Rattle.store_layout.specs.declared.limits.TheConstants.{MAX_ENTRIES};
 ghost use Rattle.snapshot_core.specs.StoredVersions.{transaction_of};
 ghost use Rattle.transactions.specs.Sessions.{next_row_of};
 ghost use Rattle.transactions.specs.TransactionsState.{OfOpen, with_failed};
+ghost use Rattle.session_parts.specs.declared.hand.Hand.TheVariants as hands;
 ghost use Rattle.session_inserts.specs.Promised.{unpromised};
 ghost use Rattle.session_inserts.specs.Settling.{SettlesSo};
 ghost use Rattle.session_inserts.specs.SparePut.{OfItsPut, left_behind};
@@ -44,11 +45,11 @@ pub fn put_row<D: Disk + Drop>(
     values: &Values,
     machine: &mut Option<Insert>,
 ) -> Result<Step, StoreFault>
-    requires fit { IsFit D.told parts.old session (Hand.Puts table values.now) }
+    requires fit { IsFit D.told parts.old session (hands.Puts table values.now) }
     requires few { count_of parts.old.locks + LOCKS_A_SESSION ≤ MAX_LOCKS }
-    requires shown { IsShown D.told parts.old session (Hand.Puts table values.now) }
+    requires shown { IsShown D.told parts.old session (hands.Puts table values.now) }
     requires machine { IfSome machine.old (IsInsertFor parts.old.pages.layout) }
-    ensures so { SettlesSo D.told parts.old parts.new session (Hand.Puts table values.now) (left_behind (Hand.Puts table values.now) machine.new result) result }
+    ensures so { SettlesSo D.told parts.old parts.new session (hands.Puts table values.now) (left_behind (hands.Puts table values.now) machine.new result) result }
     // At every moment of the step an image opens to what one did before it, or to the pages as they were.
     ensures survives { Survives D.told (IsBefore parts.old.pages) parts.old.pages parts.new.pages }
     ensures machine { IfSome machine.new (IsInsertFor parts.old.pages.layout) }
