@@ -19,23 +19,23 @@ unreachable-requires g c = false≢true (subst (λ (m : Option Insert). IsSome (
 pub unreachable-unreachable : goal.unreachable-unreachable
 unreachable-unreachable g c = c.unreachable.result
 
-pub insert_on-requires-clause-few : goal.insert_on-requires-clause-few
-insert_on-requires-clause-few g c = c.requires.few
+pub insert_on-answer-requires-clause-few : goal.insert_on-answer-requires-clause-few
+insert_on-answer-requires-clause-few g c = c.requires.few
 
-pub insert_on-requires-clause-fit : goal.insert_on-requires-clause-fit
-insert_on-requires-clause-fit g c = subst (λ (m : Option Insert). IfSome (insert_of m) (λ was. IsFit g.D.Disk.told c.args.parts.now c.args.session was)) c.in-Some.is c.requires.fit
+pub insert_on-answer-requires-clause-fit : goal.insert_on-answer-requires-clause-fit
+insert_on-answer-requires-clause-fit g c = subst (λ (m : Option Insert). IfSome (insert_of m) (λ was. IsFit g.D.Disk.told c.args.parts.now c.args.session was)) c.in-Some.is c.requires.fit
 
-pub insert_on-requires-clause-shown : goal.insert_on-requires-clause-shown
-insert_on-requires-clause-shown g c = subst (λ (m : Option Insert). IfSome (insert_of m) (λ was. IsShown g.D.Disk.told c.args.parts.now c.args.session was)) c.in-Some.is c.requires.shown
+pub insert_on-answer-requires-clause-shown : goal.insert_on-answer-requires-clause-shown
+insert_on-answer-requires-clause-shown g c = subst (λ (m : Option Insert). IfSome (insert_of m) (λ was. IsShown g.D.Disk.told c.args.parts.now c.args.session was)) c.in-Some.is c.requires.shown
 
 pub returns : goal.returns
 returns g c =
     let slot = c.args.slot.now in
     let made = c.insert_on-answer in
     let is = made.ensures in
-    let left = ap (λ (k : Held). hand_there k slot.put (Some made.new.insert) slot.other) c.held_after.ensures ∙ insert_left slot.put made.new.insert slot.other made.result in
+    let left = ap (λ (k : Held). hand_there k slot.put (Some made.new.insert) slot.other) c.held_after-slot.ensures ∙ insert_left slot.put made.new.insert slot.other made.result in
     record {
-      so = subst (λ (m : Option Insert). IfSome (insert_of m) (λ was. SettlesSo g.D.Disk.told c.args.parts.now made.new.parts c.args.session was (hand_there c.held_after.result slot.put (Some made.new.insert) slot.other) made.result)) (sym c.in-Some.is)
+      so = subst (λ (m : Option Insert). IfSome (insert_of m) (λ was. SettlesSo g.D.Disk.told c.args.parts.now made.new.parts c.args.session was (hand_there c.held_after-slot.result slot.put (Some made.new.insert) slot.other) made.result)) (sym c.in-Some.is)
           (record {
             stepped = stepped_in (hands.Inserts made.new.insert) made.result;
             so = record { steps = is.steps; fit = is.fit; others = is.others; stays = is.stays; cause = is.cause };
