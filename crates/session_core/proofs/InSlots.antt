@@ -1,5 +1,5 @@
 -- what is in hand by where it stands, and where it stands behind a step
-use Rattle.std.proofs.Common.{◌≡◌, ℕ, Option, None, Some, IfSome, IsSome, Result, Ok, Err, refl, sym, ap, subst}
+use Rattle.std.proofs.Common.{◌≡◌, ℕ, Option, None, Some, IfSome, IsSome, Result, Ok, Err, refl, sym, subst}
 use Rattle.std.proofs.lemmas.Bool.{false≢true}
 use Rattle.block_model.specs.declared.value.Value.{Value}
 use Rattle.std.specs.Prelude.{List}
@@ -13,7 +13,6 @@ use Rattle.session_parts.specs.declared.faults.StoreFault.{StoreFault}
 use Rattle.session_parts.specs.declared.hand.Hand.{Hand}
 use Rattle.session_parts.specs.declared.hand.Hand.TheVariants as hands
 use Rattle.session_parts.specs.declared.parts.Parts.{Parts}
-use Rattle.session_parts.specs.Hands.{statement_of}
 use Rattle.session_parts.specs.StepIs.{hand_after, stepped_in}
 use Rattle.session_parts.specs.Stepping.{IsFit}
 use Rattle.session_parts.specs.StoreStates.{store_of, with_hand}

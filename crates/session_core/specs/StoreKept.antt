@@ -1,5 +1,5 @@
 -- what holds of every store
-use Rattle.std.specs.Prelude.{◌≡◌, ◌≢◌, ℕ, ◌≤◌, ◌<◌, List, length, Option, None, Some}
+use Rattle.std.specs.Prelude.{◌≡◌, ◌≢◌, ℕ, ◌≤◌, ◌<◌, List, length, None, Some}
 use Rattle.disk_trait.specs.Told.{Told}
 use Rattle.store_layout.specs.declared.limits.TheConstants.{MAX_SESSIONS}
 use Rattle.page_locks.specs.LockCounts.{locks_of}

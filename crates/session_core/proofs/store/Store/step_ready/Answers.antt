@@ -1,4 +1,4 @@
-use Rattle.std.proofs.Common.{◌≡◌, ◌<◌, length, set, Option, Some, IfSome, IsSome, Result, refl, sym, ap, subst, ◌∙◌, arith}
+use Rattle.std.proofs.Common.{◌≡◌, ◌<◌, length, set, Option, Some, IsSome, Result, refl, sym, ap, subst, ◌∙◌, arith}
 use Rattle.session_parts.specs.declared.faults.Step.{Step}
 use Rattle.session_parts.specs.declared.faults.StoreFault.{StoreFault}
 use Rattle.session_parts.specs.declared.hand.Hand.{Hand}
