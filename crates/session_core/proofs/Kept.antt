@@ -5,7 +5,6 @@ use Rattle.disk_trait.specs.Told.{Told}
 use Rattle.store_layout.specs.declared.limits.TheConstants.{MAX_SESSIONS}
 use Rattle.page_locks.specs.LockCounts.{locks_of}
 use Rattle.snapshot_core.specs.StoredVersions.{transaction_of}
-use Rattle.brin_insert.specs.declared.insert.Insert.{Insert}
 use Rattle.session_parts.specs.declared.hand.Hand.{Hand}
 use Rattle.session_parts.specs.declared.limits.TheConstants.{LOCKS_A_SESSION}
 use Rattle.session_parts.specs.declared.parts.Parts.{Parts}
@@ -16,11 +15,12 @@ use Rattle.session_parts.specs.StepAnswers.{LeavesSessions}
 use Rattle.session_parts.specs.StoreLaws.{HasHand}
 use Rattle.session_parts.specs.StoreStates.{hand_in, store_of}
 use Rattle.session_core.specs.SessionLaws.{SessionLaws}
+use Rattle.session_core.specs.declared.slots.Slot.{Slot}
 use Rattle.session_core.specs.StoreKept.{HoldsNothing, IsStoreKept}
 use Rattle.session_core.proofs.Lists.{inside}
 
-module _ {D : Type 0} (told : D → Told) (laws : SessionLaws told) (parts : Parts D) (names : List (List ℕ)) (hands : List (Option Hand)) (spares : List (Option Insert))
-    (kept : IsStoreKept told (store_of parts names hands) spares) where
+module _ {D : Type 0} (told : D → Told) (laws : SessionLaws told) (parts : Parts D) (names : List (List ℕ)) (hands : List (Option Hand)) (slots : List Slot)
+    (kept : IsStoreKept told (store_of parts names hands) slots) where
   -- ---- what a step may rely on
 
   pub session_below : (n : ℕ) (hand : Hand) → hand_in hands n ≡ Some hand → n < length names
@@ -66,9 +66,9 @@ module _ {D : Type 0} (told : D → Told) (laws : SessionLaws told) (parts : Par
         }
 
 -- the same store, whose sessions are kept in another list
-pub kept_as : {D : Type 0} (told : D → Told) (parts : Parts D) (names more : List (List ℕ)) (hands now : List (Option Hand)) (spares then : List (Option Insert))
-    → more ≡ names → now ≡ hands → then ≡ spares → IsStoreKept told (store_of parts names hands) spares → IsStoreKept told (store_of parts more now) then
-kept_as told parts names more hands now spares then a b c kept =
+pub kept_as : {D : Type 0} (told : D → Told) (parts : Parts D) (names more : List (List ℕ)) (hands now : List (Option Hand)) (slots then : List Slot)
+    → more ≡ names → now ≡ hands → then ≡ slots → IsStoreKept told (store_of parts names hands) slots → IsStoreKept told (store_of parts more now) then
+kept_as told parts names more hands now slots then a b c kept =
     subst (λ (l : List (List ℕ)). IsStoreKept told (store_of parts l now) then) (sym a)
     (subst (λ (l : List (Option Hand)). IsStoreKept told (store_of parts names l) then) (sym b)
-    (subst (λ (l : List (Option Insert)). IsStoreKept told (store_of parts names hands) l) (sym c) kept))
+    (subst (λ (l : List Slot). IsStoreKept told (store_of parts names hands) l) (sym c) kept))

@@ -4,6 +4,7 @@ pub mod Lists
 pub mod Kept
 pub mod Settling
 pub mod Stepping
+pub mod InSlots
 pub mod Taking
 pub mod Naming
 pub mod New

@@ -1,5 +1,5 @@
 -- a store in which a session is made
-use Rattle.std.proofs.Common.{◌≡◌, inl, inr, ℕ, ◌+◌, ◌<◌, ◌≤◌, Bool, true, false, List, [], ◌∷◌, ◌++◌, length, Option, None, Ok, IfSome, if◌then◌else◌, refl, sym, ap, subst, ◌∙◌, arith, length-append}
+use Rattle.std.proofs.Common.{◌≡◌, inl, inr, ℕ, ◌+◌, ◌<◌, ◌≤◌, Bool, true, false, List, [], ◌∷◌, ◌++◌, length, Option, None, Ok, if◌then◌else◌, refl, sym, ap, subst, ◌∙◌, arith, length-append}
 use Rattle.std.specs.Prelude.{nat_lt}
 use Rattle.std.proofs.lemmas.Bool.{cases_lt, le-leb, le-ltb, lt-leb, lt-ltb}
 use Rattle.disk_trait.specs.Told.{Told}
@@ -7,8 +7,6 @@ use Rattle.store_layout.specs.declared.limits.TheConstants.{MAX_SESSIONS}
 use Rattle.store_layout.specs.SessionNumbers.{is_past_sessions, session_number, with_session}
 use Rattle.page_locks.specs.LockCounts.{locks_of}
 use Rattle.snapshot_core.specs.StoredVersions.{transaction_of}
-use Rattle.brin_insert.specs.declared.insert.Insert.{Insert}
-use Rattle.brin_insert.specs.Inserts.{IsInsertFor}
 use Rattle.script_semantics.specs.LineTexts.{named}
 use Rattle.session_parts.specs.declared.hand.Hand.{Hand}
 use Rattle.session_parts.specs.declared.parts.Parts.{Parts}
@@ -21,7 +19,9 @@ use Rattle.session_parts.specs.StoreStates.{StoreState, hand_in, shown_of, store
 use Rattle.session_core.specs.SessionLaws.{SessionLaws}
 use Rattle.session_core.specs.declared.sessions.Session.{Session}
 use Rattle.session_core.specs.SessionLists.{names_of}
+use Rattle.session_core.specs.Slots.{IsKeptSlot, empty_slot}
 use Rattle.session_core.specs.Sessions.{HasSession, with_name}
+use Rattle.session_core.specs.declared.slots.Slot.{Slot}
 use Rattle.session_core.specs.StoreKept.{HoldsNothing, IsStoreKept}
 use Rattle.session_core.proofs.Lists.{nothing_more}
 
@@ -46,24 +46,24 @@ module _ {D : Type 0} (told : D → Told) (parts : Parts D) (names more : List (
         laws.promised MAX_SESSIONS 0 parts.journal.promised parts.journal.promised hands now parts.transactions.opens parts.transactions.opens (omega arith) (λ m other. same m) (λ m other. refl)
         (ap (λ (h : Option Hand). parts.journal.promised + share_of h (transaction_of parts.transactions.opens 0)) (sym (same 0))) sum
 
-pub kept_named : {D : Type 0} (told : D → Told) → SessionLaws told → (parts : Parts D) (names : List (List ℕ)) (hands : List (Option Hand)) (spares : List (Option Insert)) (name : List ℕ)
-    → length names < MAX_SESSIONS → IsStoreKept told (store_of parts names hands) spares
-    → IsStoreKept told (store_of parts (names ++ name ∷ []) (hands ++ None ∷ [])) (spares ++ None ∷ [])
-kept_named told laws parts names hands spares name few kept = record {
+pub kept_named : {D : Type 0} (told : D → Told) → SessionLaws told → (parts : Parts D) (names : List (List ℕ)) (hands : List (Option Hand)) (slots : List Slot) (name : List ℕ)
+    → length names < MAX_SESSIONS → IsStoreKept told (store_of parts names hands) slots
+    → IsStoreKept told (store_of parts (names ++ name ∷ []) (hands ++ None ∷ [])) (slots ++ empty_slot ∷ [])
+kept_named told laws parts names hands slots name few kept = record {
   few_sessions = omega (arith, few, length-append names (name ∷ []));
   a_hand_each = length-append hands (None ∷ []) ∙ ap (λ (k : ℕ). k + 1) kept.a_hand_each ∙ sym (length-append names (name ∷ []));
-  a_spare_each = length-append spares (None ∷ []) ∙ ap (λ (k : ℕ). k + 1) kept.a_spare_each ∙ sym (length-append names (name ∷ []));
+  a_slot_each = length-append slots (empty_slot ∷ []) ∙ ap (λ (k : ℕ). k + 1) kept.a_slot_each ∙ sym (length-append names (name ∷ []));
   fits = λ n low. fits_still told parts names (names ++ name ∷ []) hands (hands ++ None ∷ []) same n (kept.fits n low);
   nobody = λ n high. kept_nobody n (omega (arith, high, length-append names (name ∷ [])));
   promised = promised_still told parts names (names ++ name ∷ []) hands (hands ++ None ∷ []) same laws kept.promised;
-  spare = λ n. subst (λ (o : Option Insert). IfSome o (IsInsertFor parts.pages.layout)) (sym (nothing_more spares n)) (kept.spare n);
+  slot = λ n. subst (IsKeptSlot parts.pages.layout) (sym (nothing_more empty_slot slots n)) (kept.slot n);
   shown = λ tells ready.
       let was = kept.shown tells ready in
       (record was.0 { names = names ++ name ∷ [] }, laws.named (shown_of (store_of parts names hands)) was.0 (names ++ name ∷ []) (hands ++ None ∷ []) was.1 same);
 }
   where
     same : (m : ℕ) → hand_in (hands ++ None ∷ []) m ≡ hand_in hands m
-    same m = nothing_more hands m
+    same m = nothing_more None hands m
 
     kept_nobody : (n : ℕ) → length names ≤ n → HoldsNothing (store_of parts (names ++ name ∷ []) (hands ++ None ∷ [])) n
     kept_nobody n high = let was = kept.nobody n high in record { transaction = was.transaction; locks = was.locks; rights = was.rights }
@@ -72,7 +72,7 @@ kept_named told laws parts names hands spares name few kept = record {
 
 same_hands : (there : Bool) (hands : List (Option Hand)) (m : ℕ) → hand_in (if there then hands else hands ++ None ∷ []) m ≡ hand_in hands m
 same_hands true hands m = refl
-same_hands false hands m = nothing_more hands m
+same_hands false hands m = nothing_more None hands m
 
 pub leads_named : {D : Type 0} (told : D → Told) → SessionLaws told → (old new : StoreState D) (name : List ℕ) → new ≡ with_name old name → LeadsOn told old new (λ p q. q ≡ named p name)
 leads_named told laws old new name is = subst (λ (s : StoreState _). LeadsOn told old s (λ p q. q ≡ named p name)) (sym is)

@@ -1,5 +1,5 @@
 -- a store without sessions
-use Rattle.std.proofs.Common.{◌≡◌, ℕ, zero, suc, ◌<◌, List, [], get_or, Option, None, sym, refl, ◌∙◌, arith}
+use Rattle.std.proofs.Common.{◌≡◌, ℕ, zero, suc, ◌<◌, List, [], get_or, Option, None, sym, refl, subst, ◌∙◌, arith}
 use Rattle.std.proofs.lemmas.Option.{none-some}
 use Rattle.disk_trait.specs.Told.{Told}
 use Rattle.store_layout.specs.declared.limits.TheConstants.{MAX_SESSIONS}
@@ -14,14 +14,15 @@ use Rattle.session_parts.specs.ShowsPlace.{ShowsPlace}
 use Rattle.session_parts.specs.Shares.{share_of}
 use Rattle.session_parts.specs.StoreStates.{hand_in, store_of}
 use Rattle.session_starts.specs.OpenedParts.{AreOpened}
+use Rattle.session_core.specs.Slots.{IsKeptSlot, empty_slot}
 use Rattle.session_core.specs.StoreKept.{IsStoreKept}
 
-none_there : {A : Type 0} (n : ℕ) → get_or {A = Option A} [] n None ≡ None
-none_there zero = refl
-none_there (suc n) = refl
+none_there : {A : Type 0} (none : A) (n : ℕ) → get_or {A = A} [] n none ≡ none
+none_there none zero = refl
+none_there none (suc n) = refl
 
 no_share : (opens : List (Option Open)) → ((n : ℕ) → transaction_of opens n ≡ None) → (n : ℕ) → share_of (hand_in [] n) (transaction_of opens n) ≡ 0
-no_share opens idle n = λ i. share_of (none_there n i) (idle n i)
+no_share opens idle n = λ i. share_of (none_there None n i) (idle n i)
 
 no_shares : (count : ℕ) (opens : List (Option Open)) → ((n : ℕ) → transaction_of opens n ≡ None) → shares_below count [] opens ≡ 0
 no_shares zero opens idle = refl
@@ -32,10 +33,10 @@ pub kept_new : {D : Type 0} (told : D → Told) (parts : Parts D) → AreOpened 
 kept_new told parts opened fits shows = record {
   few_sessions = omega arith;
   a_hand_each = refl;
-  a_spare_each = refl;
+  a_slot_each = refl;
   fits = fits;
   nobody = λ n high. record { transaction = opened.idle n; locks = opened.locks n; rights = λ table is. none-some n (sym (opened.free table) ∙ is) };
   promised = opened.promised ∙ sym (no_shares MAX_SESSIONS parts.transactions.opens opened.idle);
-  spare = λ n. tt;
+  slot = λ n. subst (IsKeptSlot parts.pages.layout) (sym (none_there empty_slot n)) (record { machine = tt; elsewhere = tt });
   shown = λ tells ready. shows tells;
 }

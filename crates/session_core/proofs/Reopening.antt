@@ -2,7 +2,6 @@
 use Rattle.std.proofs.Common.{◌≡◌, ℕ, List, Option, None, Some, IfSome, IsSome, Result, Err, refl, sym, subst, arith}
 use Rattle.std.proofs.lemmas.Bool.{false≢true}
 use Rattle.disk_trait.specs.Told.{Told}
-use Rattle.brin_insert.specs.declared.insert.Insert.{Insert}
 use Rattle.page_store.specs.Survives.{Survives}
 use Rattle.page_map.specs.declared.faults.StoreError.{StoreError}
 use Rattle.page_map.specs.declared.faults.StoreError.TheVariants as errors
@@ -23,6 +22,7 @@ use Rattle.session_starts.specs.StopRule.{AllHaveTable, StepStopsWhole, StopsWho
 use Rattle.session_starts.specs.Stops.{StopsSo}
 use Rattle.session_transactions.proofs.Stopping.{passes_no_commit, passes_nothing}
 use Rattle.session_core.specs.Sessions.{TellsJournal}
+use Rattle.session_core.specs.declared.slots.Slot.{Slot}
 use Rattle.session_core.specs.StoreKept.{IsStoreKept}
 use Rattle.session_core.proofs.Lists.{inside}
 
@@ -55,9 +55,9 @@ journal_reopened s hand (errors.Damaged at) fault reopens is = absurd reopens
 journal_reopened s hand (errors.Reopen faults) fault reopens is = subst (λ (f : StoreFault). TellsJournal s hand f) (sym is) (untold_journal s hand faults)
 
 -- a session with a statement in hand is fit for its step
-pub fits_here : {D : Type 0} (told : D → Told) (parts : Parts D) (names : List (List ℕ)) (hands : List (Option Hand)) (spares : List (Option Insert)) (n : ℕ) → IsStoreKept told (store_of parts names hands) spares
+pub fits_here : {D : Type 0} (told : D → Told) (parts : Parts D) (names : List (List ℕ)) (hands : List (Option Hand)) (slots : List Slot) (n : ℕ) → IsStoreKept told (store_of parts names hands) slots
     → IsSome (hand_in hands n) → FitsStore told (store_of parts names hands) n
-fits_here told parts names hands spares n kept some = go (hand_in hands n) refl some
+fits_here told parts names hands slots n kept some = go (hand_in hands n) refl some
   where
     go : (hand : Option Hand) → hand_in hands n ≡ hand → IsSome hand → FitsStore told (store_of parts names hands) n
     go None is some = absurd (false≢true some)

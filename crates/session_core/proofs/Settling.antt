@@ -11,7 +11,7 @@ use Rattle.session_parts.specs.StepIs.{stepped_in}
 use Rattle.session_parts.specs.UndoneLaws.{StepsSo}
 use Rattle.session_inserts.specs.Settling.{SettlesSo}
 
-answer_there : (now : Hand) (answer : Result Step StoreFault) → answer ≡ answer_of (stepped_in now answer)
+pub answer_there : (now : Hand) (answer : Result Step StoreFault) → answer ≡ answer_of (stepped_in now answer)
 answer_there now (Ok (steps.Moved point)) = refl
 answer_there now (Ok (steps.Done reply)) = refl
 answer_there now (Ok (steps.Blocked what by)) = refl

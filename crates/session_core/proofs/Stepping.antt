@@ -4,8 +4,6 @@ use Rattle.std.proofs.lemmas.Bool.{cases_lt}
 use Rattle.std.proofs.lemmas.Option.{none-some}
 use Rattle.disk_trait.specs.Told.{Told}
 use Rattle.page_map.specs.Keeps.{Leaves, Tells}
-use Rattle.brin_insert.specs.declared.insert.Insert.{Insert}
-use Rattle.brin_insert.specs.Inserts.{IsInsertFor}
 use Rattle.script_semantics.specs.Place.{Place}
 use Rattle.store_layout.specs.DiskLayout.{DiskLayout}
 use Rattle.session_parts.specs.declared.faults.Step.{Step}
@@ -22,12 +20,14 @@ use Rattle.session_parts.specs.StoreLaws.{HasHand}
 use Rattle.session_parts.specs.UndoneLaws.{StepsSo}
 use Rattle.session_parts.specs.StoreStates.{StoreState, hand_at, hand_in, store_of, with_hand}
 use Rattle.session_core.specs.SessionLaws.{SessionLaws}
-use Rattle.session_core.specs.SessionLists.{spare_in}
+use Rattle.session_core.specs.SessionLists.{slot_in}
+use Rattle.session_core.specs.Slots.{IsKeptSlot}
 use Rattle.session_core.specs.Sessions.{IsInHandThen, IsSameStatement, LeavesTheRest, NamesASession, StaysStill, TellsJournal, WaitsForAnother}
+use Rattle.session_core.specs.declared.slots.Slot.{Slot}
 use Rattle.session_core.specs.StoreKept.{IsStoreKept}
 use Rattle.session_starts.specs.Stops.{StopsSo}
 use Rattle.session_core.proofs.Kept.{fits_now, nobody_now, promised_now, session_below}
-use Rattle.session_core.proofs.Lists.{spares_set}
+use Rattle.session_core.proofs.Lists.{slots_set}
 
 -- all that a step of the store promises
 pub record IsStepOf {D : Type 0} (told : D → Told) (old new : StoreState D) (n : ℕ) (answer : Result Step StoreFault) : Type 0 where
@@ -73,7 +73,7 @@ module _ {D : Type 0} (told : D → Told) (old new : StoreState D) (n : ℕ) (ha
   stays_still (stepped.Undone (stops.Reopen faults) now) stays = tt
   stays_still (stepped.Undone (stops.Damaged at) now) stays = tt
 
-  stays_the_same : (answer : Stepped) → StaysWhereUndone told old new n hand answer → IsSameStatement (Some hand) (hand_after answer)
+  pub stays_the_same : (answer : Stepped) → StaysWhereUndone told old new n hand answer → IsSameStatement (Some hand) (hand_after answer)
   stays_the_same (stepped.Moved point now) stays = stays
   stays_the_same (stepped.Done reply) stays = tt
   stays_the_same (stepped.Blocked what holder now) stays = stays.1
@@ -125,8 +125,8 @@ module _ {D : Type 0} (told : D → Told) (old new : StoreState D) (n : ℕ) (ha
   journal_is (stepped.Undone (stops.Reopen faults) now) stays = tt
   journal_is (stepped.Undone (stops.Damaged at) now) stays = tt
 
-module _ {D : Type 0} (told : D → Told) (laws : SessionLaws told) (parts : Parts D) (names : List (List ℕ)) (hands : List (Option Hand)) (spares : List (Option Insert))
-    (kept : IsStoreKept told (store_of parts names hands) spares) (new : Parts D) (n : ℕ) (hand : Hand) (is : hand_in hands n ≡ Some hand) (answer : Stepped)
+module _ {D : Type 0} (told : D → Told) (laws : SessionLaws told) (parts : Parts D) (names : List (List ℕ)) (hands : List (Option Hand)) (slots : List Slot)
+    (kept : IsStoreKept told (store_of parts names hands) slots) (new : Parts D) (n : ℕ) (hand : Hand) (is : hand_in hands n ≡ Some hand) (answer : Stepped)
     (so : StepsSo told parts new n hand answer) where
   abbrev now : List (Option Hand)
   now = with_hand hands n (hand_after answer)
@@ -144,7 +144,7 @@ module _ {D : Type 0} (told : D → Told) (laws : SessionLaws told) (parts : Par
   changes = laws.changes hands n hand (hand_after answer) is
 
   there : n < length names
-  there = session_below told laws parts names hands spares kept n hand is
+  there = session_below told laws parts names hands slots kept n hand is
 
   shown_now : Tells told new.pages → new.pages.failed ≡ None → (p : Place) × ShowsPlace after p
   shown_now tells ready =
@@ -164,16 +164,16 @@ module _ {D : Type 0} (told : D → Told) (laws : SessionLaws told) (parts : Par
     ])
   ]
 
-  pub kept_behind : (spare : Option Insert) → IfSome spare (IsInsertFor parts.pages.layout) → IsStoreKept told after (set spares n spare)
-  kept_behind spare fits = record {
+  pub kept_behind : (slot : Slot) → IsKeptSlot parts.pages.layout slot → IsStoreKept told after (set slots n slot)
+  kept_behind slot fits = record {
     few_sessions = kept.few_sessions;
     a_hand_each = length-set hands n (hand_after answer) ∙ kept.a_hand_each;
-    a_spare_each = length-set spares n spare ∙ kept.a_spare_each;
-    fits = fits_now told laws parts names hands spares kept new n now (hand_after answer) there changes (so.fit names hands is) others;
-    nobody = nobody_now told laws parts names hands spares kept new n now (hand_after answer) there changes (so.fit names hands is) others;
-    promised = promised_now told laws parts names hands spares kept new n now (hand_after answer) there changes (so.fit names hands is) others;
-    spare = subst (λ (layout : DiskLayout). (m : ℕ) → IfSome (spare_in (set spares n spare) m) (IsInsertFor layout)) (sym others.leaves.layout)
-        (spares_set (IsInsertFor parts.pages.layout) spares n spare (omega (arith, there, kept.a_spare_each)) kept.spare fits);
+    a_slot_each = length-set slots n slot ∙ kept.a_slot_each;
+    fits = fits_now told laws parts names hands slots kept new n now (hand_after answer) there changes (so.fit names hands is) others;
+    nobody = nobody_now told laws parts names hands slots kept new n now (hand_after answer) there changes (so.fit names hands is) others;
+    promised = promised_now told laws parts names hands slots kept new n now (hand_after answer) there changes (so.fit names hands is) others;
+    slot = subst (λ (layout : DiskLayout). (m : ℕ) → IsKeptSlot layout (slot_in (set slots n slot) m)) (sym others.leaves.layout)
+        (slots_set (IsKeptSlot parts.pages.layout) slots n slot (omega (arith, there, kept.a_slot_each)) kept.slot fits);
     shown = shown_now;
   }
 

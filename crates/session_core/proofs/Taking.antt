@@ -1,5 +1,5 @@
 -- a store in which a session's statement is taken, or isn't
-use Rattle.std.proofs.Common.{◌≡◌, ℕ, ◌+◌, ◌<◌, ◌≤◌, true, false, Bool, List, length, Option, None, Some, IsSome, MatchOption, if◌then◌else◌, refl, sym, ap, subst, ◌∙◌, arith, length-set}
+use Rattle.std.proofs.Common.{◌≡◌, ℕ, ◌+◌, ◌<◌, ◌≤◌, true, false, Bool, List, length, Option, None, Some, IsSome, MatchOption, if◌then◌else◌, refl, sym, ap, subst, ◌∙◌, arith, length-set, set}
 use Rattle.std.proofs.lemmas.Option.{none-some}
 use Rattle.block_model.specs.declared.reply.Refusal.{Refusal}
 use Rattle.block_model.specs.declared.reply.Refusal.TheVariants as refusals
@@ -9,6 +9,8 @@ use Rattle.disk_trait.specs.Told.{Told}
 use Rattle.store_layout.specs.declared.limits.TheConstants.{MAX_ENTRIES}
 use Rattle.store_layout.specs.declared.statement.Statement.{Statement}
 use Rattle.store_layout.specs.declared.statement.Statement.TheVariants as statements
+use Rattle.store_layout.specs.StatementFits.{IsStatementFor}
+use Rattle.block_model.specs.declared.value.Value.{Value}
 use Rattle.store_layout.specs.StatementRequests.{refusal_at, submission_refusal}
 use Rattle.store_layout.specs.DiskLayout.{DiskLayout}
 use Rattle.snapshot_core.specs.declared.sessions.Open.{Open}
@@ -18,11 +20,11 @@ use Rattle.snapshot_core.specs.StoredVersions.{transaction_of}
 use Rattle.snapshot_core.specs.VersionsState.{standing_of}
 use Rattle.transactions.specs.Sessions.{open_standing}
 use Rattle.coverage.specs.Accounts.{Account}
-use Rattle.brin_insert.specs.declared.insert.Insert.{Insert}
 use Rattle.script_semantics.specs.LineTexts.{NotTaken, Submits, Taken, WantsMemory, block_refusal, in_hand_refusal, may_want_memory, or_else, submit_refusal, with_statement}
 use Rattle.script_semantics.specs.Place.{Hand as HandAt, Place, database_at}
 use Rattle.reply_texts.specs.declared.dropped.Dropped.{Dropped}
 use Rattle.session_parts.specs.declared.hand.Hand.{Hand}
+use Rattle.session_parts.specs.declared.hand.Hand.TheVariants as hands
 use Rattle.session_parts.specs.declared.parts.Parts.{Parts}
 use Rattle.session_parts.specs.HandFits.{FitsHand, FitsStore, IsHandFor, IsUnderWay, locks_held, right_held}
 use Rattle.session_parts.specs.Hands.{HandShows, statement_of}
@@ -35,10 +37,13 @@ use Rattle.session_parts.specs.StoreLaws.{HasHand}
 use Rattle.session_parts.specs.StoreStates.{StoreState, hand_at, hand_in, shown_of, store_of, with_hand}
 use Rattle.session_parts.specs.SubmitLaws.{ForgetsDropped, HasNotBegun}
 use Rattle.session_core.specs.SessionLaws.{SessionLaws}
+use Rattle.session_core.specs.declared.slots.Slot.{Slot}
+use Rattle.session_core.specs.Slots.{IsKeptSlot}
 use Rattle.session_core.specs.StoreKept.{IsStoreKept}
 use Rattle.session_core.specs.Submitting.{Allows, IsTakenUp, TakesHand, begin_refusal, end_refusal, refusal_here, request_refusal, standing_refusal}
+use Rattle.session_core.proofs.Declared.{insert_below, insert_kinds}
 use Rattle.session_core.proofs.Kept.{fits_now, nobody_now, promised_now}
-use Rattle.session_core.proofs.Lists.{has_hand_set}
+use Rattle.session_core.proofs.Lists.{has_hand_set, slots_set}
 
 -- ---- why a statement isn't taken
 
@@ -166,12 +171,24 @@ judged_short s n statement none wants =
 
 -- ---- one that is taken
 
+-- an insert, whose values are kept
+pub put_taken : {D : Type 0} (parts : Parts D) (table : ℕ) (values : List Value) → IsStatementFor parts.pages.layout.schema (statements.Insert table values) → TakesHand parts parts (statements.Insert table values) (hands.Puts table values)
+put_taken parts table values for = record {
+  statement_is = refl;
+  fresh = tt;
+  fit = λ own allows. (allows, insert_below parts.pages.layout.schema table values for, insert_kinds parts.pages.layout table values for);
+  entries = refl;
+  promised = omega arith;
+  rest = refl;
+}
+
 -- the parts of the store then, in which what the session asked for in vain is forgotten
 abbrev pub forgetting : {D : Type 0} → Parts D → List (List Dropped) → Parts D
 forgetting new dropped = record new { dropped = dropped }
 
-module _ {D : Type 0} (told : D → Told) (laws : SessionLaws told) (parts : Parts D) (names : List (List ℕ)) (hands : List (Option Hand)) (spares : List (Option Insert))
-    (kept : IsStoreKept told (store_of parts names hands) spares) (n : ℕ) (statement : Statement) (there : n < length names) (none : refusal_here (store_of parts names hands) n statement ≡ None) (hand : Hand) where
+module _ {D : Type 0} (told : D → Told) (laws : SessionLaws told) (parts : Parts D) (names : List (List ℕ)) (hands : List (Option Hand)) (slots : List Slot)
+    (kept : IsStoreKept told (store_of parts names hands) slots) (n : ℕ) (statement : Statement) (there : n < length names) (none : refusal_here (store_of parts names hands) n statement ≡ None) (hand : Hand)
+    (slot : Slot) (fine : IsKeptSlot parts.pages.layout slot) where
   abbrev before : StoreState D
   before = store_of parts names hands
 
@@ -231,15 +248,15 @@ module _ {D : Type 0} (told : D → Told) (laws : SessionLaws told) (parts : Par
         (subst (λ (es : List Entry). IsPlaceOf (record (shown_of before) { entries = es; dropped = dropped; hands = now }) (with_statement p n (statement_of hand))) (sym entries)
         (laws.submitted (shown_of before) p n now dropped hand shows free changes forgets fresh))
 
-    kept_taken : IsStoreKept told after spares
+    kept_taken : IsStoreKept told after (set slots n slot)
     kept_taken = record {
       few_sessions = kept.few_sessions;
       a_hand_each = length-set hands n (Some hand) ∙ kept.a_hand_each;
-      a_spare_each = kept.a_spare_each;
-      fits = fits_now told laws parts names hands spares kept new n now (Some hand) there changes fit_now others;
-      nobody = nobody_now told laws parts names hands spares kept new n now (Some hand) there changes fit_now others;
-      promised = promised_now told laws parts names hands spares kept new n now (Some hand) there changes fit_now others;
-      spare = kept.spare;
+      a_slot_each = length-set slots n slot ∙ kept.a_slot_each;
+      fits = fits_now told laws parts names hands slots kept new n now (Some hand) there changes fit_now others;
+      nobody = nobody_now told laws parts names hands slots kept new n now (Some hand) there changes fit_now others;
+      promised = promised_now told laws parts names hands slots kept new n now (Some hand) there changes fit_now others;
+      slot = slots_set (IsKeptSlot parts.pages.layout) slots n slot (omega (arith, there, kept.a_slot_each)) kept.slot fine;
       shown = λ tells ready. let was = kept.shown tells ready in (with_statement was.0 n statement, shown_there was.0 was.1);
     }
 
@@ -248,7 +265,7 @@ module _ {D : Type 0} (told : D → Told) (laws : SessionLaws told) (parts : Par
 
   -- all that the store promises then
   pub record IsTaken (new : Parts D) : Type 0 where
-    pub kept_now : IsStoreKept told (store_of new names now) spares
+    pub kept_now : IsStoreKept told (store_of new names now) (set slots n slot)
     pub leads : LeadsOn told before (store_of new names now) (λ p q. Submits p n statement None q)
     pub up : IsTakenUp before (store_of new names now) n statement
 

@@ -1,3 +1,4 @@
+pub mod Slots
 pub mod SessionLists
 pub mod StoreCode
 pub mod StoreKept

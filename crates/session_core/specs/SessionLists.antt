@@ -1,8 +1,9 @@
 -- sessions by their numbers
-use Rattle.std.specs.Prelude.{ℕ, List, map, slice_index_or, Option, None}
-use Rattle.brin_insert.specs.declared.insert.Insert.{Insert}
+use Rattle.std.specs.Prelude.{ℕ, List, map, slice_index_or, Option}
 use Rattle.session_parts.specs.declared.hand.Hand.{Hand}
 use Rattle.session_core.specs.declared.sessions.Session.{Session}
+use Rattle.session_core.specs.declared.slots.Slot.{Slot}
+use Rattle.session_core.specs.Slots.{empty_slot, hand_of}
 
 -- the sessions' names
 abbrev pub names_of : List Session → List (List ℕ)
@@ -10,12 +11,12 @@ names_of sessions = map (λ (s : Session). s.name) sessions
 
 -- what each has in hand
 abbrev pub hands_of : List Session → List (Option Hand)
-hands_of sessions = map (λ (s : Session). s.hand) sessions
+hands_of sessions = map (λ (s : Session). hand_of s.slot) sessions
 
--- the machine of each one's last insert
-abbrev pub spares_of : List Session → List (Option Insert)
-spares_of sessions = map (λ (s : Session). s.spare) sessions
+-- and where
+abbrev pub slots_of : List Session → List Slot
+slots_of sessions = map (λ (s : Session). s.slot) sessions
 
 -- that of session n
-abbrev pub spare_in : List (Option Insert) → ℕ → Option Insert
-spare_in spares n = slice_index_or spares n None
+abbrev pub slot_in : List Slot → ℕ → Slot
+slot_in slots n = slice_index_or slots n empty_slot

@@ -8,6 +8,7 @@
 mod faults;
 mod laws;
 mod sessions;
+mod slots;
 mod steps;
 mod store;
 mod submitting;

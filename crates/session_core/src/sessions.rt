@@ -1,22 +1,22 @@
 //! Sessions, in the order in which they were made.
 
-ghost use Rattle.std.specs.Prelude.{◌≡◌, ◌<◌, ◌≤◌, [], ◌∷◌, ◌++◌, None, Some, IfSome, IsSome, OnOk, OnErr, length, slice_set};
+ghost use Rattle.std.specs.Prelude.{◌≡◌, ◌<◌, ◌≤◌, [], ◌∷◌, ◌++◌, None, Some, IfSome, IsSome, OnOk, OnErr, length};
 ghost use Rattle.std.specs.Option.{is_some};
 ghost use Rattle.store_layout.specs.SessionNumbers.{session_number};
 ghost use Rattle.session_parts.specs.StoreStates.{hand_in};
 ghost use Rattle.session_core.specs.Ending.{GoesWithin};
-ghost use Rattle.session_core.specs.SessionLists.{hands_of, names_of, spares_of};
+ghost use Rattle.session_core.specs.SessionLists.{hands_of, names_of, slots_of};
+ghost use Rattle.session_core.specs.Slots.{empty_slot};
 
+use crate::slots::{Slot, empty, is_held, known_in};
 use block_model::{Name, NoMemory};
-use brin_insert::Insert;
 use session_parts::Hand;
 
-/// A session: the statement that it has in hand, and the machine of its last insert, for the next row of that table.
+/// A session, and what it has in hand.
 #[derive(Drop)]
 pub struct Session {
     pub name: Name,
-    pub hand: Option<Hand>,
-    pub spare: Option<Insert>,
+    pub slot: Slot,
 }
 
 /// The number of the session of that name, or the next number where it is new.
@@ -36,14 +36,11 @@ pub(crate) fn number_of(sessions: &[Session], name: &Name) -> usize
 pub(crate) fn add_session(sessions: &mut Vec<Session>, name: Name) -> Result<(), NoMemory>
     ensures names { OnOk result (names_of sessions.new.items ≡ names_of sessions.old.items ++ name ∷ []) }
     ensures hands { OnOk result (hands_of sessions.new.items ≡ hands_of sessions.old.items ++ None ∷ []) }
-    ensures spares { OnOk result (spares_of sessions.new.items ≡ spares_of sessions.old.items ++ None ∷ []) }
+    ensures slots { OnOk result (slots_of sessions.new.items ≡ slots_of sessions.old.items ++ empty_slot ∷ []) }
     ensures err { OnErr result (sessions.new.items ≡ sessions.old.items) }
 {
-    sessions.push(Session {
-        name,
-        hand: None,
-        spare: None,
-    })?;
+    let slot = empty();
+    sessions.push(Session { name, slot })?;
     Ok(())
 }
 
@@ -52,7 +49,7 @@ pub(crate) fn has_hand(sessions: &[Session], session: u32) -> bool
     requires { session < length sessions.now }
     ensures { result ≡ is_some (hand_in (hands_of sessions.now) session) }
 {
-    sessions[session as usize].hand.is_some()
+    is_held(&sessions[session as usize].slot)
 }
 
 /// Does nothing; tells its caller how far the statement goes that the session has in hand.
@@ -60,21 +57,7 @@ pub(crate) fn known_hand(sessions: &[Session], session: u32)
     requires { session < length sessions.now }
     ensures { IfSome (hand_in (hands_of sessions.now) session) GoesWithin }
 {
-    if let Some(hand) = &sessions[session as usize].hand {
-        known_statement(hand);
-    }
-}
-
-/// Does nothing; tells its caller how far the statement goes.
-fn known_statement(hand: &Hand)
-    ensures { GoesWithin hand.now }
-{
-    match hand {
-        Hand::Selects(scan) => scan.known(),
-        Hand::Deletes(scan) => scan.known(),
-        Hand::Explains(explain) => explain.known(),
-        _ => {}
-    }
+    known_in(&sessions[session as usize].slot);
 }
 
 /// Takes the statement out of a hand that has one.
@@ -87,14 +70,4 @@ pub(crate) fn taken(hand: &mut Option<Hand>) -> Hand
         unreachable!()
     };
     statement
-}
-
-/// The session has that in hand.
-pub(crate) fn put_hand(sessions: &mut Vec<Session>, session: u32, hand: Option<Hand>)
-    requires { session < length sessions.old.items }
-    ensures hands { hands_of sessions.new.items ≡ slice_set (hands_of sessions.old.items) session hand }
-    ensures names { names_of sessions.new.items ≡ names_of sessions.old.items }
-    ensures spares { spares_of sessions.new.items ≡ spares_of sessions.old.items }
-{
-    sessions[session as usize].hand = hand;
 }

@@ -2,17 +2,18 @@
 
 ghost use Rattle.std.specs.Prelude.{◌≡◌, ◌+◌, ◌≤◌, None, Some, IfSome, IsSome};
 ghost use Rattle.page_locks.specs.LockHolders.{count_of};
-ghost use Rattle.brin_insert.specs.Inserts.{IsInsertFor};
 ghost use Rattle.session_parts.specs.declared.limits.TheConstants.{LOCKS_A_SESSION, MAX_LOCKS};
 ghost use Rattle.session_parts.specs.StepIs.{answer_of, hand_after, stepped_in};
 ghost use Rattle.session_parts.specs.Stepping.{IsFit, IsShown};
 ghost use Rattle.session_parts.specs.UndoneLaws.{StepsSo};
 ghost use Rattle.session_inserts.specs.Settling.{SettlesSo};
-ghost use Rattle.session_core.specs.SteppedWhere.{HasMachineFor, IsInsert, IsPut, IsSteppedThere, IsTakenOut, machine_in, spare_after};
+ghost use Rattle.session_core.specs.Slots.{IsElsewhere, IsKeptSlot, hand_of};
+ghost use Rattle.session_inserts.specs.SparePut.{insert_of};
+ghost use Rattle.session_core.specs.SteppedWhere.{IsSteppedThere, IsTakenOut};
 ghost use Rattle.session_starts.specs.Stops.{StopsSo};
 
 use crate::sessions::taken;
-use brin_insert::Insert;
+use crate::slots::{Held, Slot, held_after};
 use disk_trait::Disk;
 use session_inserts::{insert_on, put_row};
 use session_maintenance::{
@@ -22,26 +23,95 @@ use session_parts::{Hand, Parts, Step, Stepped, StoreFault};
 use session_scans::{begin_delete, begin_select, delete_on, select_on};
 use session_transactions::{begin, commit, mark, roll_back};
 
-/// Makes the next step of the statement in hand; what is left of it stays there. The session's spare machine serves the next row of its table.
+/// Makes the next step of the statement in hand; what is left of it stays there.
+#[tactic(none)]
 pub(crate) fn step_of<D: Disk + Drop>(
     parts: &mut Parts<D>,
     session: u32,
+    slot: &mut Slot,
+) -> Result<Step, StoreFault>
+    requires hand { IsSome (hand_of slot.old) }
+    requires fit { IfSome (hand_of slot.old) (λ was. IsFit D.told parts.old session was) }
+    requires few { count_of parts.old.locks + LOCKS_A_SESSION ≤ MAX_LOCKS }
+    requires shown { IfSome (hand_of slot.old) (λ was. IsShown D.told parts.old session was) }
+    requires slot { IsKeptSlot parts.old.pages.layout slot.old }
+    ensures so { IfSome (hand_of slot.old) (λ was. SettlesSo D.told parts.old parts.new session was (hand_of slot.new) result) }
+    ensures survives { IfSome (hand_of slot.old) (λ was. StopsSo D.told parts.old.transactions session parts.old.pages parts.new.pages was result) }
+    ensures slot { IsKeptSlot parts.old.pages.layout slot.new }
+{
+    match slot.held {
+        Held::Nothing => unreachable!(),
+        Held::Put => put(parts, session, slot),
+        Held::Insert => insert_in(parts, session, slot),
+        Held::Other => other_in(parts, session, &mut slot.other),
+    }
+}
+
+/// The first step of an insert.
+#[tactic(none)]
+fn put<D: Disk + Drop>(
+    parts: &mut Parts<D>,
+    session: u32,
+    slot: &mut Slot,
+) -> Result<Step, StoreFault>
+    requires held { slot.old.held ≡ Held.Put }
+    requires fit { IsFit D.told parts.old session (Hand.Puts slot.old.put.table slot.old.put.values) }
+    requires few { count_of parts.old.locks + LOCKS_A_SESSION ≤ MAX_LOCKS }
+    requires shown { IsShown D.told parts.old session (Hand.Puts slot.old.put.table slot.old.put.values) }
+    requires slot { IsKeptSlot parts.old.pages.layout slot.old }
+    ensures so { SettlesSo D.told parts.old parts.new session (Hand.Puts slot.old.put.table slot.old.put.values) (hand_of slot.new) result }
+    ensures survives { StopsSo D.told parts.old.transactions session parts.old.pages parts.new.pages (Hand.Puts slot.old.put.table slot.old.put.values) result }
+    ensures slot { IsKeptSlot parts.old.pages.layout slot.new }
+{
+    let put = &slot.put;
+    let answer = put_row(parts, session, put.table, &put.values, &mut slot.machine);
+    slot.held = held_after(Held::Put, &answer);
+    answer
+}
+
+/// A later step of an insert.
+#[tactic(none)]
+fn insert_in<D: Disk + Drop>(
+    parts: &mut Parts<D>,
+    session: u32,
+    slot: &mut Slot,
+) -> Result<Step, StoreFault>
+    requires held { slot.old.held ≡ Held.Insert }
+    requires hand { IsSome (insert_of slot.old.machine) }
+    requires fit { IfSome (insert_of slot.old.machine) (λ was. IsFit D.told parts.old session was) }
+    requires few { count_of parts.old.locks + LOCKS_A_SESSION ≤ MAX_LOCKS }
+    requires shown { IfSome (insert_of slot.old.machine) (λ was. IsShown D.told parts.old session was) }
+    requires slot { IsKeptSlot parts.old.pages.layout slot.old }
+    ensures so { IfSome (insert_of slot.old.machine) (λ was. SettlesSo D.told parts.old parts.new session was (hand_of slot.new) result) }
+    ensures survives { IfSome (insert_of slot.old.machine) (λ was. StopsSo D.told parts.old.transactions session parts.old.pages parts.new.pages was result) }
+    ensures slot { IsKeptSlot parts.old.pages.layout slot.new }
+{
+    let Some(insert) = &mut slot.machine else {
+        unreachable!()
+    };
+    let answer = insert_on(parts, session, insert);
+    slot.held = held_after(Held::Insert, &answer);
+    answer
+}
+
+/// The next step of a statement that is no insert.
+fn other_in<D: Disk + Drop>(
+    parts: &mut Parts<D>,
+    session: u32,
     hand: &mut Option<Hand>,
-    spare: &mut Option<Insert>,
 ) -> Result<Step, StoreFault>
     requires hand { IsSome hand.old }
+    requires elsewhere { IfSome hand.old IsElsewhere }
     requires fit { IfSome hand.old (λ was. IsFit D.told parts.old session was) }
     requires few { count_of parts.old.locks + LOCKS_A_SESSION ≤ MAX_LOCKS }
     requires shown { IfSome hand.old (λ was. IsShown D.told parts.old session was) }
-    requires spare { IfSome spare.old (IsInsertFor parts.old.pages.layout) }
     ensures so { IfSome hand.old (λ was. SettlesSo D.told parts.old parts.new session was hand.new result) }
     ensures survives { IfSome hand.old (λ was. StopsSo D.told parts.old.transactions session parts.old.pages parts.new.pages was result) }
-    ensures spare { IfSome spare.new (IsInsertFor parts.old.pages.layout) }
 {
     let Some(own) = hand else { unreachable!() };
     match own {
-        Hand::Puts { .. } => put(parts, session, hand, spare),
-        Hand::Inserts(_) => insert_in(parts, session, hand, spare),
+        Hand::Puts { .. } => unreachable!(),
+        Hand::Inserts(_) => unreachable!(),
         Hand::Begins(_)
         | Hand::Commits
         | Hand::RollsBack
@@ -50,104 +120,6 @@ pub(crate) fn step_of<D: Disk + Drop>(
         | Hand::Working => once(parts, session, hand),
         _ => step_in(parts, session, hand),
     }
-}
-
-/// The first step of an insert, which takes its table and values out of the hand.
-fn put<D: Disk + Drop>(
-    parts: &mut Parts<D>,
-    session: u32,
-    hand: &mut Option<Hand>,
-    spare: &mut Option<Insert>,
-) -> Result<Step, StoreFault>
-    requires hand { IsSome hand.old }
-    requires put { IfSome hand.old IsPut }
-    requires fit { IfSome hand.old (λ was. IsFit D.told parts.old session was) }
-    requires few { count_of parts.old.locks + LOCKS_A_SESSION ≤ MAX_LOCKS }
-    requires shown { IfSome hand.old (λ was. IsShown D.told parts.old session was) }
-    requires spare { IfSome spare.old (IsInsertFor parts.old.pages.layout) }
-    ensures so { IfSome hand.old (λ was. SettlesSo D.told parts.old parts.new session was hand.new result) }
-    ensures survives { IfSome hand.old (λ was. StopsSo D.told parts.old.transactions session parts.old.pages parts.new.pages was result) }
-    ensures spare { IfSome spare.new (IsInsertFor parts.old.pages.layout) }
-{
-    let Hand::Puts { table, values } = taken(hand) else {
-        unreachable!()
-    };
-    put_row(parts, session, table, values, hand, spare)
-}
-
-/// A later step of an insert, whose machine becomes the spare one with the last.
-fn insert_in<D: Disk + Drop>(
-    parts: &mut Parts<D>,
-    session: u32,
-    hand: &mut Option<Hand>,
-    spare: &mut Option<Insert>,
-) -> Result<Step, StoreFault>
-    requires hand { IsSome hand.old }
-    requires insert { IfSome hand.old IsInsert }
-    requires fit { IfSome hand.old (λ was. IsFit D.told parts.old session was) }
-    requires few { count_of parts.old.locks + LOCKS_A_SESSION ≤ MAX_LOCKS }
-    requires shown { IfSome hand.old (λ was. IsShown D.told parts.old session was) }
-    requires spare { IfSome spare.old (IsInsertFor parts.old.pages.layout) }
-    ensures so { IfSome hand.old (λ was. SettlesSo D.told parts.old parts.new session was hand.new result) }
-    ensures survives { IfSome hand.old (λ was. StopsSo D.told parts.old.transactions session parts.old.pages parts.new.pages was result) }
-    ensures spare { IfSome spare.new (IsInsertFor parts.old.pages.layout) }
-{
-    let Some(own) = hand else { unreachable!() };
-    let answer = insert_there(parts, session, own);
-    spare_when_done(&answer, hand, spare);
-    answer
-}
-
-/// A later step of an insert, where it stands.
-fn insert_there<D: Disk + Drop>(
-    parts: &mut Parts<D>,
-    session: u32,
-    hand: &mut Hand,
-) -> Result<Step, StoreFault>
-    requires insert { IsInsert hand.old }
-    requires fit { IsFit D.told parts.old session hand.old }
-    requires few { count_of parts.old.locks + LOCKS_A_SESSION ≤ MAX_LOCKS }
-    requires shown { IsShown D.told parts.old session hand.old }
-    ensures so { StepsSo D.told parts.old parts.new session hand.old (stepped_in hand.new result) }
-    ensures survives { StopsSo D.told parts.old.transactions session parts.old.pages parts.new.pages hand.old result }
-    ensures machine { HasMachineFor parts.old.pages.layout hand.new }
-{
-    match hand {
-        Hand::Inserts(insert) => insert_on(parts, session, insert),
-        _ => unreachable!(),
-    }
-}
-
-/// The machine of an insert that is done becomes the spare one.
-fn spare_when_done(
-    answer: &Result<Step, StoreFault>,
-    hand: &mut Option<Hand>,
-    spare: &mut Option<Insert>,
-)
-    requires hand { IsSome hand.old }
-    requires insert { IfSome hand.old IsInsert }
-    ensures left { IfSome hand.old (λ now. hand.new ≡ hand_after (stepped_in now answer.now)) }
-    ensures spare { IfSome hand.old (λ now. spare.new ≡ spare_after now answer.now spare.old) }
-{
-    match answer {
-        Ok(Step::Done(_)) => put_by(hand, spare),
-        Ok(Step::Moved(_)) => {}
-        Ok(Step::Blocked { .. }) => {}
-        Err(_) => {}
-    }
-}
-
-/// The insert's machine is spare, and nothing is in hand.
-fn put_by(hand: &mut Option<Hand>, spare: &mut Option<Insert>)
-    requires hand { IsSome hand.old }
-    requires insert { IfSome hand.old IsInsert }
-    ensures left { hand.new ≡ None }
-    ensures spare { IfSome hand.old (λ now. spare.new ≡ machine_in now) }
-{
-    let Hand::Inserts(insert) = taken(hand) else {
-        unreachable!()
-    };
-    drop(spare.replace(insert));
 }
 
 /// The step of a statement that is taken out of the hand for it; what comes back is in hand again.

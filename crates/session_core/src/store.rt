@@ -25,9 +25,9 @@ ghost use Rattle.session_core.specs.Submitting.{IsJudged, IsTakenUp, refusal_her
 
 use crate::faults::SessionFault;
 use crate::laws::laws_of_sessions;
-use crate::sessions::{Session, add_session, has_hand, known_hand, number_of, put_hand};
+use crate::sessions::{Session, add_session, has_hand, known_hand, number_of};
 use crate::steps::step_of;
-use crate::submitting::{block_refusal, hand_for, standing_refusal};
+use crate::submitting::{block_refusal, standing_refusal, take_up};
 use block_model::{Name, Refusal};
 use disk_trait::Disk;
 use heap_rows::blocks;
@@ -50,7 +50,7 @@ pub struct Store<D: Disk + Drop> {
 
 impl<D: Disk + Drop> Model for Store<D> {
     ghost use Rattle.session_parts.specs.StoreStates.{StoreState, store_of};
-    ghost use Rattle.session_core.specs.SessionLists.{hands_of, names_of, spares_of};
+    ghost use Rattle.session_core.specs.SessionLists.{hands_of, names_of, slots_of};
     ghost use Rattle.session_core.specs.StoreCode.{coded_store};
     ghost use Rattle.session_core.specs.StoreKept.{IsStoreKept};
 
@@ -60,7 +60,7 @@ impl<D: Disk + Drop> Model for Store<D> {
 
     ghost view = { λ a. store_of a.parts (names_of a.sessions.items) (hands_of a.sessions.items) };
 
-    ghost invariant = { λ a. IsStoreKept D.told (store_of a.parts (names_of a.sessions.items) (hands_of a.sessions.items)) (spares_of a.sessions.items) };
+    ghost invariant = { λ a. IsStoreKept D.told (store_of a.parts (names_of a.sessions.items) (hands_of a.sessions.items)) (slots_of a.sessions.items) };
 }
 
 impl<D: Disk + Drop> Store<D> {
@@ -159,11 +159,11 @@ impl<D: Disk + Drop> Store<D> {
         if let Some(refusal) = self.refusal(session, &statement) {
             return Err(refusal);
         }
-        let Ok(hand) = hand_for(&mut self.parts, statement) else {
+        let own = &mut self.sessions[session as usize];
+        let Ok(()) = take_up(&mut self.parts, &mut own.slot, statement) else {
             return Err(Refusal::Memory);
         };
         self.parts.dropped.clear(session);
-        put_hand(&mut self.sessions, session, Some(hand));
         Ok(())
     }
 
@@ -220,7 +220,7 @@ impl<D: Disk + Drop> Store<D> {
         few_locks_are_held(&self.parts.locks);
         let own = &mut self.sessions[session as usize];
         let parts = &mut self.parts;
-        step_of(parts, session, &mut own.hand, &mut own.spare)
+        step_of(parts, session, &mut own.slot)
     }
 
     /// Whether the session has a statement in hand.

@@ -1,13 +1,15 @@
 //! Which statements are taken, and what they are in hand then.
 
-ghost use Rattle.std.specs.Prelude.{◌≡◌, ◌+◌, ◌<◌, length, true, None, Some, IfOk, OnErr, if◌then◌else◌, nat_le};
+ghost use Rattle.std.specs.Prelude.{◌≡◌, ◌+◌, ◌<◌, length, true, None, Some, IfOk, IsSomeAnd, OnErr, OnOk, if◌then◌else◌, nat_le};
 ghost use Rattle.block_model.specs.declared.reply.Refusal.TheVariants as refusals;
 ghost use Rattle.script_semantics.specs.LineTexts.{block_refusal, may_want_memory};
 ghost use Rattle.store_layout.specs.StatementFits.{IsQueryFor, IsStatementFor};
+ghost use Rattle.session_core.specs.Slots.{IsKeptSlot, IsNoInsert, hand_of};
 ghost use Rattle.session_core.specs.Submitting.{TakesHand, begin_refusal, end_refusal, request_refusal, standing_refusal};
 
+use crate::slots::{Slot, hold_other, hold_put};
 use crate::vacuuming::vacuum_hand;
-use block_model::{NoMemory, Query, Refusal, Values};
+use block_model::{NoMemory, Query, Refusal};
 use disk_trait::Disk;
 use session_parts::{ENTRIES_A_BEGIN, Explain, Hand, Parts};
 use snapshot_core::Standing;
@@ -83,13 +85,55 @@ fn request_refusal(standing: Standing) -> Option<Refusal>
     }
 }
 
-/// The statement in hand, before its first step. A begin, an explain and maintenance take their memory here, but for work, which doesn't know its
-/// range yet. After a refusal nothing is changed.
-pub(crate) fn hand_for<D: Disk + Drop>(
+/// The statement is in hand, before its first step. A begin, an explain and maintenance take their memory here, but for work, which doesn't
+/// know its range yet. After a refusal nothing is changed.
+pub(crate) fn take_up<D: Disk + Drop>(
     parts: &mut Parts<D>,
+    slot: &mut Slot,
     statement: Statement,
-) -> Result<Hand, NoMemory>
-    requires { IsStatementFor parts.old.pages.layout.schema statement }
+) -> Result<(), NoMemory>
+    requires statement { IsStatementFor parts.old.pages.layout.schema statement }
+    requires slot { IsKeptSlot parts.old.pages.layout slot.old }
+    ensures taken { OnOk result (IsSomeAnd (hand_of slot.new) (TakesHand parts.old parts.new statement)) }
+    ensures slot { IsKeptSlot parts.old.pages.layout slot.new }
+    ensures wants { OnErr result (may_want_memory statement ≡ true) }
+    ensures same { OnErr result (parts.new ≡ parts.old) }
+    ensures same_slot { OnErr result (slot.new ≡ slot.old) }
+{
+    match statement {
+        Statement::Insert { table, values } => {
+            hold_put(slot, table, values);
+            Ok(())
+        }
+        other => take_other(parts, slot, other),
+    }
+}
+
+/// A statement that is no insert is in hand.
+#[inline(never)]
+fn take_other<D: Disk + Drop>(
+    parts: &mut Parts<D>,
+    slot: &mut Slot,
+    statement: Statement,
+) -> Result<(), NoMemory>
+    requires statement { IsStatementFor parts.old.pages.layout.schema statement }
+    requires other { IsNoInsert statement }
+    requires slot { IsKeptSlot parts.old.pages.layout slot.old }
+    ensures taken { OnOk result (IsSomeAnd (hand_of slot.new) (TakesHand parts.old parts.new statement)) }
+    ensures slot { IsKeptSlot parts.old.pages.layout slot.new }
+    ensures wants { OnErr result (may_want_memory statement ≡ true) }
+    ensures same { OnErr result (parts.new ≡ parts.old) }
+    ensures same_slot { OnErr result (slot.new ≡ slot.old) }
+{
+    let hand = hand_for(parts, statement)?;
+    hold_other(slot, hand);
+    Ok(())
+}
+
+/// A statement in hand that is no insert.
+fn hand_for<D: Disk + Drop>(parts: &mut Parts<D>, statement: Statement) -> Result<Hand, NoMemory>
+    requires statement { IsStatementFor parts.old.pages.layout.schema statement }
+    requires other { IsNoInsert statement }
     ensures taken { IfOk result (TakesHand parts.old parts.new statement) }
     ensures wants { OnErr result (may_want_memory statement ≡ true) }
     ensures same { OnErr result (parts.new ≡ parts.old) }
@@ -98,7 +142,7 @@ pub(crate) fn hand_for<D: Disk + Drop>(
         Statement::Begin => begin_hand(parts),
         Statement::Commit => Ok(Hand::Commits),
         Statement::Rollback => Ok(Hand::RollsBack),
-        Statement::Insert { table, values } => Ok(insert_hand(parts, table, values)),
+        Statement::Insert { .. } => unreachable!(),
         Statement::Select(query) => Ok(Hand::Selecting(query)),
         Statement::Delete(query) => Ok(Hand::Deleting(query)),
         Statement::Explain(query) => explain_hand(parts, query),
@@ -116,13 +160,6 @@ fn begin_hand<D: Disk + Drop>(parts: &mut Parts<D>) -> Result<Hand, NoMemory>
     let numbers = Vec::with_capacity(parts.alloc, MAX_SESSIONS)?;
     parts.journal.promise(ENTRIES_A_BEGIN)?;
     Ok(Hand::Begins(numbers))
-}
-
-fn insert_hand<D: Disk + Drop>(parts: &Parts<D>, table: u8, values: Values) -> Hand
-    requires { IsStatementFor parts.now.pages.layout.schema (Statement.Insert table values) }
-    ensures { TakesHand parts.now parts.now (Statement.Insert table values) result }
-{
-    Hand::Puts { table, values }
 }
 
 fn explain_hand<D: Disk + Drop>(parts: &Parts<D>, query: Query) -> Result<Hand, NoMemory>

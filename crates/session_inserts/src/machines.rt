@@ -15,29 +15,29 @@ use session_parts::Parts;
 use std::alloc::Global;
 use store_layout::Layout;
 
-/// The spare machine becomes that of the session's next row, which it puts into the table, with one entry of the journal promised to it.
+/// The machine becomes that of the session's next row, which it puts into the table, with one entry of the journal promised to it.
 /// `Err` is want of memory, and leaves the parts as they were.
 pub(crate) fn machine_for<D: Disk + Drop>(
     parts: &mut Parts<D>,
     session: u32,
     table: u8,
     values: &Values,
-    spare: &mut Option<Insert>,
+    machine: &mut Option<Insert>,
 ) -> Result<(), NoMemory>
     requires open { IsSome (transaction_of parts.old.transactions.opens session) }
     requires table { table < length parts.old.pages.layout.schema.tables }
     requires kinds { HaveKinds (kinds_at parts.old.pages.layout table) values.now }
-    requires spare { IfSome spare.old (IsInsertFor parts.old.pages.layout) }
-    ensures made { OnOk result (IsSomeAnd spare.new (IsInsertFor parts.old.pages.layout)) }
-    ensures nowhere { OnOk result (IfSome spare.new (λ insert. insert.place ≡ None)) }
-    ensures row { OnOk result (IfSome spare.new (λ insert. (insert.row.table ≡ table) × (insert.row.values ≡ values.now))) }
-    ensures id { OnOk result (IfSome spare.new (λ insert. OfOpen parts.old.transactions session (λ o. next_row_of o ≡ Some insert.row.id))) }
+    requires machine { IfSome machine.old (IsInsertFor parts.old.pages.layout) }
+    ensures made { OnOk result (IsSomeAnd machine.new (IsInsertFor parts.old.pages.layout)) }
+    ensures nowhere { OnOk result (IfSome machine.new (λ insert. insert.place ≡ None)) }
+    ensures row { OnOk result (IfSome machine.new (λ insert. (insert.row.table ≡ table) × (insert.row.values ≡ values.now))) }
+    ensures id { OnOk result (IfSome machine.new (λ insert. OfOpen parts.old.transactions session (λ o. next_row_of o ≡ Some insert.row.id))) }
     ensures number { OnOk result (IsSomeAnd (transaction_of parts.old.transactions.opens session) (λ o. o.next_k + 1 < 2 ^ 32)) }
     ensures entries { parts.new.journal.entries ≡ parts.old.journal.entries }
     ensures promised { OnOk result (parts.new.journal.promised ≡ parts.old.journal.promised + 1) }
     ensures same { OnErr result (parts.new.journal.promised ≡ parts.old.journal.promised) }
     ensures rest { parts.new ≡ record parts.old { journal = parts.new.journal } }
-    ensures spare { IfSome spare.new (IsInsertFor parts.old.pages.layout) }
+    ensures machine { IfSome machine.new (IsInsertFor parts.old.pages.layout) }
 {
     let Some(id) = parts.transactions.next_row(session) else {
         return Err(NoMemory);
@@ -47,53 +47,53 @@ pub(crate) fn machine_for<D: Disk + Drop>(
         id,
         values: *values,
     };
-    let Ok(()) = begun(parts.alloc, row, parts.pages.layout(), spare) else {
+    let Ok(()) = begun(parts.alloc, row, parts.pages.layout(), machine) else {
         return Err(NoMemory);
     };
     parts.journal.promise(1)?;
     Ok(())
 }
 
-/// The spare machine begins the row where it is of the row's table, and else a new one takes its place.
+/// The machine begins the row where it is of the row's table, and else a new one takes its place.
 fn begun(
     alloc: Global,
     row: Row,
     layout: &Layout,
-    spare: &mut Option<Insert>,
+    machine: &mut Option<Insert>,
 ) -> Result<(), NoMemory>
     requires table { row.table < length layout.now.schema.tables }
     requires kinds { HaveKinds (kinds_at layout.now row.table) row.values }
-    requires spare { IfSome spare.old (IsInsertFor layout.now) }
-    ensures made { OnOk result (IsSomeAnd spare.new (IsInsertFor layout.now)) }
-    ensures begins { OnOk result (IfSome spare.new (λ insert. (insert.row ≡ row) × (insert.place ≡ None))) }
-    ensures spare { IfSome spare.new (IsInsertFor layout.now) }
+    requires machine { IfSome machine.old (IsInsertFor layout.now) }
+    ensures made { OnOk result (IsSomeAnd machine.new (IsInsertFor layout.now)) }
+    ensures begins { OnOk result (IfSome machine.new (λ insert. (insert.row ≡ row) × (insert.place ≡ None))) }
+    ensures machine { IfSome machine.new (IsInsertFor layout.now) }
 {
-    if let Some(insert) = spare {
+    if let Some(insert) = machine {
         if insert.row().table == row.table {
             insert.begin(row, layout);
             return Ok(());
         }
     }
-    match replaced(alloc, row, layout, spare) {
+    match replaced(alloc, row, layout, machine) {
         Ok(()) => Ok(()),
         Err(refusal) => Err(refusal),
     }
 }
 
-/// A new machine begins the row, in place of the spare one.
+/// A new machine begins the row, in place of the other.
 fn replaced(
     alloc: Global,
     row: Row,
     layout: &Layout,
-    spare: &mut Option<Insert>,
+    machine: &mut Option<Insert>,
 ) -> Result<(), NoMemory>
     requires table { row.table < length layout.now.schema.tables }
     requires kinds { HaveKinds (kinds_at layout.now row.table) row.values }
-    requires spare { IfSome spare.old (IsInsertFor layout.now) }
-    ensures made { OnOk result (IsSomeAnd spare.new (IsInsertFor layout.now)) }
-    ensures begins { OnOk result (IfSome spare.new (λ insert. (insert.row ≡ row) × (insert.place ≡ None))) }
-    ensures spare { IfSome spare.new (IsInsertFor layout.now) }
+    requires machine { IfSome machine.old (IsInsertFor layout.now) }
+    ensures made { OnOk result (IsSomeAnd machine.new (IsInsertFor layout.now)) }
+    ensures begins { OnOk result (IfSome machine.new (λ insert. (insert.row ≡ row) × (insert.place ≡ None))) }
+    ensures machine { IfSome machine.new (IsInsertFor layout.now) }
 {
-    *spare = Some(Insert::new(alloc, row, layout)?);
+    *machine = Some(Insert::new(alloc, row, layout)?);
     Ok(())
 }

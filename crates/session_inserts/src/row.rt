@@ -1,6 +1,6 @@
 //! The first step of an insert.
 
-ghost use Rattle.std.specs.Prelude.{◌≡◌, ◌+◌, ◌^◌, ◌<◌, ◌≤◌, ◌∷◌, ◌++◌, [], None, Some, Ok, Err, length, IfSome, IsSome, IsSomeAnd};
+ghost use Rattle.std.specs.Prelude.{◌≡◌, ◌+◌, ◌^◌, ◌<◌, ◌≤◌, ◌∷◌, ◌++◌, [], None, Some, Ok, length, IfSome, IsSome, IsSomeAnd};
 ghost use Rattle.block_model.specs.declared.request.Request.TheVariants as requests;
 ghost use Rattle.page_store.specs.Survives.{Survives};
 ghost use Rattle.tx_table.specs.Durable.{IsBefore};
@@ -12,9 +12,10 @@ ghost use Rattle.store_layout.specs.declared.limits.TheConstants.{MAX_ENTRIES};
 ghost use Rattle.snapshot_core.specs.StoredVersions.{transaction_of};
 ghost use Rattle.transactions.specs.Sessions.{next_row_of};
 ghost use Rattle.transactions.specs.TransactionsState.{OfOpen, with_failed};
+ghost use Rattle.session_parts.specs.declared.hand.Hand.TheVariants as hands;
 ghost use Rattle.session_inserts.specs.Promised.{unpromised};
 ghost use Rattle.session_inserts.specs.Settling.{SettlesSo};
-ghost use Rattle.session_inserts.specs.SparePut.{OfItsPut};
+ghost use Rattle.session_inserts.specs.SparePut.{OfItsPut, left_behind};
 ghost use Rattle.page_locks.specs.LockHolders.{count_of, holder};
 ghost use Rattle.brin_insert.specs.Inserts.{IsInsertFor};
 ghost use Rattle.session_parts.specs.declared.limits.TheConstants.{LOCKS_A_SESSION, MAX_LOCKS};
@@ -23,81 +24,78 @@ ghost use Rattle.session_parts.specs.Stepping.{IsFit, IsShown};
 use crate::entering::{done, enter_row, refuse};
 use crate::laws::steps_of_an_insert;
 use crate::machines::machine_for;
-use block_model::{Point, Refusal, Reply, Row, Tag, Values};
+use block_model::{Refusal, Reply, Row, Tag, Values};
 use brin_insert::Insert;
 use disk_trait::Disk;
 use page_locks::Did;
 use page_map::MachineFault;
 use session_parts::{
-    Hand, Parts, Step, StoreFault, an_undone_step_changes_nothing, fault_of, one_hand_changes,
-    spent, table_named,
+    Parts, Step, StoreFault, an_undone_step_changes_nothing, fault_of, one_hand_changes, spent,
+    table_named,
 };
 
-/// The first step of an insert: its row is put, and what is left of the insert comes into `left`. Where memory is short for the step, or the
-/// table is full, the put is entered so and the session's transaction fails; `Spent` comes where the journal has no room for the put. The
-/// insert is done with this step where its table has no index; its machine is spare then.
+/// The first step of an insert: its row is put, by the session's machine, which goes on with it where the table has an index. Where memory is
+/// short for the step, or the table is full, the put is entered so and the session's transaction fails; `Spent` comes where the journal has
+/// no room for the put.
 #[tactic(none)]
 pub fn put_row<D: Disk + Drop>(
     parts: &mut Parts<D>,
     session: u32,
     table: u8,
-    values: Values,
-    left: &mut Option<Hand>,
-    spare: &mut Option<Insert>,
+    values: &Values,
+    machine: &mut Option<Insert>,
 ) -> Result<Step, StoreFault>
-    requires fit { IsFit D.told parts.old session (Hand.Puts table values) }
+    requires fit { IsFit D.told parts.old session (hands.Puts table values.now) }
     requires few { count_of parts.old.locks + LOCKS_A_SESSION ≤ MAX_LOCKS }
-    requires shown { IsShown D.told parts.old session (Hand.Puts table values) }
-    requires left { left.old ≡ None }
-    requires spare { IfSome spare.old (IsInsertFor parts.old.pages.layout) }
-    ensures so { SettlesSo D.told parts.old parts.new session (Hand.Puts table values) left.new result }
+    requires shown { IsShown D.told parts.old session (hands.Puts table values.now) }
+    requires machine { IfSome machine.old (IsInsertFor parts.old.pages.layout) }
+    ensures so { SettlesSo D.told parts.old parts.new session (hands.Puts table values.now) (left_behind (hands.Puts table values.now) machine.new result) result }
     // At every moment of the step an image opens to what one did before it, or to the pages as they were.
     ensures survives { Survives D.told (IsBefore parts.old.pages) parts.old.pages parts.new.pages }
-    ensures spare { IfSome spare.new (IsInsertFor parts.old.pages.layout) }
+    ensures machine { IfSome machine.new (IsInsertFor parts.old.pages.layout) }
 {
     steps_of_an_insert();
     one_hand_changes();
     an_undone_step_changes_nothing(parts);
     match parts.pages.ready() {
         Ok(()) => {}
-        Err(error) => return undone(left, table, &values, fault_of(error)),
+        Err(error) => return Err(fault_of(error)),
     }
     if !parts.journal.fits(1) {
-        return undone(left, table, &values, spent(&parts.journal));
+        return Err(spent(&parts.journal));
     }
-    match machine_for(parts, session, table, &values, spare) {
-        Ok(()) => first_step(parts, session, left, spare),
-        Err(_) => lacks_memory(parts, session, table, &values),
+    match machine_for(parts, session, table, values, machine) {
+        Ok(()) => first_step(parts, session, machine),
+        Err(_) => lacks_memory(parts, session, table, values),
     }
 }
 
-/// The spare machine's first step, for which one entry of the journal is promised beside those of the session. It stays spare, but where
-/// the insert goes on.
+/// The machine's first step, for which one entry of the journal is promised beside those of the session.
 #[tactic(none)]
 fn first_step<D: Disk + Drop>(
     parts: &mut Parts<D>,
     session: u32,
-    left: &mut Option<Hand>,
-    spare: &mut Option<Insert>,
+    machine: &mut Option<Insert>,
 ) -> Result<Step, StoreFault>
-    requires made { IsSomeAnd spare.old (IsInsertFor parts.old.pages.layout) }
-    requires nowhere { IfSome spare.old (λ insert. insert.place ≡ None) }
-    requires id { IfSome spare.old (λ insert. OfOpen parts.old.transactions session (λ o. next_row_of o ≡ Some insert.row.id)) }
+    requires made { IsSomeAnd machine.old (IsInsertFor parts.old.pages.layout) }
+    requires nowhere { IfSome machine.old (λ insert. insert.place ≡ None) }
+    requires id { IfSome machine.old (λ insert. OfOpen parts.old.transactions session (λ o. next_row_of o ≡ Some insert.row.id)) }
     requires number { IsSomeAnd (transaction_of parts.old.transactions.opens session) (λ o. o.next_k + 1 < 2 ^ 32) }
     requires promised { 0 < parts.old.journal.promised }
     requires fits { length parts.old.journal.entries < MAX_ENTRIES }
     requires ready { parts.old.pages.failed ≡ None }
-    requires fit { OfItsPut spare.old (λ hand. IsFit D.told (unpromised parts.old) session hand) }
-    requires shown { OfItsPut spare.old (λ hand. IsShown D.told (unpromised parts.old) session hand) }
-    requires left { left.old ≡ None }
-    ensures so { OfItsPut spare.old (λ hand. SettlesSo D.told (unpromised parts.old) parts.new session hand left.new result) }
+    requires fit { OfItsPut machine.old (λ hand. IsFit D.told (unpromised parts.old) session hand) }
+    requires shown { OfItsPut machine.old (λ hand. IsShown D.told (unpromised parts.old) session hand) }
+    ensures so { OfItsPut machine.old (λ hand. SettlesSo D.told (unpromised parts.old) parts.new session hand (left_behind hand machine.new result) result) }
     ensures survives { Survives D.told (IsBefore parts.old.pages) parts.old.pages parts.new.pages }
-    ensures spare { IfSome spare.new (IsInsertFor parts.old.pages.layout) }
+    ensures machine { IfSome machine.new (IsInsertFor parts.old.pages.layout) }
 {
     steps_of_an_insert();
     one_hand_changes();
     an_undone_step_changes_nothing(parts);
-    let Some(insert) = spare else { unreachable!() };
+    let Some(insert) = machine else {
+        unreachable!()
+    };
     match insert.step(
         &mut parts.pages,
         &mut parts.locks,
@@ -106,7 +104,7 @@ fn first_step<D: Disk + Drop>(
     ) {
         Ok(Did::Moved(point)) => {
             enter_row(parts, session, insert.row());
-            goes_on(point, left, spare)
+            Ok(Step::Moved(point))
         }
         Ok(Did::Finished(_)) => {
             enter_row(parts, session, insert.row());
@@ -121,50 +119,10 @@ fn first_step<D: Disk + Drop>(
         Err(MachineFault::Store(error)) => {
             parts.journal.release(1);
             parts.locks.drop_all(session);
-            let row = insert.row();
-            undone(left, row.table, &row.values, fault_of(error))
+            Err(fault_of(error))
         }
         Err(MachineFault::Memory) => unreachable!(),
     }
-}
-
-/// The insert is left before its first step.
-fn undone(
-    left: &mut Option<Hand>,
-    table: u8,
-    values: &Values,
-    fault: StoreFault,
-) -> Result<Step, StoreFault>
-    ensures left { left.new ≡ Some (Hand.Puts table values.now) }
-    ensures fault { result ≡ Err fault }
-{
-    *left = Some(Hand::Puts {
-        table,
-        values: *values,
-    });
-    Err(fault)
-}
-
-/// The insert goes on, with the machine that was spare. Nothing was left before, so that nothing is dropped.
-fn goes_on(
-    point: Point,
-    left: &mut Option<Hand>,
-    spare: &mut Option<Insert>,
-) -> Result<Step, StoreFault>
-    requires spare { IsSome spare.old }
-    requires left { left.old ≡ None }
-    ensures left { IfSome spare.old (λ insert. left.new ≡ Some (Hand.Inserts insert)) }
-    ensures spare { spare.new ≡ None }
-    ensures moved { result ≡ Ok (Step.Moved point) }
-{
-    let Some(insert) = spare.take() else {
-        unreachable!()
-    };
-    match left {
-        None => *left = Some(Hand::Inserts(insert)),
-        Some(_) => unreachable!(),
-    }
-    Ok(Step::Moved(point))
 }
 
 /// Memory is short for the machine: the insert is refused.

@@ -7,17 +7,17 @@ use Rattle.session_inserts.proofs.machines.machine_for.Goals as goal
 pub returns-clause-nowhere : goal.returns-clause-nowhere
 returns-clause-nowhere g c =
     let row : Row = record { table = c.args.table; id = c.in-Some.id; values = c.args.values.now } in
-    begins_nowhere c.begun.new.spare row c.in-Ok.ensures.begins
+    begins_nowhere c.begun.new.machine row c.in-Ok.ensures.begins
 
 pub returns-clause-row : goal.returns-clause-row
 returns-clause-row g c =
     let row : Row = record { table = c.args.table; id = c.in-Some.id; values = c.args.values.now } in
-    begins_row c.begun.new.spare row c.in-Ok.ensures.begins
+    begins_row c.begun.new.machine row c.in-Ok.ensures.begins
 
 pub returns-clause-id : goal.returns-clause-id
 returns-clause-id g c =
     let row : Row = record { table = c.args.table; id = c.in-Some.id; values = c.args.values.now } in
-    begins_id c.begun.new.spare row (transaction_of c.args.parts.now.transactions.opens c.args.session) c.in-Ok.ensures.begins c.in-Some.ensures.id
+    begins_id c.begun.new.machine row (transaction_of c.args.parts.now.transactions.opens c.args.session) c.in-Ok.ensures.begins c.in-Some.ensures.id
 
 pub returns-clause-number : goal.returns-clause-number
 returns-clause-number g c = number_next (transaction_of c.args.parts.now.transactions.opens c.args.session) c.requires.open c.in-Some.id c.in-Some.ensures.id c.in-Some.ensures.room

@@ -1,5 +1,5 @@
-use Rattle.std.proofs.Common.{◌≡◌, ℕ, [], ◌∷◌, ◌++◌, ◌<◌, ◌≤◌, List, length, Option, Some, refl, sym, ap, subst, ◌∙◌, arith}
-use Rattle.std.specs.Prelude.{IfSome, IsSome, IsSomeAnd}
+use Rattle.std.proofs.Common.{◌≡◌, ℕ, [], ◌∷◌, ◌++◌, ◌<◌, ◌≤◌, List, length, Option, Some, Ok, Err, refl, sym, ap, subst, ◌∙◌, arith}
+use Rattle.std.specs.Prelude.{IsSome, IsSomeAnd}
 use Rattle.std.proofs.lemmas.Option.{none-some}
 use Rattle.block_model.specs.declared.place.Spot.{Spot}
 use Rattle.block_model.specs.declared.reply.Refusal.TheVariants as refusals
@@ -24,8 +24,8 @@ use Rattle.brin_insert.specs.InsertLocks.{held_by, stage_of}
 use Rattle.brin_insert.specs.Inserts.{HasStepAt, IsInsertFor, task_at, work_of}
 use Rattle.brin_insert.proofs.OwnLocks.{no_stage}
 use Rattle.page_locks.specs.LockCounts.{locks_of}
+use Rattle.session_parts.specs.declared.faults.Step.TheVariants as steps
 use Rattle.session_parts.specs.declared.faults.StoreFault.{StoreFault}
-use Rattle.session_parts.specs.declared.hand.Hand.{Hand}
 use Rattle.session_parts.specs.declared.hand.Hand.TheVariants as hands
 use Rattle.session_parts.specs.declared.hand.Stepped.TheVariants as stepped
 use Rattle.session_parts.specs.declared.parts.Parts.{Parts}
@@ -33,6 +33,7 @@ use Rattle.session_parts.specs.StepIs.{answer_of}
 use Rattle.session_parts.specs.DamagedPages.{relation_names}
 use Rattle.session_parts.specs.UndoneLaws.{StepsSo}
 use Rattle.session_inserts.specs.Promised.{unpromised}
+use Rattle.session_inserts.specs.SparePut.{left_behind}
 use Rattle.page_store.specs.Survives.{Survives}
 use Rattle.tx_table.specs.Durable.{IsBefore}
 use Rattle.session_inserts.proofs.Beside.{over_beside, under_way}
@@ -51,22 +52,22 @@ unreachable-unreachable g c = c.unreachable.result
 
 pub step-requires-clause-made : goal.step-requires-clause-made
 step-requires-clause-made g c =
-    let w = waits g.D.Disk.told c.args.parts.now c.args.session c.args.spare.now c.in-Some.insert c.in-Some.is c.requires.made c.requires.nowhere c.requires.id c.requires.fit c.requires.shown in
+    let w = waits g.D.Disk.told c.args.parts.now c.args.session c.args.machine.now c.in-Some.insert c.in-Some.is c.requires.made c.requires.nowhere c.requires.id c.requires.fit c.requires.shown in
     w.made
 
 pub step-requires-clause-left : goal.step-requires-clause-left
 step-requires-clause-left g c =
-    let w = waits g.D.Disk.told c.args.parts.now c.args.session c.args.spare.now c.in-Some.insert c.in-Some.is c.requires.made c.requires.nowhere c.requires.id c.requires.fit c.requires.shown in
+    let w = waits g.D.Disk.told c.args.parts.now c.args.session c.args.machine.now c.in-Some.insert c.in-Some.is c.requires.made c.requires.nowhere c.requires.id c.requires.fit c.requires.shown in
     subst (λ (place : Option Spot). HasStepAt place (work_of c.in-Some.insert)) (sym w.nowhere) tt
 
 pub step-requires-clause-locks : goal.step-requires-clause-locks
 step-requires-clause-locks g c =
-    let w = waits g.D.Disk.told c.args.parts.now c.args.session c.args.spare.now c.in-Some.insert c.in-Some.is c.requires.made c.requires.nowhere c.requires.id c.requires.fit c.requires.shown in
+    let w = waits g.D.Disk.told c.args.parts.now c.args.session c.args.machine.now c.in-Some.insert c.in-Some.is c.requires.made c.requires.nowhere c.requires.id c.requires.fit c.requires.shown in
     λ x is. absurd (none-some _ (sym (no_stage c.in-Some.insert w.nowhere) ∙ is))
 
 pub step-requires-clause-kept : goal.step-requires-clause-kept
 step-requires-clause-kept g c =
-    let w = waits g.D.Disk.told c.args.parts.now c.args.session c.args.spare.now c.in-Some.insert c.in-Some.is c.requires.made c.requires.nowhere c.requires.id c.requires.fit c.requires.shown in
+    let w = waits g.D.Disk.told c.args.parts.now c.args.session c.args.machine.now c.in-Some.insert c.in-Some.is c.requires.made c.requires.nowhere c.requires.id c.requires.fit c.requires.shown in
     λ tells. kept_at_row g.D.Disk.told c.args.parts.now c.args.session c.in-Some.insert w.nowhere w.made.table (w.shown tells c.requires.ready)
 
 pub enter_row-requires-clause-promised : goal.enter_row-requires-clause-promised
@@ -81,15 +82,9 @@ enter_row-requires-in-Ok-Finished-clause-promised g c = c.requires.promised
 pub enter_row-requires-in-Ok-Finished-clause-number : goal.enter_row-requires-in-Ok-Finished-clause-number
 enter_row-requires-in-Ok-Finished-clause-number g c = c.requires.number
 
-pub goes_on-requires-clause-spare : goal.goes_on-requires-clause-spare
-goes_on-requires-clause-spare g c = refl
-
-pub goes_on-requires-clause-left : goal.goes_on-requires-clause-left
-goes_on-requires-clause-left g c = c.requires.left
-
 pub unreachable-requires-in-Ok-Blocked : goal.unreachable-requires-in-Ok-Blocked
 unreachable-requires-in-Ok-Blocked g c =
-    let w = waits g.D.Disk.told c.args.parts.now c.args.session c.args.spare.now c.in-Some.insert c.in-Some.is c.requires.made c.requires.nowhere c.requires.id c.requires.fit c.requires.shown in
+    let w = waits g.D.Disk.told c.args.parts.now c.args.session c.args.machine.now c.in-Some.insert c.in-Some.is c.requires.made c.requires.nowhere c.requires.id c.requires.fit c.requires.shown in
     subst (λ (place : Option Spot). WaitsForNoRow place (did.Blocked c.in-Ok-Blocked.field-0-0)) w.nowhere (rw c.in-Ok-Blocked.field-0-is at c.in-Ok-Blocked.ensures.first)
 
 pub unreachable-unreachable-in-Ok-Blocked : goal.unreachable-unreachable-in-Ok-Blocked
@@ -115,14 +110,14 @@ release-requires-in-Err-Store g c = let some = c.requires.promised in omega (ari
 
 pub full_table-requires-clause-table : goal.full_table-requires-clause-table
 full_table-requires-clause-table g c =
-    let w = waits g.D.Disk.told c.args.parts.now c.args.session c.args.spare.now c.in-Some.insert c.in-Some.is c.requires.made c.requires.nowhere c.requires.id c.requires.fit c.requires.shown in
+    let w = waits g.D.Disk.told c.args.parts.now c.args.session c.args.machine.now c.in-Some.insert c.in-Some.is c.requires.made c.requires.nowhere c.requires.id c.requires.fit c.requires.shown in
     subst (λ (l : DiskLayout). c.row-in-Err-Full.result.now.table < length l.schema.tables) (sym c.step.ensures.others.leaves.layout)
     (subst (λ (r : Row). r.table < length c.args.parts.now.pages.layout.schema.tables) (sym (c.row-in-Err-Full.ensures ∙ c.step.ensures.same_row)) w.made.table)
 
 pub full_table-requires-clause-promised : goal.full_table-requires-clause-promised
 full_table-requires-clause-promised g c =
     let parts = c.args.parts.now in
-    let w = waits g.D.Disk.told c.args.parts.now c.args.session c.args.spare.now c.in-Some.insert c.in-Some.is c.requires.made c.requires.nowhere c.requires.id c.requires.fit c.requires.shown in
+    let w = waits g.D.Disk.told c.args.parts.now c.args.session c.args.machine.now c.in-Some.insert c.in-Some.is c.requires.made c.requires.nowhere c.requires.id c.requires.fit c.requires.shown in
     let hand = hands.Puts c.in-Some.insert.row.table c.in-Some.insert.row.values in
     let fits = c.an_undone_step_changes_nothing.ensures.parts (unpromised parts) c.args.session hand w.fit in
     let own = under_way (transaction_of parts.transactions.opens c.args.session) fits.in_hand.0 in
@@ -134,7 +129,7 @@ full_table-requires-clause-promised g c =
 pub full_table-requires-clause-open : goal.full_table-requires-clause-open
 full_table-requires-clause-open g c =
     let parts = c.args.parts.now in
-    let w = waits g.D.Disk.told c.args.parts.now c.args.session c.args.spare.now c.in-Some.insert c.in-Some.is c.requires.made c.requires.nowhere c.requires.id c.requires.fit c.requires.shown in
+    let w = waits g.D.Disk.told c.args.parts.now c.args.session c.args.machine.now c.in-Some.insert c.in-Some.is c.requires.made c.requires.nowhere c.requires.id c.requires.fit c.requires.shown in
     let hand = hands.Puts c.in-Some.insert.row.table c.in-Some.insert.row.values in
     let fits = c.an_undone_step_changes_nothing.ensures.parts (unpromised parts) c.args.session hand w.fit in
     let own = under_way (transaction_of parts.transactions.opens c.args.session) fits.in_hand.0 in
@@ -145,7 +140,7 @@ full_table-requires-clause-open g c =
 pub returns-in-Ok-Moved : goal.returns-in-Ok-Moved
 returns-in-Ok-Moved g c =
     let parts = c.args.parts.now in
-    let w = waits g.D.Disk.told c.args.parts.now c.args.session c.args.spare.now c.in-Some.insert c.in-Some.is c.requires.made c.requires.nowhere c.requires.id c.requires.fit c.requires.shown in
+    let w = waits g.D.Disk.told c.args.parts.now c.args.session c.args.machine.now c.in-Some.insert c.in-Some.is c.requires.made c.requires.nowhere c.requires.id c.requires.fit c.requires.shown in
     let hand = hands.Puts c.in-Some.insert.row.table c.in-Some.insert.row.values in
     let outcome = c.in-Ok-Moved.ensures.outcome in
     let laws = c.an_undone_step_changes_nothing.ensures in
@@ -173,11 +168,11 @@ returns-in-Ok-Moved g c =
       room = let room = c.requires.fits in omega (arith, room);
     })
     c.steps_of_an_insert.ensures.row c.in-Ok-Moved.point (rw c.in-Ok-Moved.field-0-is at c.in-Ok-Moved.ensures.stepped) (rw c.in-Ok-Moved.field-0-is at c.in-Ok-Moved.ensures.left) c.in-Ok-Moved.ensures.placed (c.in-Ok-Moved.ensures.own none))) in
-    let then = put_settles g.D.Disk.told (unpromised parts) later c.args.session c.args.spare.now c.in-Some.insert c.goes_on.new.left c.goes_on.result c.in-Some.is
-    (record { stepped = stepped.Moved c.in-Ok-Moved.point (hands.Inserts after); so = so; left_is = c.goes_on.ensures.left; answer_is = c.goes_on.ensures.moved }) in
+    let then = put_settles g.D.Disk.told (unpromised parts) later c.args.session c.args.machine.now c.in-Some.insert (Some after) (Ok (steps.Moved c.in-Ok-Moved.point)) c.in-Some.is
+    (record { stepped = stepped.Moved c.in-Ok-Moved.point (hands.Inserts after); so = so; left_is = refl; answer_is = refl }) in
     record {
       so = then;
-      spare = subst (λ (o : Option Insert). IfSome o (IsInsertFor parts.pages.layout)) (sym c.goes_on.ensures.spare) tt;
+      machine = c.step.ensures.made;
       survives = subst (λ (q : Parts _). Survives g.D.Disk.told (IsBefore c.args.parts.now.pages) c.args.parts.now.pages q.pages) (sym c.enter_row.ensures.rest) c.step.ensures.survives;
     }
 
@@ -186,7 +181,7 @@ returns-in-Ok-Moved g c =
 pub returns-in-Ok-Finished : goal.returns-in-Ok-Finished
 returns-in-Ok-Finished g c =
     let parts = c.args.parts.now in
-    let w = waits g.D.Disk.told c.args.parts.now c.args.session c.args.spare.now c.in-Some.insert c.in-Some.is c.requires.made c.requires.nowhere c.requires.id c.requires.fit c.requires.shown in
+    let w = waits g.D.Disk.told c.args.parts.now c.args.session c.args.machine.now c.in-Some.insert c.in-Some.is c.requires.made c.requires.nowhere c.requires.id c.requires.fit c.requires.shown in
     let hand = hands.Puts c.in-Some.insert.row.table c.in-Some.insert.row.values in
     let outcome = c.in-Ok-Finished.ensures.outcome in
     let laws = c.an_undone_step_changes_nothing.ensures in
@@ -217,11 +212,11 @@ returns-in-Ok-Finished g c =
     })
     c.steps_of_an_insert.ensures.row c.in-Ok-Finished.field-0-0 (rw c.in-Ok-Finished.field-0-is at c.in-Ok-Finished.ensures.stepped) c.in-Ok-Finished.ensures.placed
     (none_left after (rw c.in-Ok-Finished.field-0-is at c.in-Ok-Finished.ensures.left) c.step.new.locks c.args.session (c.in-Ok-Finished.ensures.own none))))) in
-    let then = put_settles g.D.Disk.told (unpromised parts) later c.args.session c.args.spare.now c.in-Some.insert c.args.left.now c.done.result c.in-Some.is
-    (record { stepped = stepped.Done (replies.Inserted c.row-in-Ok-Finished-2.result.now.id); so = so; left_is = c.requires.left; answer_is = c.done.ensures }) in
+    let then = put_settles g.D.Disk.told (unpromised parts) later c.args.session c.args.machine.now c.in-Some.insert (Some after) c.done.result c.in-Some.is
+    (record { stepped = stepped.Done (replies.Inserted c.row-in-Ok-Finished-2.result.now.id); so = so; left_is = ap (left_behind hand (Some after)) c.done.ensures; answer_is = c.done.ensures }) in
     record {
       so = then;
-      spare = c.step.ensures.made;
+      machine = c.step.ensures.made;
       survives = subst (λ (q : Parts _). Survives g.D.Disk.told (IsBefore c.args.parts.now.pages) c.args.parts.now.pages q.pages) (sym c.enter_row-in-Ok-Finished.ensures.rest) c.step.ensures.survives;
     }
 
@@ -230,7 +225,7 @@ returns-in-Ok-Finished g c =
 pub returns-in-Err-Full : goal.returns-in-Err-Full
 returns-in-Err-Full g c =
     let parts = c.args.parts.now in
-    let w = waits g.D.Disk.told c.args.parts.now c.args.session c.args.spare.now c.in-Some.insert c.in-Some.is c.requires.made c.requires.nowhere c.requires.id c.requires.fit c.requires.shown in
+    let w = waits g.D.Disk.told c.args.parts.now c.args.session c.args.machine.now c.in-Some.insert c.in-Some.is c.requires.made c.requires.nowhere c.requires.id c.requires.fit c.requires.shown in
     let hand = hands.Puts c.in-Some.insert.row.table c.in-Some.insert.row.values in
     let outcome = rw c.in-Err-Full.field-0-is at c.in-Err-Full.ensures.outcome in
     let laws = c.an_undone_step_changes_nothing.ensures in
@@ -268,11 +263,11 @@ returns-in-Err-Full g c =
     refused (subst (λ (l : LockState). GivesAll (holder l) (holder later.locks) c.args.session) same_locks c.full_table.ensures.given) c.in-Err-Full.ensures.kept (outcome.0, outcome.1) refl c.in-Err-Full.number
     (λ tells blocks has. subst (λ (t : Task). IsInsertFull c.args.session c.in-Some.insert.at (shown_by parts.pages.layout parts.pages.pages parts.locks c.in-Some.insert.row.table blocks) t c.in-Err-Full.number) (ap (λ (place : Option Spot). task_at parts.pages.layout c.in-Some.insert place) w.nowhere) (says.1 tells blocks has))
     reply refl)) in
-    let then = put_settles g.D.Disk.told (unpromised parts) later c.args.session c.args.spare.now c.in-Some.insert c.args.left.now c.full_table.result c.in-Some.is
-    (record { stepped = stepped.Done reply; so = so; left_is = c.requires.left; answer_is = answer_is }) in
+    let then = put_settles g.D.Disk.told (unpromised parts) later c.args.session c.args.machine.now c.in-Some.insert (Some c.step.new.self) c.full_table.result c.in-Some.is
+    (record { stepped = stepped.Done reply; so = so; left_is = ap (left_behind hand (Some c.step.new.self)) answer_is; answer_is = answer_is }) in
     record {
       so = then;
-      spare = c.step.ensures.made;
+      machine = c.step.ensures.made;
       survives = subst (λ (q : Parts _). Survives g.D.Disk.told (IsBefore c.args.parts.now.pages) c.args.parts.now.pages q.pages) (sym c.full_table.ensures.rest) c.step.ensures.survives;
     }
 
@@ -281,11 +276,10 @@ returns-in-Err-Full g c =
 pub returns-in-Err-Store : goal.returns-in-Err-Store
 returns-in-Err-Store g c =
     let parts = c.args.parts.now in
-    let w = waits g.D.Disk.told c.args.parts.now c.args.session c.args.spare.now c.in-Some.insert c.in-Some.is c.requires.made c.requires.nowhere c.requires.id c.requires.fit c.requires.shown in
+    let w = waits g.D.Disk.told c.args.parts.now c.args.session c.args.machine.now c.in-Some.insert c.in-Some.is c.requires.made c.requires.nowhere c.requires.id c.requires.fit c.requires.shown in
     let hand = hands.Puts c.in-Some.insert.row.table c.in-Some.insert.row.values in
     let laws = c.an_undone_step_changes_nothing.ensures in
     let fits = laws.parts (unpromised parts) c.args.session hand w.fit in
-    let hand_is : hands.Puts c.row-row.result.now.table c.row-row.result.now.values ≡ hand = ap (λ (r : Row). hands.Puts r.table r.values) (c.row-row.ensures ∙ c.step.ensures.same_row) in
     let undone : LeftUndone g.D.Disk.told (unpromised parts) c.step.new.pages c.drop_all.new.self c.release-in-Err-Store.new.self c.args.session hand hand = record {
       fits = fits;
       in_hand = fits.in_hand;
@@ -307,6 +301,6 @@ returns-in-Err-Store g c =
     (subst (λ (f : StoreFault). StepsSo g.D.Disk.told (unpromised parts) beside c.args.session hand (stepped.Undone f hand)) (sym c.fault_of.ensures)
     (undone_so g.D.Disk.told c.one_hand_changes.ensures laws.stores (unpromised parts) c.step.new.pages c.drop_all.new.self c.release-in-Err-Store.new.self c.args.session hand hand undone c.in-Err-Store.error
     (rw c.in-Err-Store.field-0-is at c.in-Err-Store.ensures.outcome) (relation_names parts.pages.layout (relation_at parts.pages.layout c.in-Some.insert) c.in-Err-Store.error (rw c.in-Err-Store.field-0-is at c.in-Err-Store.ensures.at)))) in
-    let then = put_settles g.D.Disk.told (unpromised parts) new c.args.session c.args.spare.now c.in-Some.insert c.undone.new.left c.undone.result c.in-Some.is
-    (record { stepped = stepped.Undone c.fault_of.result hand; so = so; left_is = c.undone.ensures.left ∙ ap (λ (h : Hand). Some h) hand_is; answer_is = c.undone.ensures.fault }) in
-    record { so = then; spare = c.step.ensures.made; survives = c.step.ensures.survives }
+    let then = put_settles g.D.Disk.told (unpromised parts) new c.args.session c.args.machine.now c.in-Some.insert (Some c.step.new.self) (Err c.fault_of.result) c.in-Some.is
+    (record { stepped = stepped.Undone c.fault_of.result hand; so = so; left_is = refl; answer_is = refl }) in
+    record { so = then; machine = c.step.ensures.made; survives = c.step.ensures.survives }

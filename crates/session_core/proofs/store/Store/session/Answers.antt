@@ -2,7 +2,7 @@ use Rattle.std.proofs.Common.{◌≡◌, ◌<◌, ◌≤◌, length, refl, ap, �
 use Rattle.std.proofs.lemmas.List.{length-map}
 use Rattle.session_parts.specs.StoreStates.{StoreState, store_of}
 use Rattle.session_core.specs.declared.sessions.Session.{Session}
-use Rattle.session_core.specs.SessionLists.{hands_of, names_of, spares_of}
+use Rattle.session_core.specs.SessionLists.{hands_of, names_of, slots_of}
 use Rattle.session_core.specs.Sessions.{with_name}
 use Rattle.session_core.proofs.Kept.{kept_as}
 use Rattle.session_core.proofs.Naming.{has_session, kept_named, leads_named, made_new, number_named, past_sessions, there_already}
@@ -20,9 +20,9 @@ pub invariant_of-self : goal.invariant_of-self
 invariant_of-self g c =
     let items = c.self.inside.sessions.items in
     let few : length (names_of items) < 64 = omega (arith, c.if-number-len.true, c.len.ensures, c.if-number-ge-MAX_SESSIONS.false, c.self.inside.sessions.ok, length-map items (λ (s : Session). s.name)) in
-    kept_as g.D.Disk.told c.self.inside.parts _ (names_of c.add_session.new.sessions.items) _ (hands_of c.add_session.new.sessions.items) _ (spares_of c.add_session.new.sessions.items)
-    c.in-Ok.ensures.names c.in-Ok.ensures.hands c.in-Ok.ensures.spares
-    (kept_named g.D.Disk.told c.laws_of_sessions.ensures c.self.inside.parts (names_of items) (hands_of items) (spares_of items) c.args.name few c.self.invariant)
+    kept_as g.D.Disk.told c.self.inside.parts _ (names_of c.add_session.new.sessions.items) _ (hands_of c.add_session.new.sessions.items) _ (slots_of c.add_session.new.sessions.items)
+    c.in-Ok.ensures.names c.in-Ok.ensures.hands c.in-Ok.ensures.slots
+    (kept_named g.D.Disk.told c.laws_of_sessions.ensures c.self.inside.parts (names_of items) (hands_of items) (slots_of items) c.args.name few c.self.invariant)
 
 pub returns : goal.returns
 returns g c =

@@ -5,7 +5,7 @@ use Rattle.session_parts.specs.StoreStates.{store_of}
 use Rattle.session_starts.specs.OpenedParts.{ShowsStart}
 use Rattle.session_starts.specs.Started.{OpensTable}
 use Rattle.session_core.specs.declared.sessions.Session.{Session}
-use Rattle.session_core.specs.SessionLists.{hands_of, names_of, spares_of}
+use Rattle.session_core.specs.SessionLists.{hands_of, names_of, slots_of}
 use Rattle.session_core.specs.StoreKept.{IsStoreKept}
 use Rattle.session_core.proofs.New.{kept_new}
 use Rattle.session_core.proofs.store.Store.start.Goals as goal
@@ -14,7 +14,7 @@ pub invariant_of-result : goal.invariant_of-result
 invariant_of-result g c =
     let parts = c.in_ok-parts.parts in
     let new = c.in_ok-parts.ensures in
-    subst (λ (sessions : List Session). IsStoreKept g.D.Disk.told (store_of parts (names_of sessions) (hands_of sessions)) (spares_of sessions)) (sym c.new-sessions.ensures.items)
+    subst (λ (sessions : List Session). IsStoreKept g.D.Disk.told (store_of parts (names_of sessions) (hands_of sessions)) (slots_of sessions)) (sym c.new-sessions.ensures.items)
     (kept_new g.D.Disk.told parts new.opened new.fits (λ tells.
     let before = sym new.tells ∙ tells in
     let image = c.requires.image before parts.pages.layout parts.pages.pages (new.pages before) in
